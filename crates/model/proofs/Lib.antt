@@ -1,0 +1,4 @@
+pub mod Lists
+pub mod Runs
+pub mod Choose
+pub mod Candidates
