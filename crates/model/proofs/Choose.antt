@@ -1,21 +1,21 @@
 -- The choice of pieces against the paper's words, in units of any size. Assumes nothing.
 use mathlib.Core.Path.{_≡_, refl, sym, ap, _∙_, subst}
-use mathlib.Core.Bool.{Bool, true, false, cond}
+use mathlib.Core.Bool.{Bool, true, false}
 use mathlib.Core.Option.{Option, none, some}
 use mathlib.Core.List.{List, [], _∷_, _++_, append-assoc, List·Memᴰ, List·Memᴰ·head, List·Memᴰ·tail, List·Memᴰ·not-nil, List·Memᴰ·cases-cons}
 use mathlib.Core.Logic.{_⊎_, inl, inr, ⊎-elim}
-use Prim.Native.Nat.{ℕ, zero, suc, _+_, _-_, _≤_, _<_}
-use native.Mathlib.Nat.{le-refl, le-trans, lt-of-not-le}
+use Prim.Native.Nat.{ℕ, _+_, _-_, _≤_, _<_}
+use native.Mathlib.Nat.{le-refl, lt-of-not-le}
 use native.Mathlib.Decide.{decLe}
 use native.Mathlib.Omega.{arith}
 use lib.ListN.{length, take, drop, length-append, length-take, take-append-drop}
 use lib.Dec.{T, leb, leb→le}
 use borrow.Author.Tests.{leb-true, leb-false, le-leb, lt-leb}
-use Rattle.model.specs.Basics.{filter, keepIf, sumOf, mapOption, bit}
-use Rattle.model.specs.Model.{Run, run, covers, times, total}
-use Rattle.model.specs.Choice.{before, insertRun, longestFirst, shorter, shortest, serving, firstPart, gather, oneOrFive, choose}
-use Rattle.model.proofs.Lists.{by, All, All-map, All-filter, All-append, All-left, All-take, sum-append, sum-zero, zero-sum, some-is, true-is}
-use Rattle.model.proofs.Runs.{hit-in, hit-below, hit-above, hit-le}
+use Rattle.model.specs.Basics.{all, bit, filter, keepIf, mapOption, sumOf}
+use Rattle.model.specs.Choice.{choose, firstPart, gather, insertRun, longestFirst, oneOrFive, serving, shorter, shortest}
+use Rattle.model.specs.Model.{Run, covers, times, total}
+use Rattle.model.proofs.Lists.{All, All-append, All-filter, All-left, All-map, by, some-is, sum-append, sum-zero, true-is, zero-sum}
+use Rattle.model.proofs.Runs.{hit-le}
 
 -- ---- longest first: the same candidates, sorted
 

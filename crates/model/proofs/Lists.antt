@@ -1,15 +1,15 @@
 -- Tests and lists: laws that know nothing of volumes. Assumes nothing.
-use mathlib.Core.Path.{_≡_, refl, sym, ap, _∙_, subst}
-use mathlib.Core.Bool.{Bool, true, false, not, _&&_, _||_}
-use mathlib.Core.Option.{Option, none, some}
-use mathlib.Core.List.{List, [], _∷_, _++_, map}
-use Prim.Native.Nat.{ℕ, zero, suc, _+_, _-_, _≤_, _<_, _*_}
-use native.Mathlib.Nat.{le-refl, zero-add, add-assoc}
+use mathlib.Core.Path.{_≡_, refl, sym, _∙_, subst}
+use mathlib.Core.Bool.{Bool, true, false, not, _&&_}
+use mathlib.Core.Option.{Option, some}
+use mathlib.Core.List.{List, [], _∷_, _++_}
+use Prim.Native.Nat.{ℕ, zero, suc, _+_, _≤_, _<_}
+use native.Mathlib.Nat.{le-refl}
 use native.Mathlib.Omega.{arith}
 use native.Mathlib.Decide.{ℕ-discrete}
-use lib.Dec.{T, leb, ltb, eqb, eqb→eq, eqb-refl, ltb→lt, leb→le, lt→ltb, le→leb}
-use lib.ListN.{length, take, drop}
-use Rattle.model.specs.Basics.{all, any, filter, keepIf, find, orElse, sumOf, flat, upFrom, bit, same}
+use lib.Dec.{T, eqb, eqb→eq, eqb-refl}
+use lib.ListN.{take, drop}
+use Rattle.model.specs.Basics.{all, filter, find, flat, keepIf, same, sumOf, upFrom}
 
 -- ---- tests
 

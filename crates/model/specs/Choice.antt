@@ -1,13 +1,13 @@
 -- Granting tracks or cylinders: candidates and the choice of pieces, in units of u tracks, for any u. Tracks are
 -- unit 1, cylinders unit H. Assumes nothing.
-use Prim.Native.Nat.{ℕ, zero, suc, _+_, _-_, _*_, _/_}
+use Prim.Native.Nat.{ℕ, _+_, _-_, _*_, _/_}
 use mathlib.Core.Bool.{Bool, true, false, cond}
 use mathlib.Core.Option.{Option, none, some}
 use mathlib.Core.List.{List, [], _∷_, map}
 use lib.ListN.{take}
 use lib.Dec.{leb}
 use Rattle.model.specs.Basics.{filter, mapOption}
-use Rattle.model.specs.Model.{Run, run, Extent, extent}
+use Rattle.model.specs.Model.{Extent, Run, extent, run}
 
 -- "the whole cylinders inside each": the whole units inside a run, counted in units; count 0 where there are none
 abbrev pub wholeIn : ℕ → Run → Run

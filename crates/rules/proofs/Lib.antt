@@ -1,0 +1,14 @@
+pub mod Labels
+pub mod Valid
+pub mod Test
+pub mod Keyed
+pub mod Bytes
+pub mod Fields
+pub mod Settle
+pub mod Placed
+pub mod Grant
+pub mod Cut
+pub mod Answer
+pub mod Kept
+pub mod Changes
+pub mod Grants

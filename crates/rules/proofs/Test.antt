@@ -1,0 +1,173 @@
+-- The computed test `valid` and the conditions of `Valid` say the same. Assumes nothing.
+use mathlib.Core.Path.{_≡_, refl, ap}
+use mathlib.Core.Bool.{true, not, cond}
+use mathlib.Core.List.{List, [], _∷_}
+use Prim.Native.Nat.{ℕ, _+_, _≤_, _<_}
+use native.Mathlib.Nat.{lt-of-not-le}
+use native.Mathlib.Omega.{arith}
+use native.Mathlib.Decide.{decLe}
+use lib.ListN.{length}
+use lib.Dec.{T, leb, ltb, eqb, leb→le, le→leb, ltb→lt, lt→ltb, eqb→eq}
+use borrow.Author.Tests.{eq-eqb, ne-eqb, le-leb, lt-leb, leb-false, leb-true}
+use Rattle.model.specs.Basics.{all, any, bit, upFrom}
+use Rattle.model.specs.Model.{Extent, Geometry, Label, Volume, fivesFor, free, held, slots, tally, times, tracks, used}
+use Rattle.model.proofs.Lists.{All, All-map, All-range, all→, and-l, and-r, both, by, false-is, is-false, is-true, range-All, →all}
+use Rattle.rules.specs.Layout.{headOr0}
+use Rattle.rules.specs.Table.{ascending, differ, goodExtent, goodLabel, goodName, goodType, goodUnit, limits, named, valid}
+use Rattle.rules.proofs.Keyed.{self-count}
+use Rattle.rules.proofs.Labels.{Ascending, Differ, any-unlike, unlike-any}
+use Rattle.rules.proofs.Valid.{GoodExtent, GoodLabel, Valid}
+
+-- ---- a label
+
+extent→ : (g : Geometry) (e : Extent) → T (goodExtent g e) → GoodExtent g e
+extent→ g e t =
+    let a : T (goodType (g .heads) (e .typeByte) (e .over)) = search (and-l, and-r) in
+    let b : T (leb 1 (e .over .count)) = search (and-l, and-r) in
+    let c : T (leb (e .over .start + e .over .count) (tracks g)) = search (and-l, and-r) in
+    record { typed = a; full = leb→le 1 _ b; ends = leb→le _ _ c }
+
+→extent : (g : Geometry) (e : Extent) → GoodExtent g e → T (goodExtent g e)
+→extent g e x =
+    let a : goodType (g .heads) (e .typeByte) (e .over) ≡ true = is-true (x .typed) in
+    rw (a, le-leb 1 (e .over .count) (x .full), le-leb (e .over .start + e .over .count) (tracks g) (x .ends)) tt
+
+label→ : (g : Geometry) (l : Label) → T (goodLabel g l) → GoodLabel g l
+unfolding goodLabel
+label→ g l t =
+    let a : T (leb 1 (l .slot)) = search (and-l, and-r) depth 12 in
+    let b : T (eqb (length (l .name)) 44) = search (and-l, and-r) depth 12 in
+    let c : T (goodName (l .name)) = search (and-l, and-r) depth 12 in
+    let d : T (eqb (length (l .attributes)) 52) = search (and-l, and-r) depth 12 in
+    let f : T (goodUnit (l .unit) (l .secondary)) = search (and-l, and-r) depth 12 in
+    let k : T (leb 1 (length (l .extents))) = search (and-l, and-r) depth 12 in
+    let m : T (leb (length (l .extents)) 16) = search (and-l, and-r) depth 12 in
+    let n : T (all (goodExtent g) (l .extents)) = search (and-l, and-r) depth 12 in
+    let o : T (cond (leb (length (l .extents)) 3) (eqb (l .slot3) 0) (leb 1 (l .slot3))) = search (and-l, and-r) depth 12 in
+    record {
+      slot = leb→le 1 _ a;
+      nameLength = eqb→eq _ 44 b;
+      name = c;
+      attributesLength = eqb→eq _ 52 d;
+      unit = f;
+      least = leb→le 1 _ k;
+      most = leb→le _ 16 m;
+      extents = All-map (λ e. T (goodExtent g e)) (GoodExtent g) (extent→ g) (l .extents) (all→ (goodExtent g) (l .extents) n);
+      few = λ u. eqb→eq _ 0 (rw (le-leb _ _ u) at o);
+      many = λ u. leb→le 1 _ (rw (lt-leb _ _ u) at o);
+    }
+
+→label : (g : Geometry) (l : Label) → GoodLabel g l → T (goodLabel g l)
+unfolding goodLabel
+→label g l x =
+    let a : leb 1 (l .slot) ≡ true = le-leb _ _ (x .slot) in
+    let b : eqb (length (l .name)) 44 ≡ true = eq-eqb _ _ (x .nameLength) in
+    let c : goodName (l .name) ≡ true = is-true (x .name) in
+    let d : eqb (length (l .attributes)) 52 ≡ true = eq-eqb _ _ (x .attributesLength) in
+    let f : goodUnit (l .unit) (l .secondary) ≡ true = is-true (x .unit) in
+    let k : leb 1 (length (l .extents)) ≡ true = le-leb _ _ (x .least) in
+    let m : leb (length (l .extents)) 16 ≡ true = le-leb _ _ (x .most) in
+    let n : all (goodExtent g) (l .extents) ≡ true
+    = is-true (→all (goodExtent g) (l .extents) (All-map (GoodExtent g) (λ e. T (goodExtent g e)) (→extent g) (l .extents) (x .extents))) in
+    let o : cond (leb (length (l .extents)) 3) (eqb (l .slot3) 0) (leb 1 (l .slot3)) ≡ true = third-test in
+    rw (a, b, c, d, f, k, m, n, o) tt
+  where
+    third-test : cond (leb (length (l .extents)) 3) (eqb (l .slot3) 0) (leb 1 (l .slot3)) ≡ true
+    third-test =
+        by (leb (length (l .extents)) 3)
+        (λ u. rw u (eq-eqb _ _ (x .few (leb-true _ _ u))))
+        (λ u. rw u (le-leb _ _ (x .many (leb-false _ _ u))))
+
+-- ---- the lists
+
+ascending→ : (ls : List Label) → T (ascending ls) → Ascending ls
+ascending→ [] t = tt
+ascending→ (l ∷ ls) t = (
+  All-map (λ m. T (ltb (l .slot) (m .slot))) (λ m. l .slot < m .slot) (λ m x. ltb→lt _ _ x) ls (all→ (λ m. ltb (l .slot) (m .slot)) ls (and-l (all (λ m. ltb (l .slot) (m .slot)) ls) (ascending ls) t)),
+  ascending→ ls (and-r (all (λ m. ltb (l .slot) (m .slot)) ls) (ascending ls) t),
+)
+
+→ascending : (ls : List Label) → Ascending ls → T (ascending ls)
+→ascending [] a = tt
+→ascending (l ∷ ls) a =
+    both (all (λ m. ltb (l .slot) (m .slot)) ls) (ascending ls)
+    (→all (λ m. ltb (l .slot) (m .slot)) ls (All-map (λ m. l .slot < m .slot) (λ m. T (ltb (l .slot) (m .slot))) (λ m x. lt→ltb _ _ x) ls (a .0)))
+    (→ascending ls (a .1))
+
+differ→ : (ls : List Label) → T (differ ls) → Differ ls
+differ→ [] t = tt
+differ→ (l ∷ ls) t = (
+  unlike-any (l .name) ls (is-false (and-l (not (any (named (l .name)) ls)) (differ ls) t)),
+  differ→ ls (and-r (not (any (named (l .name)) ls)) (differ ls) t),
+)
+
+→differ : (ls : List Label) → Differ ls → T (differ ls)
+→differ [] d = tt
+→differ (l ∷ ls) d = both (not (any (named (l .name)) ls)) (differ ls) (false-is (any-unlike (l .name) ls (d .0))) (→differ ls (d .1))
+
+-- slots below n: by members, and by counting
+in→ : (n : ℕ) (us : List ℕ) → All (λ k. k < n) us → (k : ℕ) → n ≤ k → tally k us ≡ 0
+in→ n [] a k h = refl
+in→ n (u ∷ us) a k h =
+    let i = in→ n us (a .1) k h in
+    let w = a .0 in
+    let b = ap bit (ne-eqb u k (omega arith)) in
+    omega arith
+
+→in : (n : ℕ) (us : List ℕ) → ((k : ℕ) → n ≤ k → tally k us ≡ 0) → All (λ k. k < n) us
+→in n us h =
+    All-map (λ k. 1 ≤ tally k us) (λ k. k < n)
+    (λ k x. elim (decLe n k) [ yes j ↦ absurd (omega (arith, h k j)) | no j ↦ lt-of-not-le j ])
+    us (self-count (λ (k : ℕ). k) us)
+
+-- ---- the whole
+
+pub test→ : (v : Volume) → T (valid v) → Valid v
+unfolding valid
+test→ v t =
+    let g = v .geometry in
+    let ls = v .labels in
+    let us = used ls (v .chain) in
+    let hs = held g ls in
+    let a : T (limits g) = search (and-l, and-r) depth 12 in
+    let b : T (eqb (headOr0 (v .chain)) 1) = search (and-l, and-r) depth 12 in
+    let c : T (eqb (length (v .chain)) (fivesFor (length (free g ls)))) = search (and-l, and-r) depth 12 in
+    let d : T (all (λ k. leb (tally k us) 1) (upFrom 0 (slots g))) = search (and-l, and-r) depth 12 in
+    let e : T (all (λ k. ltb k (slots g)) us) = search (and-l, and-r) depth 12 in
+    let f : T (ascending ls) = search (and-l, and-r) depth 12 in
+    let i : T (all (goodLabel g) ls) = search (and-l, and-r) depth 12 in
+    let j : T (differ ls) = search (and-l, and-r) depth 12 in
+    let k : T (all (λ t. leb (times t hs) 1) (upFrom 0 (tracks g))) = search (and-l, and-r) depth 12 in
+    let inside = in→ (slots g) us (All-map (λ k. T (ltb k (slots g))) (λ k. k < slots g) (λ k x. ltb→lt k (slots g) x) us (all→ (λ k. ltb k (slots g)) us e)) in
+    record {
+      limit = a;
+      head = eqb→eq _ 1 b;
+      long = eqb→eq _ _ c;
+      slotOnce = λ k. elim (decLe (slots g) k) [ yes u ↦ (let z = inside k u in omega arith) | no u ↦ leb→le (tally k us) 1 (All-range (λ k. T (leb (tally k us) 1)) 0 (slots g) (all→ (λ k. leb (tally k us) 1) (upFrom 0 (slots g)) d) k (omega arith) (let u′ = lt-of-not-le u in omega arith)) ];
+      slotIn = inside;
+      ascending = ascending→ ls f;
+      good = All-map (λ l. T (goodLabel g l)) (GoodLabel g) (label→ g) ls (all→ (goodLabel g) ls i);
+      differ = differ→ ls j;
+      once = λ t u. leb→le (times t hs) 1 (All-range (λ t. T (leb (times t hs) 1)) 0 (tracks g) (all→ (λ t. leb (times t hs) 1) (upFrom 0 (tracks g)) k) t (omega arith) (omega arith));
+    }
+
+pub →test : (v : Volume) → Valid v → T (valid v)
+unfolding valid
+→test v x =
+    let g = v .geometry in
+    let ls = v .labels in
+    let us = used ls (v .chain) in
+    let hs = held g ls in
+    let a : limits g ≡ true = is-true (x .limit) in
+    let b : eqb (headOr0 (v .chain)) 1 ≡ true = eq-eqb _ _ (x .head) in
+    let c : eqb (length (v .chain)) (fivesFor (length (free g ls))) ≡ true = eq-eqb _ _ (x .long) in
+    let d : all (λ k. leb (tally k us) 1) (upFrom 0 (slots g)) ≡ true
+    = is-true (→all (λ k. leb (tally k us) 1) (upFrom 0 (slots g)) (range-All (λ k. T (leb (tally k us) 1)) 0 (slots g) (λ k u w. le→leb (tally k us) 1 (x .slotOnce k)))) in
+    let e : all (λ k. ltb k (slots g)) us ≡ true
+    = is-true (→all (λ k. ltb k (slots g)) us (All-map (λ k. k < slots g) (λ k. T (ltb k (slots g))) (λ k y. lt→ltb k (slots g) y) us (→in (slots g) us (x .slotIn)))) in
+    let f : ascending ls ≡ true = is-true (→ascending ls (x .ascending)) in
+    let i : all (goodLabel g) ls ≡ true = is-true (→all (goodLabel g) ls (All-map (GoodLabel g) (λ l. T (goodLabel g l)) (→label g) ls (x .good))) in
+    let j : differ ls ≡ true = is-true (→differ ls (x .differ)) in
+    let k : all (λ t. leb (times t hs) 1) (upFrom 0 (tracks g)) ≡ true
+    = is-true (→all (λ t. leb (times t hs) 1) (upFrom 0 (tracks g)) (range-All (λ t. T (leb (times t hs) 1)) 0 (tracks g) (λ t u w. le→leb (times t hs) 1 (x .once t (omega arith))))) in
+    rw (a, b, c, d, e, f, i, j, k) tt

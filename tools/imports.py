@@ -1,0 +1,124 @@
+#!/usr/bin/env python3
+"""imports.py CRATE [FILE..]: rewrite the `use` lines of a crate's .antt files (default: all of specs/ and proofs/*.antt).
+
+Names of our own crates are found by an index of what each module exports; of a library's `use` line only the names that
+the file still mentions are kept. A name that the file defines itself is not imported. Run it in the repository's root.
+"""
+import glob, os, re, sys
+
+WORD = re.compile(r"[^\s(){},;]+")
+
+
+def strip_comments(text):
+    return re.sub(r"--[^\n]*", "", text)
+
+
+def exports(path):
+    """The names that a module makes public: definitions, records, data types and their constructors."""
+    names, block = [], ""
+    for line in strip_comments(open(path).read()).split("\n"):
+        m = re.match(r"(\s*)(?:(?:abbrev|unfoldable) +)?pub (?:(record|data|mod) +)?(\S+)", line)
+        if line and not line[0].isspace():
+            block = (re.match(r"pub (record|data) ", line) or [0, "other"])[1]
+        if m and m.group(2) != "mod" and not (m.group(1) and block == "record"):
+            names.append(m.group(3))
+        elif block == "data" and line[:1].isspace():
+            m = re.match(r"\s+([^:]+) :", line)
+            if m:
+                names += m.group(1).split()
+    return names
+
+
+def declared(path):
+    """The names that a file defines, fields of records left out."""
+    names, block = set(), ""
+    for line in strip_comments(open(path).read()).split("\n"):
+        if line and not line[0].isspace():
+            block = "record" if re.match(r"(pub )?record ", line) else "other"
+        m = re.match(r"(\s*)(?:(?:abbrev|unfoldable) +)?(?:pub +)?(?:(?:record|data) +)?(\S+)(?: \{[^}]*\})?(?: \([^)]*\))* : ", line)
+        if m and not (m.group(1) and block == "record"):
+            names.add(m.group(2))
+    return names
+
+
+def words(body):
+    body = strip_comments(body)
+    body = re.sub(r"[^\s(){},;]*Rattle·\S+", " ", body)
+    body = re.sub(r"([{;]\s*)[^\s(){},;]+ =", r"\1", body)  # the fields of a record that is made
+    out = set()
+    for w in WORD.findall(body):
+        if w.startswith("."):
+            continue
+        out.add(w.rstrip("."))
+    return out
+
+
+def index():
+    where = {}
+    for path in sorted(glob.glob("crates/*/specs/*.antt") + glob.glob("crates/*/proofs/*.antt")):
+        _, crate, kind, file = path.split("/")
+        if file == "Lib.antt":
+            continue
+        for name in exports(path):
+            where.setdefault(name, []).append((crate, kind, file[:-5]))
+    return where
+
+
+def main():
+    crate, files = sys.argv[1], sys.argv[2:]
+    if not files:
+        files = sorted(glob.glob(f"crates/{crate}/specs/*.antt") + glob.glob(f"crates/{crate}/proofs/*.antt") + glob.glob(f"crates/{crate}/proofs/*/Proof.antt"))
+    deps = {crate}
+    lines = dict(l.split(":", 1) for l in open("crates.txt").read().split("\n") if l and not l.startswith("#"))
+    todo = [crate]
+    while todo:
+        for d in lines.get(todo.pop(), "").split():
+            if d not in deps:
+                deps.add(d); todo.append(d)
+    order = [c for c in lines if c in deps]
+    where = index()
+    for path in files:
+        if os.path.basename(path) == "Lib.antt":
+            continue
+        text = open(path).read()
+        uses = re.findall(r"^use [^\n]*\n", text, re.M)
+        body = re.sub(r"^use [^\n]*\n", "", text, flags=re.M)
+        used, own = words(body), declared(path)
+        kept, pick = [], {}
+        for u in uses:
+            m = re.match(r"use (\S+?)\.\{(.*)\}", u)
+            if not m or ("Rattle·" in m.group(1) and "·tie" not in m.group(1) and ".declared" not in m.group(1)):
+                if m:
+                    mod = re.match(r"Rattle·([a-z0-9_]+)(?:·\w+)?\.(specs|proofs)\.(\w+)", m.group(1))
+                    for n in m.group(2).split(", "):
+                        if " as " in n and mod:
+                            pick.setdefault((mod.group(1), mod.group(2), mod.group(3)), set()).add(n)
+                continue
+            names = [n for n in m.group(2).split(", ") if n in used or n.strip("_") in used or " as " in n]
+            if names:
+                kept.append(f"use {m.group(1)}.{{{', '.join(names)}}}\n")
+        libs = set(n for k in kept for n in re.search(r"\{(.*)\}", k).group(1).split(", "))
+        aliased = set(n.split(" as ")[1] for ns in pick.values() for n in ns)
+        for name in used:
+            if name in own or name in libs or name in aliased or name not in where:
+                continue
+            here = [w for w in where[name] if w[0] in deps and not (path.split("/")[2] == "specs" and w[1] == "proofs")]
+            here = [w for w in here if f"crates/{w[0]}/{w[1]}/{w[2]}.antt" != path]
+            if not here:
+                continue
+            if len(here) > 1:
+                old = [w for w in here if any(f"{w[1]}.{w[2]}." in u and name in re.split(r"[{}, ]", u) for u in uses)]
+                if old:
+                    here = old
+                else:
+                    print(f"{path}: {name} stands in {here}")
+            pick.setdefault(here[0], set()).add(name)
+        ours = []
+        for c, kind, mod in sorted(pick, key=lambda w: (order.index(w[0]), w[1] != "specs", w[2])):
+            prefix = f"Rattle.{c}.{kind}" if c == crate else f"Rattle.{c}.{kind}"
+            ours.append(f"use {prefix}.{mod}.{{{', '.join(sorted(pick[(c, kind, mod)]))}}}\n")
+        head = re.match(r"(?:--[^\n]*\n)*", body).group(0)
+        open(path, "w").write(head + "".join(kept) + "".join(ours) + body[len(head):])
+
+
+main()
