@@ -1,5 +1,5 @@
 -- Tests and lists: laws that know nothing of volumes. Assumes nothing.
-use mathlib.Core.Path.{_≡_, refl, sym, _∙_, subst}
+use mathlib.Core.Path.{_≡_, refl, sym, _∙_, subst, ap}
 use mathlib.Core.Bool.{Bool, true, false, not, _&&_}
 use mathlib.Core.Option.{Option, some}
 use mathlib.Core.List.{List, [], _∷_, _++_}
@@ -8,7 +8,7 @@ use native.Mathlib.Nat.{le-refl}
 use native.Mathlib.Omega.{arith}
 use native.Mathlib.Decide.{ℕ-discrete}
 use lib.Dec.{T, eqb, eqb→eq, eqb-refl}
-use lib.ListN.{take, drop}
+use lib.ListN.{length, take, drop, getD}
 use Rattle.model.specs.Basics.{all, filter, find, flat, keepIf, same, sumOf, upFrom}
 
 -- ---- tests
@@ -177,3 +177,12 @@ find-All P p (y ∷ ys) x t e = by (p y) (λ h. subst P (some-is y x (rw h at e)
 pub filter-pass : {A : Type 0} (p : A → Bool) (xs : List A) → All (λ x. T (p x)) (filter p xs)
 filter-pass p [] = tt
 filter-pass p (x ∷ xs) = by (p x) (λ h. rw h (true-is h, filter-pass p xs)) (λ h. rw h (filter-pass p xs))
+
+pub All-at : {A : Type 0} (P : A → Type 0) (d : A) (xs : List A) → All P xs → (i : ℕ) → i < length xs → P (getD xs i d)
+All-at P d [] a i h = absurd (omega arith)
+All-at P d (x ∷ xs) a zero h = a .0
+All-at P d (x ∷ xs) a (suc i) h = All-at P d xs (a .1) i (omega arith)
+
+pub length-upFrom : (a n : ℕ) → length (upFrom a n) ≡ n
+length-upFrom a zero = refl
+length-upFrom a (suc n) = ap suc (length-upFrom (suc a) n)

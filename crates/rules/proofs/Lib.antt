@@ -12,3 +12,5 @@ pub mod Answer
 pub mod Kept
 pub mod Changes
 pub mod Grants
+pub mod LabelBack
+pub mod TableBack
