@@ -14,3 +14,6 @@ pub mod Changes
 pub mod Grants
 pub mod LabelBack
 pub mod TableBack
+pub mod Taken
+pub mod Fresh
+pub mod Performed
