@@ -53,6 +53,33 @@ def words(body):
     return out
 
 
+KIT = "/opt/rattle"
+PLAIN = {"decLe", "sym", "ap", "ap₂", "subst", "refl", "cond", "not", "inl", "inr", "getD", "take", "drop", "length", "replicate", "leb", "ltb", "eqb", "T"}  # names without a hyphen
+LIBRARIES = [  # searched in this order for names that no crate of ours has
+    ("lib.ListN", "logic/Lib/ListN.antt"),
+    ("lib.Seq", "logic/Lib/Seq.antt"),
+    ("lib.Dec", "logic/Lib/Dec.antt"),
+    ("borrow.Author.Tests", "logic/Borrow/Author/Tests.antt"),
+    ("mathlib.Core.Path", "antt/port/mathlib/src/Core/Path.antt"),
+    ("mathlib.Core.Bool", "antt/port/mathlib/src/Core/Bool.antt"),
+    ("mathlib.Core.Option", "antt/port/mathlib/src/Core/Option.antt"),
+    ("mathlib.Core.List", "antt/port/mathlib/src/Core/List.antt"),
+    ("mathlib.Core.Logic", "antt/port/mathlib/src/Core/Logic.antt"),
+    ("native.Mathlib.Nat", "antt/lib/native/src/Mathlib/Nat.antt"),
+    ("native.Mathlib.Decide", "antt/lib/native/src/Mathlib/Decide.antt"),
+    ("native.Mathlib.Numerals", "antt/lib/native/src/Mathlib/Numerals.antt"),
+]
+
+
+def library_index():
+    where = {}
+    for module, path in LIBRARIES:
+        path = f"{KIT}/{path}"
+        for name in exports(path) if os.path.exists(path) else []:
+            where.setdefault(name, module)
+    return where
+
+
 def index():
     where = {}
     for path in sorted(glob.glob("crates/*/specs/*.antt") + glob.glob("crates/*/proofs/*.antt")):
@@ -76,7 +103,7 @@ def main():
             if d not in deps:
                 deps.add(d); todo.append(d)
     order = [c for c in lines if c in deps]
-    where = index()
+    where, library = index(), library_index()
     for path in files:
         if os.path.basename(path) == "Lib.antt":
             continue
@@ -100,7 +127,16 @@ def main():
         libs = set(n for k in kept for n in re.search(r"\{(.*)\}", k).group(1).split(", "))
         aliased = set(n.split(" as ")[1] for ns in pick.values() for n in ns)
         for name in used:
-            if name in own or name in libs or name in aliased or name not in where:
+            if name in own or name in libs or name in aliased:
+                continue
+            if name not in where:
+                if ("-" in name or name in PLAIN) and name in library:
+                    add = library[name]
+                    at = [i for i, k in enumerate(kept) if k.startswith(f"use {add}.{{")]
+                    if at:
+                        kept[at[0]] = kept[at[0]].replace("}\n", f", {name}}}\n")
+                    else:
+                        kept.append(f"use {add}.{{{name}}}\n")
                 continue
             here = [w for w in where[name] if w[0] in deps and not (path.split("/")[2] == "specs" and w[1] == "proofs")]
             here = [w for w in here if f"crates/{w[0]}/{w[1]}/{w[2]}.antt" != path]

@@ -17,3 +17,5 @@ pub mod TableBack
 pub mod Taken
 pub mod Fresh
 pub mod Performed
+pub mod FreeBack
+pub mod Theorem

@@ -107,7 +107,7 @@ others-apart g s others good e =
     (λ m x q. let o = own-slot m s (x .0 .slot) (sym q) in omega (arith, x .1))
     others (All-both (GoodLabel g) (λ m. tally s (slotsOf m) ≡ 0) others good (sum-zero (λ m. tally s (slotsOf m)) others e))
 
-tally-nonzero : (es : List ℕ) → tally 0 es ≡ 0 → All (λ e. 1 ≤ e) es
+pub tally-nonzero : (es : List ℕ) → tally 0 es ≡ 0 → All (λ e. 1 ≤ e) es
 tally-nonzero [] h = tt
 tally-nonzero (zero ∷ es) h = let b = ap bit (eq-eqb 0 0 refl) in absurd (omega arith)
 tally-nonzero (suc e ∷ es) h = (omega arith, tally-nonzero es (omega arith))

@@ -26,13 +26,13 @@ use Rattle.rules.proofs.Valid.{GoodLabel, Valid, limits→, slots-tally
 
 -- ---- lengths
 
-abbrev lengths5 : List ℕ
+abbrev pub lengths5 : List ℕ
 lengths5 = 4 ∷ 40 ∷ 1 ∷ 90 ∷ 5 ∷ []
 
 abbrev lengths4 : List ℕ
 lengths4 = 44 ∷ 1 ∷ 5 ∷ 2 ∷ 7 ∷ 1 ∷ 2 ∷ 2 ∷ 2 ∷ 8 ∷ 1 ∷ 30 ∷ 10 ∷ 25 ∷ []
 
-lens5 : (g : Geometry) (f : List Run) (k : ℕ) → Lengths lengths5 (fields5 g f k)
+pub lens5 : (g : Geometry) (f : List Run) (k : ℕ) → Lengths lengths5 (fields5 g f k)
 lens5 g f k = (refl, (length-fill 40 (flat (entry g) (take 8 f)), (refl, (length-fill 90 (flat (entry g) (drop 8 f)), (length-link g k, tt)))))
 
 lens4 : (g : Geometry) (k n : ℕ) → Lengths lengths4 (fields4 g k n)
@@ -272,10 +272,10 @@ module _ (v : Volume) (h : Valid v) where
 
   -- ---- the chain
 
-  abbrev InFive : Five → Type 0
+  abbrev pub InFive : Five → Type 0
   InFive x = recordAt (records v) (x .slot) ≡ format5 g (x .entries) (x .next)
 
-  fives-in : All InFive fs
+  pub fives-in : All InFive fs
   fives-in =
       All-map (λ x. (1 ≤ sumOf (λ y. bit (eqb (y .slot) (x .slot))) fs) × (sumOf (λ y. bit (eqb (y .slot) (x .slot))) fs ≤ 1 → find (λ y. eqb (y .slot) (x .slot)) fs ≡ some x)) InFive
       (λ x p.
@@ -294,7 +294,7 @@ module _ (v : Volume) (h : Valid v) where
       positive zero e = let b = ap bit (eq-eqb 0 0 refl) in absurd (omega arith)
       positive (suc k) e = omega arith
 
-  five-next : (f : List Run) (k : ℕ) → slotAt g (format5 g f k) 135 ≡ k
+  pub five-next : (f : List Run) (k : ℕ) → slotAt g (format5 g f k) 135 ≡ k
   unfolding format5
   five-next f k = slot-back g (whole (fields5 g f k)) [] 135 k (rest-at 4 lengths5 (fields5 g f k) (lens5 g f k) (omega arith))
 
@@ -313,7 +313,7 @@ module _ (v : Volume) (h : Valid v) where
 
   -- ---- the records, read
 
-  geometry-read : 1 ≤ g .vtocTracks → readGeometry (recordAt (records v) 0) ≡ g
+  pub geometry-read : 1 ≤ g .vtocTracks → readGeometry (recordAt (records v) 0) ≡ g
   unfolding records
   geometry-read p = geometry-back g (highest ls) (length (format0s v)) p
 
@@ -341,10 +341,13 @@ pub length-table : (rs : List (List ℕ)) → All (λ r. length r ≡ 140) rs �
 length-table [] a = refl
 length-table (r ∷ rs) a = let i = length-table rs (a .1) in length-append r (whole rs) ∙ omega (arith, a .0)
 
+pub chop-encode : (v : Volume) → Valid v → chop (length (encode v) / 140) (encode v) ≡ records v
+unfolding encode
+chop-encode v h =
+    ap (λ (n : ℕ). chop n (whole (records v))) (ap (λ (x : ℕ). x / 140) (length-table (records v) (lengths-all v h)) ∙ mul-div-right (length (records v)) (omega arith))
+    ∙ chop-back (records v) (lengths-all v h)
+
 -- THE ROUND TRIP
 pub read-back : (v : Volume) → Valid v → 1 ≤ v .geometry .vtocTracks → read (encode v) ≡ v
-unfolding read encode
-read-back v h p =
-    ap (λ (n : ℕ). readRecords (chop n (whole (records v)))) (ap (λ (x : ℕ). x / 140) (length-table (records v) (lengths-all v h)) ∙ mul-div-right (length (records v)) (omega arith))
-    ∙ ap readRecords (chop-back (records v) (lengths-all v h))
-    ∙ read-records v h p
+unfolding read
+read-back v h p = ap readRecords (chop-encode v h) ∙ read-records v h p

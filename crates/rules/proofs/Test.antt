@@ -101,7 +101,7 @@ differ→ (l ∷ ls) t = (
   differ→ ls (and-r (not (any (named (l .name)) ls)) (differ ls) t),
 )
 
-→differ : (ls : List Label) → Differ ls → T (differ ls)
+pub →differ : (ls : List Label) → Differ ls → T (differ ls)
 →differ [] d = tt
 →differ (l ∷ ls) d = both (not (any (named (l .name)) ls)) (differ ls) (false-is (any-unlike (l .name) ls (d .0))) (→differ ls (d .1))
 
@@ -114,7 +114,7 @@ in→ n (u ∷ us) a k h =
     let b = ap bit (ne-eqb u k (omega arith)) in
     omega arith
 
-→in : (n : ℕ) (us : List ℕ) → ((k : ℕ) → n ≤ k → tally k us ≡ 0) → All (λ k. k < n) us
+pub →in : (n : ℕ) (us : List ℕ) → ((k : ℕ) → n ≤ k → tally k us ≡ 0) → All (λ k. k < n) us
 →in n us h =
     All-map (λ k. 1 ≤ tally k us) (λ k. k < n)
     (λ k x. elim (decLe n k) [ yes j ↦ absurd (omega (arith, h k j)) | no j ↦ lt-of-not-le j ])

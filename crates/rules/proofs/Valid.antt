@@ -155,3 +155,9 @@ free-apart v = apart (tracks (v .geometry)) (held (v .geometry) (v .labels))
 pub free-once : (v : Volume) → Valid v → (t : ℕ) → t < tracks (v .geometry) → times t (free (v .geometry) (v .labels)) + times t (held (v .geometry) (v .labels)) ≡ 1
 unfolding free
 free-once v h t u = exactly-one (tracks (v .geometry)) (held (v .geometry) (v .labels)) (h .once) t u
+
+-- the same with the held runs written out
+pub free-held : (v : Volume) → Valid v → (t : ℕ) → t < tracks (v .geometry)
+    → times t (free (v .geometry) (v .labels)) + times t (run 0 1 ∷ run (v .geometry .vtocStart) (v .geometry .vtocTracks) ∷ flat runsOf (v .labels)) ≡ 1
+unfolding held
+free-held v h t u = free-once v h t u
