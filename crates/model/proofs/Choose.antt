@@ -12,7 +12,7 @@ use lib.ListN.{length, take, drop, length-append, length-take, take-append-drop}
 use lib.Dec.{T, leb, leb→le}
 use borrow.Author.Tests.{leb-true, leb-false, le-leb, lt-leb}
 use Rattle.model.specs.Basics.{all, bit, filter, keepIf, mapOption, sumOf}
-use Rattle.model.specs.Choice.{choose, firstPart, gather, insertRun, longestFirst, oneOrFive, serving, shorter, shortest}
+use Rattle.model.specs.Choice.{choose, firstPart, gather, insertRun, longestFirst, mostPieces, oneOrFive, serving, shorter, shortest}
 use Rattle.model.specs.Model.{Run, covers, times, total}
 use Rattle.model.proofs.Lists.{All, All-append, All-filter, All-left, All-map, by, some-is, sum-append, sum-zero, true-is, zero-sum}
 use Rattle.model.proofs.Runs.{hit-le}
@@ -259,33 +259,33 @@ choose-some n cs ps h r e = go (shortest (serving n cs)) refl e
     go : (o : Option Run) → shortest (serving n cs) ≡ o → oneOrFive n cs o ≡ some ps → BestFit n cs ps ⊎ Longest n cs ps
     go (some c) q e = inl (subst (BestFit n cs) (some-is (firstPart n c ∷ []) ps e) (best-fit n cs c r q))
     go none q e =
-        let five = take 5 (longestFirst cs) in
+        let five = take mostPieces (longestFirst cs) in
         let g = gather-law n five ps h e in
         inr (record {
           none = All-map (λ d. n ≤ d .count → ⊥) (λ d. d .count < n) (λ d x. lt-of-not-le x) cs (pass-all (λ d. ⊥) n cs (none-empty (λ d. ⊥) (serving n cs) q));
           whole = g .whole;
           next = g .next;
-          left = g .left ++ drop 5 (longestFirst cs);
-          sorted = sym (take-append-drop 5 (longestFirst cs)) ∙ ap (λ (x : List Run). x ++ drop 5 (longestFirst cs)) (g .sorted) ∙ append-assoc (g .whole) (g .next ∷ g .left) (drop 5 (longestFirst cs));
+          left = g .left ++ drop mostPieces (longestFirst cs);
+          sorted = sym (take-append-drop mostPieces (longestFirst cs)) ∙ ap (λ (x : List Run). x ++ drop mostPieces (longestFirst cs)) (g .sorted) ∙ append-assoc (g .whole) (g .next ∷ g .left) (drop mostPieces (longestFirst cs));
           rest = g .rest;
           some = g .some;
           fits = g .fits;
           all = g .all;
           taken = g .taken;
-          five = let f = g .few in let l = length-take 5 (longestFirst cs) in omega arith;
+          five = let f = g .few in let l = length-take mostPieces (longestFirst cs) in omega arith;
         })
 
 -- refused exactly when the five longest are too few
-pub choose-none : (n : ℕ) (cs : List Run) → 1 ≤ n → choose n cs ≡ none → total (take 5 (longestFirst cs)) < n
+pub choose-none : (n : ℕ) (cs : List Run) → 1 ≤ n → choose n cs ≡ none → total (take mostPieces (longestFirst cs)) < n
 unfolding choose
 choose-none n cs h e = go (shortest (serving n cs)) e
   where
-    go : (o : Option Run) → oneOrFive n cs o ≡ none → total (take 5 (longestFirst cs)) < n
+    go : (o : Option Run) → oneOrFive n cs o ≡ none → total (take mostPieces (longestFirst cs)) < n
     go (some c) e = absurd (let z : _≡_ {A = ℕ} 0 1 = cc in omega arith)
-    go none e = gather-none n (take 5 (longestFirst cs)) h e
+    go none e = gather-none n (take mostPieces (longestFirst cs)) h e
 
 -- each of a descending list is at most its first
-longest-head : (n : ℕ) (qs : List Run) → total (take 5 qs) < n → Sorted qs → All (λ d. d .count < n) qs
+longest-head : (n : ℕ) (qs : List Run) → total (take mostPieces qs) < n → Sorted qs → All (λ d. d .count < n) qs
 longest-head n [] h s = tt
 longest-head n (q ∷ qs) h s = (omega arith, All-map (Ahead q) (λ d. d .count < n) (λ d a. omega (arith, a .0)) qs (s .0))
 
@@ -302,11 +302,11 @@ unsorted-All n cs a =
     (λ d x. elim (decLe n (d .count)) [ yes k ↦ absurd (let b = ap bit (le-leb n (d .count) k) in omega arith) | no k ↦ lt-of-not-le k ]) cs
     (sum-zero F cs (sym (sorted-sum F cs) ∙ z))
 
-pub none-choose : (n : ℕ) (cs : List Run) → Rising cs → total (take 5 (longestFirst cs)) < n → choose n cs ≡ none
+pub none-choose : (n : ℕ) (cs : List Run) → Rising cs → total (take mostPieces (longestFirst cs)) < n → choose n cs ≡ none
 unfolding choose
 none-choose n cs r h =
     let a = unsorted-All n cs (longest-head n (longestFirst cs) h (sorted cs r)) in
-    rw (serving-none n cs a) (none-gather n (take 5 (longestFirst cs)) h)
+    rw (serving-none n cs a) (none-gather n (take mostPieces (longestFirst cs)) h)
 
 -- ---- in general
 

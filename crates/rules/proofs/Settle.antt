@@ -1,5 +1,5 @@
 -- Slots: what `settle` leaves uses no slot twice, and its chain is as long as the free extents need. Assumes nothing.
-use mathlib.Core.Path.{_≡_, refl, ap, _∙_, subst}
+use mathlib.Core.Path.{_≡_, refl, ap, _∙_, subst, fun-ext}
 use mathlib.Core.Bool.{Bool, true, false, cond}
 use mathlib.Core.Option.{none, some}
 use mathlib.Core.List.{List, [], _∷_, _++_}
@@ -11,7 +11,7 @@ use lib.ListN.{length, take, drop, length-append, length-take, length-drop}
 use lib.Dec.{leb, eqb}
 use borrow.Author.Tests.{leb-true, eq-eqb, ne-eqb}
 use Rattle.model.specs.Basics.{bit, filter, flat, upFrom}
-use Rattle.model.specs.Model.{Geometry, Label, Volume, fivesFor, free, gaps, held, runs, slots, slotsOf, tally, times, tracks, unused, used}
+use Rattle.model.specs.Model.{Geometry, Label, Run, Volume, fivesFor, free, gaps, held, runs, slots, slotsOf, tally, times, tracks, unused, used}
 use Rattle.model.proofs.Lists.{by, some-is, sum-append, sum-take}
 use Rattle.model.proofs.Runs.{bit-zero}
 use Rattle.rules.specs.Calls.{labels}
@@ -70,11 +70,14 @@ pub used-tally : (ls : List Label) (chain : List ℕ) (k : ℕ) → tally k (use
 unfolding used
 used-tally ls chain k = let e = sum-append (λ x. bit (eqb x k)) chain (flat slotsOf ls) in omega arith
 
--- the free extents depend only on how often each track is held
+-- the gaps, and so the free extents, depend only on how often each track is held
+pub gaps-same : (hs ks : List Run) (n : ℕ) → ((t : ℕ) → times t hs ≡ times t ks) → gaps hs n ≡ gaps ks n
+unfolding gaps
+gaps-same hs ks n h = ap (λ (f : ℕ → ℕ). runs (λ t. eqb (f t) 0) 0 n) (fun-ext h)
+
 pub free-same : (g : Geometry) (ls ms : List Label) → ((t : ℕ) → times t (held g ls) ≡ times t (held g ms)) → free g ls ≡ free g ms
-unfolding free gaps
-free-same g ls ms h =
-    ap (λ (f : ℕ → ℕ). runs (λ t. eqb (f t) 0) 0 (tracks g)) (mathlib.Core.Path.fun-ext h)
+unfolding free
+free-same g ls ms h = gaps-same (held g ls) (held g ms) (tracks g) h
 
 pub record Settled (g : Geometry) (draft : List Label) (asked : ℕ) (finish : List ℕ → List Label) (w : Volume) : Type 0 where
   pub given : List ℕ

@@ -1,0 +1,99 @@
+-- Cases made by the unrelated implementation under tests/, computed by the definitions: what a row means. Assumes nothing.
+use Prim.Native.Nat.{ℕ, zero, suc, _+_, _*_, _%_}
+use mathlib.Core.Bool.{Bool, true, false, _&&_}
+use mathlib.Core.List.{List, [], _∷_, _++_, map}
+use lib.ListN.{length, take, set, replicate}
+use lib.Dec.{eqb}
+use Rattle.model.specs.Basics.{upFrom, same, fill}
+use Rattle.rules.specs.Calls.{Call, allocate, extend, release, scratch, rename, obtain, lspace}
+use Rattle.rules.specs.Entries.{Lent, lent, Result, perform, initialise}
+use Rattle.rules.specs.Contracts.{geometry}
+
+-- initialise; a call that is accepted, with its answer and the digest of the table after it; obtain, with the digest of
+-- its labels besides; a refused call, which changes nothing; a call on a damaged copy of the table; a call on a copy of
+-- another length, with buffers of these lengths. The copies are thrown away.
+pub data Row : Type 0 where
+  begin : (c h d s v number digest : ℕ) → Row
+  ok : Call → (answer digest : ℕ) → Row
+  okLabels : Call → (answer digest labels : ℕ) → Row
+  no : Call → (number : ℕ) → Row
+  hurt : List (ℕ × ℕ) → Call → (number : ℕ) → Row
+  sized : (tableLength answerLength labelsLength : ℕ) → Call → (number : ℕ) → Row
+
+-- ---- names, attributes, bytes as numbers
+
+abbrev pub raw : ℕ → List ℕ → List ℕ
+raw n bs = take n (bs ++ replicate n 0x40)
+
+abbrev pub nm : List ℕ → List ℕ
+nm bs = raw 44 bs
+
+abbrev pub attrN : ℕ → ℕ → List ℕ
+attrN n k = map (λ i. k * i % 256) (upFrom 1 n)
+
+abbrev pub attr : ℕ → List ℕ
+attr k = attrN 52 k
+
+abbrev pub fold : (ℕ → ℕ → ℕ) → ℕ → List ℕ → ℕ
+fold f h [] = h
+fold f h (b ∷ bs) = fold f (f h b) bs
+
+abbrev pub number : List ℕ → ℕ
+number bs = fold (λ h b. h * 256 + b) 0 bs
+
+abbrev pub digest : List ℕ → ℕ
+digest bs = fold (λ h b. (h * 257 + b + 1) % 2305843009213693951) 0 bs
+
+-- ---- what a row says
+
+-- a buffer that a call may write, before the call
+abbrev pub buffer : ℕ → List ℕ
+buffer n = replicate n 0xEE
+
+abbrev pub labelsFor : Call → List ℕ
+labelsFor (allocate n at kind start amount secondary) = []
+labelsFor (extend n) = []
+labelsFor (release n ttr) = []
+labelsFor (scratch n) = []
+labelsFor (rename old new) = []
+labelsFor (obtain n) = buffer 280
+labelsFor lspace = []
+
+abbrev pub damaged : List (ℕ × ℕ) → List ℕ → List ℕ
+damaged [] t = t
+damaged (p ∷ ps) t = damaged ps (set t (p .0) (p .1))
+
+abbrev pub sameLent : Lent → Lent → Bool
+sameLent a b = same (a .table) (b .table) && same (a .answer) (b .answer) && same (a .labels) (b .labels)
+
+abbrev pub accepted : Result → ℕ → ℕ → Bool
+accepted r answer after =
+    eqb (r .number) 0 && eqb (length (r .after .answer)) 24 && eqb (number (r .after .answer)) answer && eqb (digest (r .after .table)) after
+
+abbrev pub started : ℕ → ℕ → Lent → Result → Bool
+started zero after b r = accepted r 0 after
+started (suc n) after b r = eqb (r .number) (suc n) && sameLent (r .after) b
+
+abbrev pub tableAfter : ℕ → List ℕ → Result → List ℕ
+tableAfter zero t r = r .after .table
+tableAfter (suc n) t r = t
+
+-- the rows from table t on
+abbrev pub right : List ℕ → List Row → Bool
+right t [] = true
+right t (begin c h d s v n after ∷ rows) =
+    let b : Lent = lent (buffer (v * d * 140)) (buffer 24) [] in
+    let r : Result = initialise (geometry c h d s v) b in
+    started n after b r && right (tableAfter n t r) rows
+right t (ok c answer after ∷ rows) =
+    let r : Result = perform (lent t (buffer 24) (labelsFor c)) c in
+    accepted r answer after && right (r .after .table) rows
+right t (okLabels c answer after labels ∷ rows) =
+    let r : Result = perform (lent t (buffer 24) (labelsFor c)) c in
+    accepted r answer after && eqb (digest (r .after .labels)) labels && right t rows
+right t (no c n ∷ rows) =
+    let b : Lent = lent t (buffer 24) (labelsFor c) in
+    let r : Result = perform b c in
+    eqb (r .number) n && sameLent (r .after) b && right t rows
+right t (hurt ps c n ∷ rows) = eqb (perform (lent (damaged ps t) (buffer 24) (labelsFor c)) c .number) n && right t rows
+right t (sized tl al ll c n ∷ rows) = eqb (perform (lent (fill tl t) (buffer al) (buffer ll)) c .number) n && right t rows

@@ -1,0 +1,1 @@
+// Computed cases for the definitions of `rules` (specs/); this crate has no code.
