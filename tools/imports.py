@@ -54,7 +54,7 @@ def words(body):
 
 
 KIT = "/opt/rattle"
-PLAIN = {"decLe", "sym", "ap", "ap₂", "subst", "refl", "cond", "not", "inl", "inr", "getD", "take", "drop", "length", "replicate", "leb", "ltb", "eqb", "T"}  # names without a hyphen
+PLAIN = {"decLe", "map", "Bool", "true", "false", "Option", "none", "some", "List", "sym", "ap", "ap₂", "subst", "refl", "cond", "not", "inl", "inr", "getD", "take", "drop", "length", "replicate", "leb", "ltb", "eqb", "T"}  # names without a hyphen
 LIBRARIES = [  # searched in this order for names that no crate of ours has
     ("lib.ListN", "logic/Lib/ListN.antt"),
     ("lib.Seq", "logic/Lib/Seq.antt"),

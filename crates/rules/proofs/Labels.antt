@@ -2,14 +2,17 @@
 use mathlib.Core.Path.{_≡_, refl, sym, ap, _∙_, subst}
 use mathlib.Core.Bool.{Bool, true, false, not}
 use mathlib.Core.Option.{Option, none, some}
-use mathlib.Core.List.{List, [], _∷_}
-use Prim.Native.Nat.{ℕ, _+_, _≤_, _<_}
+use mathlib.Core.List.{List, [], _∷_, map}
+use Prim.Native.Nat.{max, ℕ, _+_, _≤_, _<_}
 use native.Mathlib.Omega.{arith}
 use lib.Dec.{ltb}
-use borrow.Author.Tests.{ltb-true, ltb-false}
-use Rattle.model.specs.Basics.{any, find, orElse, same, sumOf}
-use Rattle.model.specs.Model.{Label}
+use borrow.Author.Tests.{ltb-true, ltb-false, eq-eqb}
+use native.Mathlib.Nat.{lt-of-not-le}
+use native.Mathlib.Decide.{decLe}
+use Rattle.model.specs.Basics.{any, bit, find, orElse, same, sumOf}
+use Rattle.model.specs.Model.{Label, tally}
 use Rattle.model.proofs.Lists.{All, All-filter, All-map, by, clash, is-true, same-refl, same→eq, true-is}
+use Rattle.rules.specs.Layout.{highest}
 use Rattle.rules.specs.Slots.{insertLabel, without}
 use Rattle.rules.specs.Table.{named}
 
@@ -157,3 +160,26 @@ find-insert m l (x ∷ xs) u =
     let j : named m l ≡ false = ap (λ (y : List ℕ). same (l .name) y) (sym q) ∙ same-sym (l .name) (x .name) ∙ u .0 in
     rw (k, j))
     (λ k. rw k)))
+
+-- ---- the highest slot with a format 1
+
+pub highest-most : (ls : List Label) → All (λ l. l .slot ≤ highest ls) ls
+highest-most [] = tt
+highest-most (l ∷ ls) = (omega arith, All-map (λ m. m .slot ≤ highest ls) (λ m. m .slot ≤ max (l .slot) (highest ls)) (λ m x. omega arith) ls (highest-most ls))
+
+-- it is one of theirs, or 0 where there is none
+pub highest-some : (l : Label) (ls : List Label) → 1 ≤ tally (highest (l ∷ ls)) (map (λ m. m .slot) (l ∷ ls))
+highest-some l [] =
+    let e : max (l .slot) 0 ≡ l .slot = omega arith in
+    let b = ap bit (eq-eqb (l .slot) (max (l .slot) 0) (omega arith)) in
+    omega arith
+highest-some l (m ∷ ms) =
+    let i = highest-some m ms in
+    elim (decLe (highest (m ∷ ms)) (l .slot)) [
+      | yes h ↦ let b = ap bit (eq-eqb (l .slot) (max (l .slot) (highest (m ∷ ms))) (omega arith)) in omega arith
+      | no h ↦
+          let k = lt-of-not-le h in
+          let e : highest (m ∷ ms) ≡ max (l .slot) (highest (m ∷ ms)) = omega arith in
+          let j = subst (λ (x : ℕ). 1 ≤ tally x (map (λ y. y .slot) (m ∷ ms))) e i in
+          omega arith
+    ]

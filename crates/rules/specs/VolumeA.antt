@@ -42,10 +42,12 @@ steps =
     ∷ shown 2 105 (0x01 ∷ 0x00 ∷ 0x00 ∷ 0x00 ∷ 0x00 ∷ 0x03 ∷ 0x00 ∷ 0x01 ∷ 0x00 ∷ 0x01 ∷ [])
     ∷ [])
     -- 2. FLT.B, 1 cylinder: 10–14. Free 7–9, 15–19
-    ∷ step (cylindersFor 0xC2 1) 0 (granted (run 10 5 ∷ [])) (run 7 3 ∷ run 15 5 ∷ []) 4 []
+    ∷ step (cylindersFor 0xC2 1) 0 (granted (run 10 5 ∷ [])) (run 7 3 ∷ run 15 5 ∷ []) 4
+    (shown 0 45 (0x00 ∷ 0x00 ∷ 0x00 ∷ 0x01 ∷ 0x04 ∷ []) ∷ shown 3 0 (flt 0xC2) ∷ shown 3 105 (0x81 ∷ []) ∷ [])
     -- 3. Here 3 tracks would be 7–9. FLT.C, 7 tracks: 15–19 then 7–8
     ∷ aside (tracksFor 0xC3 3) 0 (granted (run 7 3 ∷ [])) (run 15 5 ∷ []) 3
-    ∷ step (tracksFor 0xC3 7) 0 (granted (run 15 5 ∷ run 7 2 ∷ [])) (run 9 1 ∷ []) 3 []
+    ∷ step (tracksFor 0xC3 7) 0 (granted (run 15 5 ∷ run 7 2 ∷ [])) (run 9 1 ∷ []) 3
+    (shown 0 45 (0x00 ∷ 0x00 ∷ 0x00 ∷ 0x02 ∷ 0x01 ∷ []) ∷ shown 4 59 (0x02 ∷ []) ∷ [])
     -- 4. FLT.D, 2 tracks: 9. Absolute 19 for 2: 7. Absolute 6 for 1: 9
     ∷ step (tracksFor 0xC4 2) 9 nothing (run 9 1 ∷ []) 3 []
     ∷ step (absoluteFor 0xC4 19 2) 7 nothing (run 9 1 ∷ []) 3 []
