@@ -55,6 +55,14 @@ def words(body):
 
 KIT = "/opt/rattle"
 PLAIN = {"decLe", "map", "Bool", "true", "false", "Option", "none", "some", "List", "sym", "ap", "ap₂", "subst", "refl", "cond", "not", "inl", "inr", "getD", "take", "drop", "length", "replicate", "leb", "ltb", "eqb", "T"}  # names without a hyphen
+OPERATORS = {
+    "Prim.Native.Nat": ["ℕ", "zero", "suc", "_+_", "_-_", "_*_", "_/_", "_%_", "_≤_", "_<_", "max", "min"],
+    "mathlib.Core.Path": ["_≡_", "_∙_"],
+    "mathlib.Core.List": ["List", "[]", "_∷_", "_++_"],
+    "mathlib.Core.Bool": ["_&&_", "_||_"],
+    "mathlib.Core.Logic": ["_⊎_", "_↔_"],
+    "native.Mathlib.Omega": ["arith"],
+}
 LIBRARIES = [  # searched in this order for names that no crate of ours has
     ("lib.ListN", "logic/Lib/ListN.antt"),
     ("lib.Seq", "logic/Lib/Seq.antt"),
@@ -124,6 +132,16 @@ def main():
             names = [n for n in m.group(2).split(", ") if n in used or n.strip("_") in used or " as " in n]
             if names:
                 kept.append(f"use {m.group(1)}.{{{', '.join(names)}}}\n")
+        for module, names in OPERATORS.items():
+            line = [i for i, k in enumerate(kept) if k.startswith(f"use {module}.{{")]
+            have = re.search(r"\{(.*)\}", kept[line[0]]).group(1).split(", ") if line else []
+            missing = [n for n in names if n not in have and n not in own and (n in used or (n.startswith("_") and n.strip("_") in used))]
+            if missing:
+                new = f"use {module}.{{{', '.join(have + missing)}}}\n"
+                if line:
+                    kept[line[0]] = new
+                else:
+                    kept.append(new)
         libs = set(n for k in kept for n in re.search(r"\{(.*)\}", k).group(1).split(", "))
         aliased = set(n.split(" as ")[1] for ns in pick.values() for n in ns)
         for name in used:
@@ -138,7 +156,7 @@ def main():
                     else:
                         kept.append(f"use {add}.{{{name}}}\n")
                 continue
-            here = [w for w in where[name] if w[0] in deps and not (path.split("/")[2] == "specs" and w[1] == "proofs")]
+            here = [w for w in where[name] if w[0] in deps and not (path.split("/")[2] == "specs" and w[1] == "proofs" and w[0] == crate)]
             here = [w for w in here if f"crates/{w[0]}/{w[1]}/{w[2]}.antt" != path]
             if not here:
                 continue

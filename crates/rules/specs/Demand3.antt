@@ -7,6 +7,7 @@ use lib.ListN.{length, getD}
 use lib.Dec.{T, leb, ltb}
 use Rattle.model.specs.Basics.{filter, find, flat, get2, mapOption, part, same, upFrom}
 use Rattle.model.specs.Model.{Geometry, Run, Separate, Volume, run, runsOf, times, total, tracks}
+use Rattle.model.proofs.Runs.{apart, balance}
 use Rattle.rules.specs.Calls.{Call, allocate, answer, extend, labels, lspace, obtain, release, rename, scratch}
 use Rattle.rules.specs.Contracts.{Allocates, Extends, Inquires, Obtains, Releases, Renames, Scratches}
 use Rattle.rules.specs.Ledger.{Books, Ledger, book, tracksOf}
