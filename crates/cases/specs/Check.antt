@@ -1,19 +1,22 @@
 -- Cases made by the unrelated implementation under tests/, computed by the definitions: what a row means. Assumes nothing.
 use Prim.Native.Nat.{ℕ, zero, suc, _+_, _*_, _%_}
-use mathlib.Core.Bool.{Bool, true, false, _&&_}
+use mathlib.Core.Bool.{Bool, true, _&&_}
 use mathlib.Core.List.{List, [], _∷_, _++_, map}
 use lib.ListN.{length, take, set, replicate}
 use lib.Dec.{eqb}
-use Rattle.model.specs.Basics.{upFrom, same, fill}
-use Rattle.rules.specs.Calls.{Call, allocate, extend, release, scratch, rename, obtain, lspace}
-use Rattle.rules.specs.Entries.{Lent, lent, Result, perform, initialise}
+use Rattle.model.specs.Basics.{fill, same, upFrom}
+use Rattle.model.specs.Model.{Volume, slots}
+use Rattle.rules.specs.Calls.{Call, Outcome, accept, allocate, extend, lspace, obtain, refuse, release, rename, rule, scratch}
 use Rattle.rules.specs.Contracts.{geometry}
+use Rattle.rules.specs.Entries.{Lent, Result, fresh, initialise, lent, perform}
+use Rattle.rules.specs.Layout.{encode}
 
--- initialise; a call that is accepted, with its answer and the digest of the table after it; obtain, with the digest of
+-- initialise; initialise and calls that are all accepted, of which only the table at the end is compared; a call that is accepted, with its answer and the digest of the table after it; obtain, with the digest of
 -- its labels besides; a refused call, which changes nothing; a call on a damaged copy of the table; a call on a copy of
 -- another length, with buffers of these lengths. The copies are thrown away.
 pub data Row : Type 0 where
   begin : (c h d s v number digest : ℕ) → Row
+  build : (c h d s v : ℕ) → List Call → (digest : ℕ) → Row
   ok : Call → (answer digest : ℕ) → Row
   okLabels : Call → (answer digest labels : ℕ) → Row
   no : Call → (number : ℕ) → Row
@@ -78,13 +81,29 @@ abbrev pub tableAfter : ℕ → List ℕ → Result → List ℕ
 tableAfter zero t r = r .after .table
 tableAfter (suc n) t r = t
 
+abbrev pub volumeAfter : Volume → Outcome → Volume
+volumeAfter v (refuse n) = v
+volumeAfter v (accept r w) = w
+
+abbrev pub built : Volume → List Call → Volume
+built v [] = v
+built v (c ∷ cs) = built (volumeAfter v (rule v c)) cs
+
+-- initialise is lent a table of the right length, or none where its geometry is to be refused
+abbrev pub tableFor : ℕ → ℕ → List ℕ
+tableFor zero slots = buffer (slots * 140)
+tableFor (suc n) slots = []
+
 -- the rows from table t on
 abbrev pub right : List ℕ → List Row → Bool
 right t [] = true
 right t (begin c h d s v n after ∷ rows) =
-    let b : Lent = lent (buffer (v * d * 140)) (buffer 24) [] in
+    let b : Lent = lent (tableFor n (v * d)) (buffer 24) [] in
     let r : Result = initialise (geometry c h d s v) b in
     started n after b r && right (tableAfter n t r) rows
+right t (build c h d s v cs after ∷ rows) =
+    let u : List ℕ = encode (built (fresh (geometry c h d s v)) cs) in
+    eqb (digest u) after && right u rows
 right t (ok c answer after ∷ rows) =
     let r : Result = perform (lent t (buffer 24) (labelsFor c)) c in
     accepted r answer after && right (r .after .table) rows
