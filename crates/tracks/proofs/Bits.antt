@@ -2,11 +2,11 @@
 use mathlib.Core.Path.{_≡_, refl, sym, ap, _∙_}
 use mathlib.Core.Logic.{_⊎_, inl, inr, ⊎-elim}
 use Prim.Native.Nat.{ℕ, zero, suc, _+_, _-_, _*_, _/_, _%_, _^_, _≤_, _<_, min, max}
-use native.Mathlib.Nat.{mul-one, mod-eq-of-lt, pow-suc, mul-assoc, zero-div, div-one, div-eq-of-lt, lt-of-lt-of-le, lt-of-le-of-lt, lt-of-not-le}
+use native.Mathlib.Nat.{mul-one, pow-suc, mul-assoc, zero-div, div-one, div-eq-of-lt, lt-of-lt-of-le, lt-of-le-of-lt, lt-of-not-le}
 use native.Mathlib.Decide.{decLe}
 use native.Mathlib.Omega.{arith}
 use lib.Count.{leadingZeros, leading-length, leading-top, leading-of-zero}
-use lib.Bits.{differ, bitAnd, bitOr, bitXor, and-shr, or-shr, xor-shr, and-step, or-step, xor-step, and-le-l, and-le-r, and-mask, xor-lt, xor-add-and, shifted-even}
+use lib.Bits.{differ, bitAnd, bitOr, bitXor, and-shr, or-shr, xor-shr, and-step, or-step, xor-step, and-le-l, and-le-r, xor-lt, xor-add-and, shifted-even}
 use lib.Pow.{field, mod-mod-pow, pow-pos, pow-mono, pow-add, shl-lt, shl-shr, shr-shr, ones-lt, ones-split, high, shl-exact}
 use Rattle.tracks.specs.Map.{bitAt}
 use Rattle.tracks.specs.Steps.{block}
@@ -115,7 +115,7 @@ ones-block lo n h =
     ap (λ (x : ℕ). x / 2 ^ k) (e ∙ ones-split n k) ∙ high (2 ^ n - 1) k (ones-lt k) in
     ap (λ (x : ℕ). (x * 2 ^ lo) % 2 ^ 64) t ∙ shl-exact n lo 64 (ones-lt n) (omega arith)
 
-pub all-ones : (j : ℕ) → j < 64 → bitAt (2 ^ 64 - 1) j ≡ 1
+pub all-ones : (j : ℕ) → j < 64 → bitAt 0xffff_ffff_ffff_ffff j ≡ 1
 unfolding block
 all-ones j h = ap (λ (y : ℕ). bitAt y j) (sym (mul-one (2 ^ 64 - 1))) ∙ block-in 0 64 j (omega arith) (omega arith)
 
@@ -156,14 +156,8 @@ lacks x m f n =
 
 -- ---- the complement
 
-pub not-bit : (x j : ℕ) → x < 2 ^ 64 → j < 64 → bitAt (0xffff_ffff_ffff_ffff - x) j ≡ 1 - bitAt x j
-not-bit x j f h =
-    let a : bitAnd x (2 ^ 64 - 1) ≡ x = and-mask x 64 ∙ mod-eq-of-lt f in
-    let s = xor-add-and x (2 ^ 64 - 1) in
-    let o : bitAt (2 ^ 64 - 1) j ≡ 1 = all-ones j h in
-    let b = xor-bit x (2 ^ 64 - 1) j in
-    let e : bitXor x (2 ^ 64 - 1) ≡ 0xffff_ffff_ffff_ffff - x = omega arith in
-    ap (λ (y : ℕ). bitAt y j) (sym e) ∙ omega arith
+pub not-bit : (x j : ℕ) → j < 64 → bitAt (bitXor x 0xffff_ffff_ffff_ffff) j ≡ 1 - bitAt x j
+not-bit x j h = omega (arith, xor-bit x 0xffff_ffff_ffff_ffff j, all-ones j h)
 
 -- ---- leading zeros, bit by bit from the top
 

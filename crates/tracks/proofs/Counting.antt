@@ -8,10 +8,9 @@ use native.Mathlib.Omega.{arith}
 use borrow.Author.Tests.{eq-eqb, ne-eqb}
 use lib.Dec.{eqb}
 use lib.ListN.{length, getD}
-use lib.Bits.{bitAnd, bitOr, and-le-l, or-lt}
-use lib.Pow.{shr-shr, shr-lt, pow-pos}
-use lib.Count.{ones, ones-step, ones-le}
-use native.Mathlib.Nat.{mod-lt}
+use lib.Bits.{bitAnd, bitOr, bitXor, and-le-l}
+use lib.Pow.{shr-shr}
+use lib.Count.{ones, ones-step}
 use Rattle.model.specs.Basics.{bit}
 use Rattle.model.specs.Model.{Run, run, runs, touch, join, joinIf}
 use Rattle.model.proofs.Runs.{Separate, runs-separate}
@@ -101,23 +100,20 @@ count-track m (suc t) = omega (arith, last-track (isFree m) t 0 t (omega arith),
 
 -- ---- a word
 
-pub starts-lt : (y x : ℕ) → x < 2 ^ 64 → bitOr (x / 2) (y * 2 ^ 63 % 2 ^ 64) < 2 ^ 64
-starts-lt y x h = or-lt 64 (x / 2) (y * 2 ^ 63 % 2 ^ 64) (omega arith) (mod-lt (y * 2 ^ 63) (pow-pos 64))
-
-pub starts-law : (y x : ℕ) → x < 2 ^ 64 → Starts y x (bitAnd x (0xffff_ffff_ffff_ffff - bitOr (x / 2) (y * 2 ^ 63 % 2 ^ 64)))
+pub starts-law : (y x : ℕ) → x < 2 ^ 64 → Starts y x (bitAnd x (bitXor (bitOr (x / 2) (y * 2 ^ 63 % 2 ^ 64)) 0xffff_ffff_ffff_ffff))
 starts-law y x h =
     let z = y * 2 ^ 63 % 2 ^ 64 in
     let b = bitOr (x / 2) z in
     let half : (j : ℕ) → bitAt (x / 2) j ≡ bitAt x (suc j) =
     λ j. let e : 1 + j ≡ suc j = omega arith in ap (λ (w : ℕ). w % 2) (shr-shr x 1 j) ∙ ap (bitAt x) e in
     record {
-      small = lt-of-le-of-lt (and-le-l x (0xffff_ffff_ffff_ffff - b)) h;
+      small = lt-of-le-of-lt (and-le-l x (bitXor b 0xffff_ffff_ffff_ffff)) h;
       top =
           let u : bitAt x 64 ≡ 0 = ap (λ (w : ℕ). w % 2) (div-eq-of-lt h) in
-          omega (arith, and-bit x (0xffff_ffff_ffff_ffff - b) 63, not-bit b 63 (starts-lt y x h) (omega arith), or-bit (x / 2) z 63, half 63, shifted y 63 0 (omega arith));
+          omega (arith, and-bit x (bitXor b 0xffff_ffff_ffff_ffff) 63, not-bit b 63 (omega arith), or-bit (x / 2) z 63, half 63, shifted y 63 0 (omega arith));
       rest = λ j k.
           let l : bitAt z j ≡ 0 = word-bit (y * 2 ^ 63) j (omega arith) ∙ shl-low y 63 j k in
-          omega (arith, and-bit x (0xffff_ffff_ffff_ffff - b) j, not-bit b j (starts-lt y x h) (omega arith), or-bit (x / 2) z j, half j);
+          omega (arith, and-bit x (bitXor b 0xffff_ffff_ffff_ffff) j, not-bit b j (omega arith), or-bit (x / 2) z j, half j);
     }
 
 module _ (m : List ℕ) (y r t : ℕ) (e : t % 64 ≡ 0) (q : bitAt y 0 ≡ bitBefore m t) (s : Starts y (getD m (t / 64) 0) r) where

@@ -123,13 +123,13 @@ hit-before m m′ s t e a c h =
 
 -- ---- the first track that is free, or is not
 
-flip-bit : (b : Bool) (x j : ℕ) → x < 2 ^ 64 → j < 64
+flip-bit : (b : Bool) (x j : ℕ) → j < 64
     → (bitAt (flipped b x) j ≡ 0 → bitAt x j ≡ 1 - bit b) × (bitAt (flipped b x) j ≡ 1 → bitAt x j ≡ bit b)
 unfolding flipped
-flip-bit true x j f h = (λ e. e, λ e. e)
-flip-bit false x j f h = let n = not-bit x j f h in let u : bitAt x j < 2 = omega arith in (λ e. omega arith, λ e. omega arith)
+flip-bit true x j h = (λ e. e, λ e. e)
+flip-bit false x j h = let n = not-bit x j h in let u : bitAt x j < 2 = omega arith in (λ e. omega arith, λ e. omega arith)
 
-module _ (m : List ℕ) (b : Bool) (t n : ℕ) (k : t % 64 + n ≤ 64) (f : getD m (t / 64) 0 < 2 ^ 64) where
+module _ (m : List ℕ) (b : Bool) (t n : ℕ) (k : t % 64 + n ≤ 64) where
   -- what the code counts the leading zeros of: the word from track t on, complemented where b is false
   abbrev pub word : ℕ
   word = flipped b (getD m (t / 64) 0) * 2 ^ (t % 64) % 2 ^ 64
@@ -145,7 +145,7 @@ module _ (m : List ℕ) (b : Bool) (t n : ℕ) (k : t % 64 + n ≤ 64) (f : getD
       let z = leading-zero word i small (omega arith) in
       let s = shifted (flipped b (getD m (t / 64) 0)) (t % 64) i (omega arith) in
       let p : 63 - (t % 64 + i) ≡ 63 - j % 64 = omega arith in
-      rw e (flip-bit b (getD m (t / 64) 0) (63 - j % 64) f (omega arith) .0 (ap (λ (q : ℕ). bitAt (flipped b (getD m (t / 64) 0)) q) (sym p) ∙ sym s ∙ z))
+      rw e (flip-bit b (getD m (t / 64) 0) (63 - j % 64) (omega arith) .0 (ap (λ (q : ℕ). bitAt (flipped b (getD m (t / 64) 0)) q) (sym p) ∙ sym s ∙ z))
 
   pub on-turn : leadingZeros 64 word < n → freeBit m (t + leadingZeros 64 word) ≡ bit b
   unfolding freeBit
@@ -156,7 +156,7 @@ module _ (m : List ℕ) (b : Bool) (t n : ℕ) (k : t % 64 + n ≤ 64) (f : getD
       let z = leading-one word small (omega arith) in
       let s = shifted (flipped b (getD m (t / 64) 0)) (t % 64) i (omega arith) in
       let p : 63 - (t % 64 + i) ≡ 63 - j % 64 = omega arith in
-      rw e (flip-bit b (getD m (t / 64) 0) (63 - j % 64) f (omega arith) .1 (ap (λ (q : ℕ). bitAt (flipped b (getD m (t / 64) 0)) q) (sym p) ∙ sym s ∙ z))
+      rw e (flip-bit b (getD m (t / 64) 0) (63 - j % 64) (omega arith) .1 (ap (λ (q : ℕ). bitAt (flipped b (getD m (t / 64) 0)) q) (sym p) ∙ sym s ∙ z))
 
 -- ---- the map at the beginning
 

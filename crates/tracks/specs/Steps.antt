@@ -4,6 +4,7 @@ use mathlib.Core.Path.{_≡_}
 use mathlib.Core.Bool.{Bool, true, false}
 use mathlib.Core.List.{List}
 use lib.Dec.{ltb}
+use lib.Bits.{bitXor}
 use Rattle.model.specs.Basics.{bit}
 use Rattle.tracks.specs.Map.{bitAt, freeBit}
 
@@ -18,7 +19,7 @@ WordAt a n r = (j : ℕ) → j < 64 → bitAt r (63 - j) ≡ bit (ltb (a + j) n)
 -- the word, or its complement
 unfoldable pub flipped : Bool → ℕ → ℕ
 flipped true x = x
-flipped false x = 0xffff_ffff_ffff_ffff - x
+flipped false x = bitXor x 0xffff_ffff_ffff_ffff
 
 -- r is the first track from s on and below n that is free (b true) or is not (b false); n where there is none
 pub record First (m : List ℕ) (b : Bool) (s n r : ℕ) : Type 0 where

@@ -89,7 +89,7 @@ pub fn give_range(map: &mut [u64], s: usize, e: usize)
 fn flip(x: u64, free: bool) -> u64
     ensures { λ r. ⌜ r ≡ flipped free x ⌝ }
 {
-    if free { x } else { ALL - x }
+    if free { x } else { x ^ ALL }
 }
 
 // The first track from s on and below n that is free (or is not); n where there is none.
@@ -133,7 +133,7 @@ fn starts(y: u64, x: u64) -> u64
     ensures { λ r. ⌜ Starts y x r ⌝ }
 {
     let behind = (x >> 1) | (y << 63);
-    x & (ALL - behind)
+    x & (behind ^ ALL)
 }
 
 // How many runs of free tracks there are below n: each has one start.

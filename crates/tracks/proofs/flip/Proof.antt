@@ -1,10 +1,6 @@
-use borrow.Author.Needs.{needs}
 use Rattle.tracks.specs.Steps.{flipped}
 use Rattle.tracks.proofs.flip.Statement.{statement}
 use Rattle.tracks.proofs.flip.Tie as tie
-
-sub-result : tie.Need-sub-result
-sub-result c = search needs
 
 returns : tie.Need-returns
 unfolding flipped
@@ -15,4 +11,4 @@ unfolding flipped
 returns-2 c = rw (c .if1 .left)
 
 pub flip-spec : {M : Type 1} → statement M
-flip-spec = tie.close (tie.spec sub-result returns returns-2)
+flip-spec = tie.close (tie.spec returns returns-2)

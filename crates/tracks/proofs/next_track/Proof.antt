@@ -1,10 +1,9 @@
 use mathlib.Core.Path.{_≡_, ap}
 use mathlib.Core.Logic.{⊎-elim}
-use Prim.Native.Nat.{ℕ, _≤_, _<_, _-_, _/_, _%_, _*_, _^_}
+use Prim.Native.Nat.{ℕ, _≤_, _<_, _-_, _%_, _*_, _^_}
 use native.Mathlib.Omega.{arith}
 use borrow.Author.Needs.{needs}
 use lib.Count.{leadingZeros, leading-le}
-use lib.ListN.{getD}
 use Rattle.tracks.proofs.Words.{off-turn, on-turn}
 use Rattle.tracks.proofs.Bits.{le-or-lt}
 use Rattle.tracks.specs.Map.{freeBit}
@@ -48,14 +47,13 @@ returns c =
     let b = c .before .before .before .before .before .before .before .args .free in
     let t = c .before .before .before .before .before .loop .t in
     let k = c .before .before .before .chunk .result in
-    let f : getD m (t / 64) 0 < 2 ^ 64 = c .before .before .before .before .before .before .shared-slice-known .given (t / 64) .fits in
     let e = ap (λ (x : ℕ). leadingZeros 64 (x * 2 ^ (t % 64) % 2 ^ 64)) (c .before .flip .ensures) in
     let z : leadingZeros 64 (c .before .flip .result * 2 ^ (t % 64) % 2 ^ 64) < k = c .if1 .taken in
     record {
       from = omega arith;
       to = omega arith;
-      before = λ j u v. ⊎-elim (λ g. off-turn m b t k (omega arith) f j g (omega arith) (omega arith)) (λ g. c .before .before .before .before .before .loop .inv .2 j u g) (le-or-lt t j);
-      here = λ _. rw e (on-turn m b t k (omega arith) f (omega arith));
+      before = λ j u v. ⊎-elim (λ g. off-turn m b t k (omega arith) j g (omega arith) (omega arith)) (λ g. c .before .before .before .before .before .loop .inv .2 j u g) (le-or-lt t j);
+      here = λ _. rw e (on-turn m b t k (omega arith) (omega arith));
     }
 
 add-t : tie.Need-add-t Inv-loop μ-loop
@@ -70,10 +68,9 @@ loop-again c =
     let b = c .before .before .before .before .before .before .before .args .free in
     let t = c .before .before .before .before .before .loop .t in
     let k = c .before .before .before .chunk .result in
-    let f : getD m (t / 64) 0 < 2 ^ 64 = c .before .before .before .before .before .before .shared-slice-known .given (t / 64) .fits in
     let e = ap (λ (x : ℕ). leadingZeros 64 (x * 2 ^ (t % 64) % 2 ^ 64)) (c .before .flip .ensures) in
     let z : k ≤ leadingZeros 64 (c .before .flip .result * 2 ^ (t % 64) % 2 ^ 64) = c .if1 .left in
-    (omega arith, omega arith, λ j u v. ⊎-elim (λ g. off-turn m b t k (omega arith) f j g v (omega arith)) (λ g. c .before .before .before .before .before .loop .inv .2 j u g) (le-or-lt t j))
+    (omega arith, omega arith, λ j u v. ⊎-elim (λ g. off-turn m b t k (omega arith) j g v (omega arith)) (λ g. c .before .before .before .before .before .loop .inv .2 j u g) (le-or-lt t j))
 
 returns-2 : tie.Need-returns-2 Inv-loop μ-loop
 returns-2 c =

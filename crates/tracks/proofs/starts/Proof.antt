@@ -1,13 +1,10 @@
 use native.Mathlib.Omega.{arith}
-use Rattle.tracks.proofs.Counting.{starts-lt, starts-law}
+use Rattle.tracks.proofs.Counting.{starts-law}
 use Rattle.tracks.proofs.starts.Statement.{statement}
 use Rattle.tracks.proofs.starts.Tie as tie
-
-sub-result : tie.Need-sub-result
-sub-result c = omega (arith, starts-lt (c .args .y) (c .args .x) (omega arith))
 
 returns : tie.Need-returns
 returns c = starts-law (c .args .y) (c .args .x) (omega arith)
 
 pub starts-spec : {M : Type 1} → statement M
-starts-spec = tie.close (tie.spec sub-result returns)
+starts-spec = tie.close (tie.spec returns)
