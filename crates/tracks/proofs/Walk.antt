@@ -96,6 +96,13 @@ next-run-law m n s a b f g =
 
 -- ---- for a caller that goes from run to run
 
+-- it comes further with each call
+pub goes-on : (m : List ℕ) (n s a b : ℕ) → NextRun m n s a b → s < n → s < b
+goes-on m n s a b r h =
+    let f = r .from in
+    let l = r .low in
+    ⊎-elim (λ u. omega arith) (λ u. let p = r .more u .0 in omega arith) (le-or-lt n a)
+
 pub free-from-zero : (m : List ℕ) (n : ℕ) → freeFrom m n 0 ≡ runs (isFree m) 0 n
 unfolding freeFrom
 free-from-zero m n = let e : n - 0 ≡ n = omega arith in ap (runs (isFree m) 0) e

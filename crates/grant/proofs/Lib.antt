@@ -1,0 +1,5 @@
+pub mod Bounds
+pub mod Longest
+pub mod BestFit
+pub mod Entering
+pub mod Passing
