@@ -3,3 +3,5 @@ pub mod Longest
 pub mod BestFit
 pub mod Entering
 pub mod Passing
+pub mod Gathering
+pub mod Choosing

@@ -80,3 +80,73 @@ fn survey(map: &[u64], n: usize, u: u32, amount: u32, five: &mut [[u32; 2]; 5]) 
     }
     best
 }
+
+// A piece: the tracks of some units.
+fn piece(u: u32, start: u32, count: u32) -> [u16; 2]
+    requires { ⌜ (start * u ≤ 65535) × (count * u ≤ 65535) ⌝ }
+    ensures { λ r. ⌜ r ≡ row (scale u (run start count)) ⌝ }
+{
+    let s = start * u;
+    let n = count * u;
+    [s as u16, n as u16]
+}
+
+// How many units the five longest have.
+fn sum(five: [[u32; 2]; 5], u: u32) -> u32
+    requires { ⌜ (1 ≤ u) × Within u (toRuns five) ⌝ }
+    ensures { λ r. ⌜ r ≡ total (toRuns five) ⌝ }
+{
+    five[0][1] + five[1][1] + five[2][1] + five[3][1] + five[4][1]
+}
+
+// What is granted: how many pieces, none where it is 0, and their tracks.
+pub struct Chosen {
+    pub count: usize,
+    pub tracks: u32,
+}
+
+// Takes whole candidates while the rest is longer than the next one, which gives its first part.
+fn fill(five: [[u32; 2]; 5], u: u32, amount: u32, pieces: &mut [[u16; 2]; 5]) -> Chosen
+    requires { ⌜ (1 ≤ u) × (u ≤ 255) × (1 ≤ amount) × (amount ≤ 16777215) × (amount ≤ total (toRuns five)) ⌝ }
+    requires { ⌜ Within u (toRuns five) × (length (now pieces) ≡ 5) ⌝ }
+    ensures { λ r. ⌜ grant (r .count) (r .tracks) (now (pieces .exit)) ≡ replyOf (mapOption (map (scale u)) (gather amount (toRuns five))) (now (pieces .entry)) ⌝ }
+{
+    let mut rest = amount;
+    let mut k: usize = 0;
+    let mut next = five[0];
+    while next[1] < rest {
+        pieces[k] = piece(u, next[0], next[1]);
+        rest -= next[1];
+        k += 1;
+        next = five[k];
+    }
+    pieces[k] = piece(u, next[0], rest);
+    Chosen {
+        count: k + 1,
+        tracks: amount * u,
+    }
+}
+
+// The pieces for an amount of units of u tracks, out of the free tracks below n.
+pub fn choose(map: &[u64], n: usize, u: u32, amount: u32, pieces: &mut [[u16; 2]; 5]) -> Chosen
+    requires { ⌜ (n ≤ 65535) × (n ≤ 64 * length (now map)) × (1 ≤ u) × (u ≤ 255) ⌝ }
+    requires { ⌜ (1 ≤ amount) × (amount ≤ 16777215) × (length (now pieces) ≡ 5) ⌝ }
+    ensures { λ r. ⌜ grant (r .count) (r .tracks) (now (pieces .exit)) ≡ replyOf (grantedRuns u amount (freeFrom (now (map .entry)) n 0)) (now (pieces .entry)) ⌝ }
+{
+    let mut five = [[0u32; 2]; 5];
+    let best = survey(map, n, u, amount, &mut five);
+    if best.count != 0 {
+        pieces[0] = piece(u, best.start, amount);
+        return Chosen {
+            count: 1,
+            tracks: amount * u,
+        };
+    }
+    if sum(five, u) < amount {
+        return Chosen {
+            count: 0,
+            tracks: 0,
+        };
+    }
+    fill(five, u, amount, pieces)
+}
