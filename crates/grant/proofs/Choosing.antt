@@ -10,13 +10,13 @@ use borrow.Author.Tests.{leb-true, leb-false, le-leb, lt-leb}
 use lib.ListN.{length, getD, set, take, drop}
 use lib.Dec.{T, leb, leb→le}
 use Rattle.model.specs.Basics.{filter, keepIf, orElse, mapOption}
-use Rattle.model.specs.Model.{Run, run, runs, total}
+use Rattle.model.specs.Model.{Run, run, total}
 use Rattle.model.specs.Choice.{wholeIn, candidates, serving, shorter, shortest, longestFirst, firstPart, gather, oneOrFive, choose, scale}
 use Rattle.model.proofs.Lists.{by, All, All-map, All-filter, All-both, filter-pass, some-is}
-use Rattle.model.proofs.Runs.{Separate, runs-separate}
+use Rattle.model.proofs.Runs.{Separate}
 use Rattle.model.proofs.Choose.{sorted-All}
-use Rattle.tracks.specs.Map.{isFree, freeFrom}
-use Rattle.tracks.proofs.Walk.{free-from-zero}
+use Rattle.tracks.specs.Map.{freeFrom}
+use Rattle.tracks.proofs.Held.{free-apart}
 use Rattle.grant.specs.Grant.{grantedRuns, row, grant, replyOf}
 use Rattle.grant.specs.Pass.{noRun, runOrNone, padded, Surveyed, Within}
 use Rattle.grant.proofs.Gathering.{gather-padded, gather-short}
@@ -40,10 +40,7 @@ candidates-end u lo hi (r ∷ f) s =
     (λ h. rw h i)
 
 free-end : (u n : ℕ) (m : List ℕ) → All (Ends u n) (candidates u (freeFrom m n 0))
-free-end u n m =
-    let z : 0 + n ≡ n = omega arith in
-    subst (λ (f : List Run). All (Ends u n) (candidates u f)) (sym (free-from-zero m n))
-    (candidates-end u 0 n (runs (isFree m) 0 n) (subst (λ (x : ℕ). Separate 0 x (runs (isFree m) 0 n)) z (runs-separate (isFree m) 0 n)))
+free-end u n m = candidates-end u 0 n (freeFrom m n 0) (free-apart m n)
 
 padded-at : (u n k : ℕ) (ds : List Run) → All (Ends u n) ds → (j : ℕ) → (getD (padded k ds) j noRun .start + getD (padded k ds) j noRun .count) * u ≤ n
 unfolding padded

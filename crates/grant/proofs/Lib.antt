@@ -5,3 +5,4 @@ pub mod Entering
 pub mod Passing
 pub mod Gathering
 pub mod Choosing
+pub mod Reply

@@ -6,10 +6,10 @@ ghost use Prim.Native.Nat.{_-_, _*_, _≤_};
 ghost use lib.ListN.{length};
 ghost use Rattle.model.specs.Basics.{mapOption};
 ghost use Rattle.model.specs.Model.{run, total};
-ghost use Rattle.model.specs.Choice.{wholeIn, scale, gather};
+ghost use Rattle.model.specs.Choice.{wholeIn, firstPart, gather, scale};
 ghost use Rattle.tracks.specs.Map.{freeFrom};
 ghost use Rattle.grant.specs.Grant.{grantedRuns, row, grant, replyOf};
-ghost use Rattle.grant.specs.Pass.{toRuns, padded, fitsBetter, entered, Surveyed, Within};
+ghost use Rattle.grant.specs.Pass.{toRun, toRuns, padded, fitsBetter, entered, Surveyed, Within};
 
 // Units that follow each other: the first, and how many; none where the count is 0.
 struct Units {
@@ -81,14 +81,14 @@ fn survey(map: &[u64], n: usize, u: u32, amount: u32, five: &mut [[u32; 2]; 5]) 
     best
 }
 
-// A piece: the tracks of some units.
-fn piece(u: u32, start: u32, count: u32) -> [u16; 2]
-    requires { ⌜ (start * u ≤ 65535) × (count * u ≤ 65535) ⌝ }
-    ensures { λ r. ⌜ r ≡ row (scale u (run start count)) ⌝ }
+// A piece: the tracks of the first n units of a candidate.
+fn piece(u: u32, c: [u32; 2], n: u32) -> [u16; 2]
+    requires { ⌜ (toRun c .start * u ≤ 65535) × (n * u ≤ 65535) ⌝ }
+    ensures { λ r. ⌜ r ≡ row (scale u (firstPart n (toRun c))) ⌝ }
 {
-    let s = start * u;
-    let n = count * u;
-    [s as u16, n as u16]
+    let start = c[0] * u;
+    let count = n * u;
+    [start as u16, count as u16]
 }
 
 // How many units the five longest have.
@@ -115,16 +115,17 @@ fn fill(five: [[u32; 2]; 5], u: u32, amount: u32, pieces: &mut [[u16; 2]; 5]) ->
     let mut k: usize = 0;
     let mut next = five[0];
     while next[1] < rest {
-        pieces[k] = piece(u, next[0], next[1]);
+        let all = piece(u, next, next[1]);
+        pieces[k] = all;
         rest -= next[1];
         k += 1;
         next = five[k];
     }
-    pieces[k] = piece(u, next[0], rest);
-    Chosen {
-        count: k + 1,
-        tracks: amount * u,
-    }
+    let last = piece(u, next, rest);
+    pieces[k] = last;
+    let count = k + 1;
+    let tracks = amount * u;
+    Chosen { count, tracks }
 }
 
 // The pieces for an amount of units of u tracks, out of the free tracks below n.
@@ -136,11 +137,10 @@ pub fn choose(map: &[u64], n: usize, u: u32, amount: u32, pieces: &mut [[u16; 2]
     let mut five = [[0u32; 2]; 5];
     let best = survey(map, n, u, amount, &mut five);
     if best.count != 0 {
-        pieces[0] = piece(u, best.start, amount);
-        return Chosen {
-            count: 1,
-            tracks: amount * u,
-        };
+        let part = piece(u, [best.start, best.count], amount);
+        pieces[0] = part;
+        let tracks = amount * u;
+        return Chosen { count: 1, tracks };
     }
     if sum(five, u) < amount {
         return Chosen {

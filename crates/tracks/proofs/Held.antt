@@ -12,9 +12,10 @@ use lib.ListN.{length}
 use Rattle.model.specs.Basics.{bit}
 use Rattle.model.specs.Model.{Run, run, runs, covers, times, gaps}
 use Rattle.model.proofs.Lists.{by}
-use Rattle.model.proofs.Runs.{Once, canonical, runs-separate, runs-times, hit-in, hit-below, hit-above, bit-zero}
-use Rattle.tracks.specs.Map.{freeBit, isFree, Shows, Begun, Made, AllFree, Hit, Taken, Given}
+use Rattle.model.proofs.Runs.{Separate, Once, canonical, runs-separate, runs-times, hit-in, hit-below, hit-above, bit-zero}
+use Rattle.tracks.specs.Map.{freeBit, isFree, freeFrom, Shows, Begun, Made, AllFree, Hit, Taken, Given}
 use Rattle.tracks.proofs.Bits.{le-or-lt}
+use Rattle.tracks.proofs.Walk.{free-from-zero}
 use Rattle.tracks.proofs.Counting.{bit-of, free-le}
 
 -- ---- `Shows` from call to call
@@ -93,14 +94,29 @@ map-gaps m n hs h =
     let c = bit-zero (times t hs) (omega arith) in
     omega arith)
 
+-- the same of the runs that the functions speak of
+pub free-gaps : (m : List ℕ) (n : ℕ) (hs : List Run) → Shows m n hs → freeFrom m n 0 ≡ gaps hs n
+free-gaps m n hs h = free-from-zero m n ∙ map-gaps m n hs h
+
+-- no two of them touch
+pub free-apart : (m : List ℕ) (n : ℕ) → Separate 0 n (freeFrom m n 0)
+free-apart m n =
+    let z : 0 + n ≡ n = omega arith in
+    subst (Separate 0 n) (sym (free-from-zero m n)) (subst (λ (x : ℕ). Separate 0 x (runs (isFree m) 0 n)) z (runs-separate (isFree m) 0 n))
+
 -- ---- taking runs that are known to be free, one after the other
 
 -- the runs lie in free tracks, none of them twice
 abbrev pub Room : List ℕ → ℕ → List Run → Type 0
 Room m n ps = (t : ℕ) → t < n → times t ps ≤ freeBit m t
 
-pub room-runs : (m : List ℕ) (n : ℕ) (ps : List Run) → ((t : ℕ) → times t ps ≤ times t (runs (isFree m) 0 n)) → Room m n ps
-room-runs m n ps h t u = let a = runs-times (isFree m) 0 n t (omega arith) (omega arith) in let b = bit-of m t in let c = h t in omega arith
+pub room-free : (m : List ℕ) (n : ℕ) (ps : List Run) → ((t : ℕ) → times t ps ≤ times t (freeFrom m n 0)) → Room m n ps
+room-free m n ps h t u =
+    let a = runs-times (isFree m) 0 n t (omega arith) (omega arith) in
+    let b = bit-of m t in
+    let c = h t in
+    let d = ap (times t) (free-from-zero m n) in
+    omega arith
 
 pub room-first : (m : List ℕ) (n s c : ℕ) (ps : List Run) → Room m n (run s c ∷ ps) → s + c ≤ n → AllFree m s (s + c)
 room-first m n s c ps r h t a b = let x = hit-in (run s c) t a b in let y = r t (omega arith) in let z = free-le m t in omega arith
