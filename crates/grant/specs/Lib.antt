@@ -1,0 +1,2 @@
+pub mod Grant
+pub mod Pass

@@ -1,0 +1,52 @@
+-- One pass over the free extents: the best fit so far and the five longest so far, in units. Assumes nothing.
+use Prim.Native.Nat.{ℕ, zero, suc, _+_, _*_, _≤_}
+use mathlib.Core.Path.{_≡_}
+use mathlib.Core.Bool.{Bool, true, false, cond, _&&_, _||_}
+use mathlib.Core.Option.{Option, none, some}
+use mathlib.Core.List.{List, [], _∷_, map}
+use lib.ListN.{getD}
+use lib.Dec.{leb, ltb, eqb}
+use Rattle.model.specs.Basics.{orElse}
+use Rattle.model.specs.Model.{Run, run}
+use Rattle.model.specs.Choice.{candidates, serving, shortest, longestFirst}
+
+-- candidates as the code holds them, first unit and count, and none where the count is 0
+abbrev pub toRun : List ℕ → Run
+toRun r = run (getD r 0 0) (getD r 1 0)
+
+abbrev pub toRuns : List (List ℕ) → List Run
+toRuns rs = map toRun rs
+
+abbrev pub noRun : Run
+noRun = run 0 0
+
+unfoldable pub runOrNone : Run → Option Run
+runOrNone c = orElse (leb 1 (c .count)) c none
+
+-- the first k of ds, filled up where ds has fewer
+unfoldable pub padded : ℕ → List Run → List Run
+padded zero ds = []
+padded (suc k) [] = noRun ∷ padded k []
+padded (suc k) (d ∷ ds) = d ∷ padded k ds
+
+-- k units serve n units, and better than m units do, 0 for none: as well is not better, so that the earlier one stays
+unfoldable pub fitsBetter : ℕ → ℕ → ℕ → Bool
+fitsBetter n m k = leb n k && (eqb m 0 || ltb k m)
+
+-- c goes in front of the first that is shorter than n, and each from there on one place down
+unfoldable pub placed : ℕ → Run → List Run → List Run
+placed n c [] = []
+placed n c (d ∷ ds) = cond (ltb (d .count) n) (c ∷ placed n d ds) (d ∷ placed n c ds)
+
+-- c among the five longest, behind those that are as long: nothing is to do where the fifth is as long as c
+unfoldable pub entered : Run → List Run → List Run
+entered c ds = cond (ltb (getD ds 4 noRun .count) (c .count)) (placed (c .count) c ds) ds
+
+-- what the pass has found: the best fit for n units, and the five longest candidates
+pub record Surveyed (u n : ℕ) (f : List Run) (best : Run) (five : List Run) : Type 0 where
+  pub fit : runOrNone best ≡ shortest (serving n (candidates u f))
+  pub longest : five ≡ padded 5 (longestFirst (candidates u f))
+
+-- the tracks of each candidate have numbers of 16 bits
+abbrev pub Within : ℕ → List Run → Type 0
+Within u ds = (k : ℕ) → (getD ds k noRun .start + getD ds k noRun .count) * u ≤ 65535

@@ -1,0 +1,152 @@
+// The choice of pieces out of the free tracks, for any unit: 1 track, or the tracks of a cylinder.
+// One pass over the map's runs finds the best fit and the five longest candidates.
+ghost use mathlib.Core.Path.{_≡_};
+ghost use mathlib.Core.List.{[], map};
+ghost use Prim.Native.Nat.{_-_, _*_, _≤_};
+ghost use lib.ListN.{length};
+ghost use Rattle.model.specs.Basics.{mapOption};
+ghost use Rattle.model.specs.Model.{run, total};
+ghost use Rattle.model.specs.Choice.{wholeIn, firstPart, gather, scale};
+ghost use Rattle.tracks.specs.Map.{freeFrom};
+ghost use Rattle.grant.specs.Grant.{grantedRuns, row, grant, replyOf};
+ghost use Rattle.grant.specs.Pass.{toRun, toRuns, padded, fitsBetter, entered, Surveyed, Within};
+
+// Units that follow each other: the first, and how many; none where the count is 0.
+struct Units {
+    start: u32,
+    count: u32,
+}
+
+// The whole units of u tracks from track `from` up to track `to`.
+fn whole(u: u32, from: usize, to: usize) -> Units
+    requires { ⌜ (1 ≤ u) × (u ≤ 255) × (from ≤ to) × (to ≤ 65535) ⌝ }
+    ensures { λ r. ⌜ run (r .start) (r .count) ≡ wholeIn u (run from (to - from)) ⌝ }
+{
+    let start = (from as u32 + u - 1) / u;
+    let end = to as u32 / u;
+    if end < start {
+        return Units { start, count: 0 };
+    }
+    Units {
+        start,
+        count: end - start,
+    }
+}
+
+// Whether a candidate of that size serves the amount, and better than the best so far, 0 for none.
+fn fits_better(amount: u32, best: u32, size: u32) -> bool
+    ensures { λ r. ⌜ r ≡ fitsBetter amount best size ⌝ }
+{
+    amount <= size && (best == 0 || size < best)
+}
+
+// Enters a candidate among the five longest, behind those that are as long.
+fn enter(five: &mut [[u32; 2]; 5], c: Units)
+    requires { ⌜ length (now five) ≡ 5 ⌝ }
+    ensures { λ _. ⌜ (length (now (five .exit)) ≡ 5) × (toRuns (now (five .exit)) ≡ entered (run (c .start) (c .count)) (toRuns (now (five .entry)))) ⌝ }
+{
+    let size = c.count;
+    if size <= five[4][1] {
+        return;
+    }
+    let mut held = [c.start, size];
+    let mut k: usize = 0;
+    while k < 5 {
+        let d = five[k];
+        if d[1] < size {
+            five[k] = held;
+            held = d;
+        }
+        k += 1;
+    }
+}
+
+// One pass over the free tracks below n: the best fit is the result, the five longest go into `five`.
+fn survey(map: &[u64], n: usize, u: u32, amount: u32, five: &mut [[u32; 2]; 5]) -> Units
+    requires { ⌜ (n ≤ 65535) × (n ≤ 64 * length (now map)) × (1 ≤ u) × (u ≤ 255) × (1 ≤ amount) ⌝ }
+    requires { ⌜ (length (now five) ≡ 5) × (toRuns (now five) ≡ padded 5 []) ⌝ }
+    ensures { λ r. ⌜ Surveyed u amount (freeFrom (now (map .entry)) n 0) (run (r .start) (r .count)) (toRuns (now (five .exit))) ⌝ }
+{
+    let mut best = Units { start: 0, count: 0 };
+    let mut at: usize = 0;
+    while at < n {
+        let free = tracks::next_run(map, at, n);
+        let c = whole(u, free.from, free.to);
+        if fits_better(amount, best.count, c.count) {
+            best = c;
+        }
+        enter(five, c);
+        at = free.to;
+    }
+    best
+}
+
+// A piece: the tracks of the first n units of a candidate.
+fn piece(u: u32, c: [u32; 2], n: u32) -> [u16; 2]
+    requires { ⌜ (toRun c .start * u ≤ 65535) × (n * u ≤ 65535) ⌝ }
+    ensures { λ r. ⌜ r ≡ row (scale u (firstPart n (toRun c))) ⌝ }
+{
+    let start = c[0] * u;
+    let count = n * u;
+    [start as u16, count as u16]
+}
+
+// How many units the five longest have.
+fn sum(five: [[u32; 2]; 5], u: u32) -> u32
+    requires { ⌜ (1 ≤ u) × Within u (toRuns five) ⌝ }
+    ensures { λ r. ⌜ r ≡ total (toRuns five) ⌝ }
+{
+    five[0][1] + five[1][1] + five[2][1] + five[3][1] + five[4][1]
+}
+
+// What is granted: how many pieces, none where it is 0, and their tracks.
+pub struct Chosen {
+    pub count: usize,
+    pub tracks: u32,
+}
+
+// Takes whole candidates while the rest is longer than the next one, which gives its first part.
+fn fill(five: [[u32; 2]; 5], u: u32, amount: u32, pieces: &mut [[u16; 2]; 5]) -> Chosen
+    requires { ⌜ (1 ≤ u) × (u ≤ 255) × (1 ≤ amount) × (amount ≤ 16777215) × (amount ≤ total (toRuns five)) ⌝ }
+    requires { ⌜ Within u (toRuns five) × (length (now pieces) ≡ 5) ⌝ }
+    ensures { λ r. ⌜ grant (r .count) (r .tracks) (now (pieces .exit)) ≡ replyOf (mapOption (map (scale u)) (gather amount (toRuns five))) (now (pieces .entry)) ⌝ }
+{
+    let mut rest = amount;
+    let mut k: usize = 0;
+    let mut next = five[0];
+    while next[1] < rest {
+        let all = piece(u, next, next[1]);
+        pieces[k] = all;
+        rest -= next[1];
+        k += 1;
+        next = five[k];
+    }
+    let last = piece(u, next, rest);
+    pieces[k] = last;
+    let count = k + 1;
+    let tracks = amount * u;
+    Chosen { count, tracks }
+}
+
+// The pieces for an amount of units of u tracks, out of the free tracks below n.
+pub fn choose(map: &[u64], n: usize, u: u32, amount: u32, pieces: &mut [[u16; 2]; 5]) -> Chosen
+    requires { ⌜ (n ≤ 65535) × (n ≤ 64 * length (now map)) × (1 ≤ u) × (u ≤ 255) ⌝ }
+    requires { ⌜ (1 ≤ amount) × (amount ≤ 16777215) × (length (now pieces) ≡ 5) ⌝ }
+    ensures { λ r. ⌜ grant (r .count) (r .tracks) (now (pieces .exit)) ≡ replyOf (grantedRuns u amount (freeFrom (now (map .entry)) n 0)) (now (pieces .entry)) ⌝ }
+{
+    let mut five = [[0u32; 2]; 5];
+    let best = survey(map, n, u, amount, &mut five);
+    if best.count != 0 {
+        let part = piece(u, [best.start, best.count], amount);
+        pieces[0] = part;
+        let tracks = amount * u;
+        return Chosen { count: 1, tracks };
+    }
+    if sum(five, u) < amount {
+        return Chosen {
+            count: 0,
+            tracks: 0,
+        };
+    }
+    fill(five, u, amount, pieces)
+}

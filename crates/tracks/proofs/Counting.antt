@@ -1,0 +1,156 @@
+-- The number of runs: one for each track that passes behind one that does not. Assumes nothing.
+use mathlib.Core.Path.{_≡_, refl, sym, ap, _∙_, subst}
+use mathlib.Core.Bool.{Bool, true, false}
+use mathlib.Core.List.{List, [], _∷_}
+use Prim.Native.Nat.{ℕ, zero, suc, _+_, _-_, _*_, _/_, _%_, _^_, _≤_, _<_, min}
+use native.Mathlib.Nat.{le-refl, div-eq-of-lt, lt-of-le-of-lt}
+use native.Mathlib.Omega.{arith}
+use borrow.Author.Tests.{eq-eqb, ne-eqb}
+use lib.Dec.{eqb}
+use lib.ListN.{length, getD}
+use lib.Bits.{bitAnd, bitOr, bitXor, and-le-l}
+use lib.Pow.{shr-shr}
+use lib.Count.{ones, ones-step}
+use Rattle.model.specs.Basics.{bit}
+use Rattle.model.specs.Model.{Run, run, runs, touch, join, joinIf, Separate}
+use Rattle.model.proofs.Runs.{runs-separate}
+use Rattle.tracks.specs.Map.{bitAt, freeBit, isFree}
+use Rattle.tracks.specs.Steps.{Starts}
+use Rattle.tracks.proofs.Bits.{and-bit, or-bit, not-bit, word-bit, shl-low, shifted}
+use Rattle.tracks.proofs.Words.{in-word}
+
+-- ---- joining a track to the runs behind it
+
+joined : (a : ℕ) (rs : List Run) → length (join a (join (suc a) rs)) ≡ length (join (suc a) rs)
+joined a [] = ap (λ (b : Bool). length (touch b a (run (suc a) 1) [])) (eq-eqb (suc a) (suc a) refl)
+joined a (r ∷ rs) = go (eqb (r .start) (suc (suc a)))
+  where
+    go : (b : Bool) → length (join a (touch b (suc a) r rs)) ≡ length (touch b (suc a) r rs)
+    go true = ap (λ (b : Bool). length (touch b a (run (suc a) (suc (r .count))) rs)) (eq-eqb (suc a) (suc a) refl)
+    go false = ap (λ (b : Bool). length (touch b a (run (suc a) 1) (r ∷ rs))) (eq-eqb (suc a) (suc a) refl)
+
+apart : (a hi : ℕ) (rs : List Run) → Separate (suc (suc a)) hi rs → length (join a rs) ≡ suc (length rs)
+apart a hi [] s = refl
+apart a hi (r ∷ rs) s = ap (λ (b : Bool). length (touch b a r rs)) (ne-eqb (r .start) (suc a) (λ e. absurd (omega (arith, s .0))))
+
+two : (b c : Bool) (a hi : ℕ) (rs : List Run) → Separate (suc (suc a)) hi rs
+    → length (joinIf b a (joinIf c (suc a) rs)) + min (bit b) (bit c) ≡ length (joinIf c (suc a) rs) + bit b
+two true true a hi rs s = let e = joined a rs in omega arith
+two true false a hi rs s = let e = apart a hi rs s in omega arith
+two false c a hi rs s = omega arith
+
+at-most : (b : Bool) (a : ℕ) (rs : List Run) → length (joinIf b a rs) ≤ suc (length rs)
+at-most true a [] = le-refl 1
+at-most true a (r ∷ rs) = go (eqb (r .start) (suc a))
+  where
+    go : (b : Bool) → length (touch b a r rs) ≤ suc (suc (length rs))
+    go true = omega arith
+    go false = omega arith
+at-most false a rs = omega arith
+
+-- ---- one track more at either end
+
+module _ (p : ℕ → Bool) where
+  pub runs-length : (a n : ℕ) → length (runs p a n) ≤ n
+  runs-length a zero = le-refl 0
+  runs-length a (suc n) = let e = runs-length (suc a) n in let k = at-most (p a) a (runs p (suc a) n) in omega arith
+
+  first-track : (a n : ℕ) → length (runs p a (suc (suc n))) + min (bit (p a)) (bit (p (suc a))) ≡ length (runs p (suc a) (suc n)) + bit (p a)
+  first-track a n = two (p a) (p (suc a)) a (suc (suc a) + n) (runs p (suc (suc a)) n) (runs-separate p (suc (suc a)) n)
+
+  pub one-track : (a : ℕ) → length (runs p a 1) ≡ bit (p a)
+  one-track a = go (p a)
+    where
+      go : (b : Bool) → length (joinIf b a []) ≡ bit b
+      go true = refl
+      go false = refl
+
+  last-track : (n a t : ℕ) → a + n ≡ t → length (runs p a (suc (suc n))) + min (bit (p t)) (bit (p (suc t))) ≡ length (runs p a (suc n)) + bit (p (suc t))
+  last-track zero a t e =
+      let q : a ≡ t = omega arith in
+      subst (λ (x : ℕ). length (runs p a 2) + min (bit (p x)) (bit (p (suc x))) ≡ length (runs p a 1) + bit (p (suc x))) q
+      (omega (arith, first-track a 0, one-track a, one-track (suc a)))
+  last-track (suc n) a t e =
+      let i = last-track n (suc a) t (omega arith) in
+      omega (arith, first-track a (suc n), first-track a n)
+
+-- ---- the map's bits
+
+pub free-le : (m : List ℕ) (t : ℕ) → freeBit m t ≤ 1
+unfolding freeBit
+free-le m t = omega arith
+
+pub bit-of : (m : List ℕ) (t : ℕ) → bit (isFree m t) ≡ freeBit m t
+unfolding isFree
+bit-of m t = go (freeBit m t) (free-le m t)
+  where
+    go : (x : ℕ) → x ≤ 1 → bit (eqb x 1) ≡ x
+    go zero h = ap bit (ne-eqb 0 1 (λ e. absurd (omega arith)))
+    go (suc zero) h = ap bit (eq-eqb 1 1 refl)
+    go (suc (suc x)) h = absurd (omega arith)
+
+-- the bit of the track before t; none is before track 0
+abbrev pub bitBefore : List ℕ → ℕ → ℕ
+bitBefore m zero = 0
+bitBefore m (suc t) = freeBit m t
+
+count-track : (m : List ℕ) (t : ℕ) → length (runs (isFree m) 0 (suc t)) ≡ length (runs (isFree m) 0 t) + min (freeBit m t) (1 - bitBefore m t)
+count-track m zero = omega (arith, one-track (isFree m) 0, bit-of m 0, free-le m 0)
+count-track m (suc t) = omega (arith, last-track (isFree m) t 0 t (omega arith), bit-of m t, bit-of m (suc t), free-le m t, free-le m (suc t))
+
+-- ---- a word
+
+pub starts-law : (y x : ℕ) → x < 2 ^ 64 → Starts y x (bitAnd x (bitXor (bitOr (x / 2) (y * 2 ^ 63 % 2 ^ 64)) 0xffff_ffff_ffff_ffff))
+starts-law y x h =
+    let z = y * 2 ^ 63 % 2 ^ 64 in
+    let b = bitOr (x / 2) z in
+    let half : (j : ℕ) → bitAt (x / 2) j ≡ bitAt x (suc j) =
+    λ j. let e : 1 + j ≡ suc j = omega arith in ap (λ (w : ℕ). w % 2) (shr-shr x 1 j) ∙ ap (bitAt x) e in
+    record {
+      small = lt-of-le-of-lt (and-le-l x (bitXor b 0xffff_ffff_ffff_ffff)) h;
+      top =
+          let u : bitAt x 64 ≡ 0 = ap (λ (w : ℕ). w % 2) (div-eq-of-lt h) in
+          omega (arith, and-bit x (bitXor b 0xffff_ffff_ffff_ffff) 63, not-bit b 63 (omega arith), or-bit (x / 2) z 63, half 63, shifted y 63 0 (omega arith));
+      rest = λ j k.
+          let l : bitAt z j ≡ 0 = word-bit (y * 2 ^ 63) j (omega arith) ∙ shl-low y 63 j k in
+          omega (arith, and-bit x (bitXor b 0xffff_ffff_ffff_ffff) j, not-bit b j (omega arith), or-bit (x / 2) z j, half j);
+    }
+
+module _ (m : List ℕ) (y r t : ℕ) (e : t % 64 ≡ 0) (q : bitAt y 0 ≡ bitBefore m t) (s : Starts y (getD m (t / 64) 0) r) where
+  start-bit : (k : ℕ) → k < 64 → bitAt r (63 - k) ≡ min (freeBit m (t + k)) (1 - bitBefore m (t + k))
+  start-bit zero h =
+      let z : t + 0 ≡ t = omega arith in
+      let w : 63 - t % 64 ≡ 63 = omega arith in
+      let x = ap (bitAt (getD m (t / 64) 0)) (sym w) ∙ in-word m (t / 64) t refl in
+      subst (λ (i : ℕ). bitAt r 63 ≡ min (freeBit m i) (1 - bitBefore m i)) (sym z) (omega (arith, s .top))
+  start-bit (suc k) h =
+      let z : t + suc k ≡ suc (t + k) = omega arith in
+      let j = 63 - suc k in
+      let u : 63 - suc (t + k) % 64 ≡ j = omega arith in
+      let v : 63 - (t + k) % 64 ≡ suc j = omega arith in
+      let a = ap (bitAt (getD m (t / 64) 0)) (sym u) ∙ in-word m (t / 64) (suc (t + k)) (omega arith) in
+      let b = ap (bitAt (getD m (t / 64) 0)) (sym v) ∙ in-word m (t / 64) (t + k) (omega arith) in
+      subst (λ (i : ℕ). bitAt r j ≡ min (freeBit m i) (1 - bitBefore m i)) (sym z) (omega (arith, s .rest j (omega arith)))
+
+  -- the starts among the first k tracks of the word
+  pub count-turn : (k : ℕ) → k ≤ 64 → length (runs (isFree m) 0 (t + k)) ≡ length (runs (isFree m) 0 t) + ones (r / 2 ^ (64 - k))
+  unfolding ones
+  count-turn zero h =
+      let z : t + 0 ≡ t = omega arith in
+      let o : ones (r / 2 ^ 64) ≡ 0 = ap ones (div-eq-of-lt (s .small)) in
+      ap (λ (i : ℕ). length (runs (isFree m) 0 i)) z ∙ omega arith
+  count-turn (suc k) h =
+      let z : t + suc k ≡ suc (t + k) = omega arith in
+      let j = 64 - suc k in
+      let u : 63 - k ≡ j = omega arith in
+      let v : j + 1 ≡ 64 - k = omega arith in
+      let o : ones (r / 2 ^ j / 2) ≡ ones (r / 2 ^ (64 - k)) = ap ones (shr-shr r j 1) ∙ ap (λ (i : ℕ). ones (r / 2 ^ i)) v in
+      let b : bitAt r j ≡ min (freeBit m (t + k)) (1 - bitBefore m (t + k)) = ap (bitAt r) (sym u) ∙ start-bit k (omega arith) in
+      ap (λ (i : ℕ). length (runs (isFree m) 0 i)) z ∙ omega (arith, count-track m (t + k), count-turn k (omega arith), ones-step (r / 2 ^ j))
+
+  -- the last track of the word is the one before the next word
+  pub last-bit : bitAt (getD m (t / 64) 0) 0 ≡ bitBefore m (t + 64)
+  last-bit =
+      let z : t + 64 ≡ suc (t + 63) = omega arith in
+      let w : 63 - (t + 63) % 64 ≡ 0 = omega arith in
+      ap (bitAt (getD m (t / 64) 0)) (sym w) ∙ in-word m (t / 64) (t + 63) (omega arith) ∙ sym (ap (bitBefore m) z)

@@ -1,0 +1,5 @@
+pub mod Bits
+pub mod Words
+pub mod Walk
+pub mod Counting
+pub mod Held

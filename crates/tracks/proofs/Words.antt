@@ -1,0 +1,189 @@
+-- What a turn over one word says of its tracks. Assumes nothing.
+use mathlib.Core.Path.{_≡_, refl, sym, ap, _∙_, subst}
+use mathlib.Core.Bool.{Bool, true, false}
+use mathlib.Core.Logic.{_⊎_, inl, inr, ⊎-elim}
+use mathlib.Core.List.{List}
+use Prim.Native.Nat.{ℕ, _+_, _-_, _*_, _/_, _%_, _^_, _≤_, _<_, min}
+use native.Mathlib.Nat.{mod-lt}
+use native.Mathlib.Decide.{ℕ-discrete}
+use native.Mathlib.Omega.{arith}
+use borrow.Author.Tests.{lt-ltb, le-ltb}
+use lib.Dec.{ltb}
+use lib.Bits.{bitAnd, bitOr, bitXor}
+use lib.Pow.{pow-pos}
+use lib.Count.{leadingZeros}
+use lib.ListN.{length, getD, set, length-set}
+use lib.Seq.{getD-set-same, getD-set-other}
+use Rattle.model.specs.Basics.{bit}
+use Rattle.tracks.specs.Map.{bitAt, freeBit, AllFree, Hit, Made}
+use Rattle.tracks.specs.Steps.{block, flipped, First, WordAt}
+use Rattle.tracks.proofs.Bits.{le-or-lt, zero-bit, all-ones, and-bit, or-bit, xor-bit, block-low, block-in, block-high, block-lt, lacks, not-bit, shifted, leading-zero, leading-one}
+
+-- the mask of the n tracks from t on, in t's word
+abbrev mask : ℕ → ℕ → ℕ
+mask t n = block (64 - (t % 64 + n)) n
+
+-- ---- a track's bit after a store
+
+store-in : (m : List ℕ) (w v j : ℕ) → w < length m → j / 64 ≡ w → freeBit (set m w v) j ≡ bitAt v (63 - j % 64)
+unfolding freeBit
+store-in m w v j h e = rw (e, getD-set-same m w v 0 h)
+
+store-off : (m : List ℕ) (w v j : ℕ) → (j / 64 ≡ w → ⊥) → freeBit (set m w v) j ≡ freeBit m j
+unfolding freeBit
+store-off m w v j n = rw (getD-set-other m w (j / 64) v 0 n)
+
+pub in-word : (m : List ℕ) (w j : ℕ) → j / 64 ≡ w → bitAt (getD m w 0) (63 - j % 64) ≡ freeBit m j
+unfolding freeBit
+in-word m w j e = rw e
+
+-- the word v is the old one but for the bits of the mask, which are b
+module _ (b : ℕ) (m : List ℕ) (t n v : ℕ) (h : t / 64 < length m) (k : t % 64 + n ≤ 64)
+    (kept : (p : ℕ) → bitAt (mask t n) p ≡ 0 → bitAt v p ≡ bitAt (getD m (t / 64) 0) p)
+    (new : (p : ℕ) → bitAt (mask t n) p ≡ 1 → bitAt v p ≡ b) where
+  out : (j : ℕ) → (j / 64 ≡ t / 64 → bitAt (mask t n) (63 - j % 64) ≡ 0) → freeBit (set m (t / 64) v) j ≡ freeBit m j
+  out j g = elim (ℕ-discrete (j / 64) (t / 64)) [
+    | yes e ↦ store-in m (t / 64) v j h e ∙ kept (63 - j % 64) (g e) ∙ in-word m (t / 64) j e
+    | no d ↦ store-off m (t / 64) v j d
+  ]
+
+  made-chunk : Made b m (set m (t / 64) v) t (t + n)
+  made-chunk =
+      let lo = 64 - (t % 64 + n) in
+      record {
+        long = length-set m (t / 64) v;
+        before = λ j a. out j (λ e. block-high lo n (63 - j % 64) (omega arith));
+        inside = λ j a b. store-in m (t / 64) v j h (omega arith) ∙ new (63 - j % 64) (block-in lo n (63 - j % 64) (omega arith) (omega arith));
+        after = λ j a. out j (λ e. block-low lo n (63 - j % 64) (omega arith));
+      }
+
+-- ---- one range after the other
+
+pub made-none : (b : ℕ) (m : List ℕ) (s : ℕ) → Made b m m s s
+made-none b m s = record { long = refl; before = λ t a. refl; inside = λ t a b. absurd (omega arith); after = λ t a. refl }
+
+pub made-more : (b : ℕ) (m m′ m″ : List ℕ) (s t e : ℕ) → s ≤ t → t ≤ e → Made b m m′ s t → Made b m′ m″ t e → Made b m m″ s e
+made-more b m m′ m″ s t e a c p q = record {
+  long = q .long ∙ p .long;
+  before = λ j g. q .before j (omega arith) ∙ p .before j g;
+  inside = λ j g k. ⊎-elim (λ c. q .inside j c k) (λ c. q .before j c ∙ p .inside j g c) (le-or-lt t j);
+  after = λ j g. q .after j g ∙ p .after j (omega arith);
+}
+
+-- ---- taking
+
+module _ (m : List ℕ) (t n : ℕ) (h : t / 64 < length m) (k : t % 64 + n ≤ 64) where
+  pub all-free : bitAnd (getD m (t / 64) 0) (mask t n) ≡ mask t n → AllFree m t (t + n)
+  unfolding freeBit
+  all-free z j a b =
+      let w : j / 64 ≡ t / 64 = omega arith in
+      let x = getD m (t / 64) 0 in
+      let p = 63 - j % 64 in
+      let e : bitAt (bitAnd x (mask t n)) p ≡ bitAt (mask t n) p = ap (λ (y : ℕ). bitAt y p) z in
+      let one = block-in (64 - (t % 64 + n)) n p (omega arith) (omega arith) in
+      rw w (omega (arith, and-bit x (mask t n) p))
+
+  pub take-chunk : bitAnd (getD m (t / 64) 0) (mask t n) ≡ mask t n → Made 0 m (set m (t / 64) (bitXor (getD m (t / 64) 0) (mask t n))) t (t + n)
+  take-chunk z =
+      let x = getD m (t / 64) 0 in
+      made-chunk 0 m t n (bitXor x (mask t n)) h k
+      (λ p o. omega (arith, xor-bit x (mask t n) p))
+      (λ p o. let e : bitAt (bitAnd x (mask t n)) p ≡ bitAt (mask t n) p = ap (λ (y : ℕ). bitAt y p) z in omega (arith, xor-bit x (mask t n) p, and-bit x (mask t n) p))
+
+  pub hit-chunk : (e : ℕ) → t + n ≤ e → (bitAnd (getD m (t / 64) 0) (mask t n) ≡ mask t n → ⊥) → Hit m t e
+  unfolding freeBit
+  hit-chunk e b z =
+      let x = getD m (t / 64) 0 in
+      let lo = 64 - (t % 64 + n) in
+      let r = lacks x (mask t n) (block-lt lo n (omega arith)) z in
+      let p = r .0 in
+      let pl = r .1 in
+      let on = r .2 in
+      let from : lo ≤ p = ⊎-elim (λ g. g) (λ g. absurd (omega (arith, block-low lo n p g))) (le-or-lt lo p) in
+      let to : p < lo + n = ⊎-elim (λ g. absurd (omega (arith, block-high lo n p g))) (λ g. g) (le-or-lt (lo + n) p) in
+      let j = 64 * (t / 64) + (63 - p) in
+      let w : j / 64 ≡ t / 64 = omega arith in
+      let v : 63 - j % 64 ≡ p = omega arith in
+      record { at = j; from = omega arith; below = omega arith; off = rw (w, v) (r .3) }
+
+  -- ---- giving
+
+  pub give-chunk : Made 1 m (set m (t / 64) (bitOr (getD m (t / 64) 0) (mask t n))) t (t + n)
+  give-chunk =
+      let x = getD m (t / 64) 0 in
+      made-chunk 1 m t n (bitOr x (mask t n)) h k (λ p o. omega (arith, or-bit x (mask t n) p)) (λ p o. omega (arith, or-bit x (mask t n) p))
+
+pub free-more : (m m′ : List ℕ) (s t e : ℕ) → AllFree m s t → Made 0 m m′ s t → AllFree m′ t e → AllFree m s e
+free-more m m′ s t e p c q j a b = ⊎-elim (λ g. sym (c .after j g) ∙ q j g b) (λ g. p j a g) (le-or-lt t j)
+
+pub hit-before : (m m′ : List ℕ) (s t e : ℕ) → s ≤ t → Made 0 m m′ s t → Hit m′ t e → Hit m s e
+hit-before m m′ s t e a c h =
+    let f = h .from in
+    record { at = h .at; from = omega arith; below = h .below; off = sym (c .after (h .at) f) ∙ h .off }
+
+-- ---- the first track that is free, or is not
+
+flip-bit : (b : Bool) (x j : ℕ) → j < 64
+    → (bitAt (flipped b x) j ≡ 0 → bitAt x j ≡ 1 - bit b) × (bitAt (flipped b x) j ≡ 1 → bitAt x j ≡ bit b)
+unfolding flipped
+flip-bit true x j h = (λ e. e, λ e. e)
+flip-bit false x j h = let n = not-bit x j h in let u : bitAt x j < 2 = omega arith in (λ e. omega arith, λ e. omega arith)
+
+module _ (m : List ℕ) (b : Bool) (t n : ℕ) (k : t % 64 + n ≤ 64) where
+  -- what the code counts the leading zeros of: the word from track t on, complemented where b is false
+  abbrev pub word : ℕ
+  word = flipped b (getD m (t / 64) 0) * 2 ^ (t % 64) % 2 ^ 64
+
+  small : word < 2 ^ 64
+  small = mod-lt (flipped b (getD m (t / 64) 0) * 2 ^ (t % 64)) (pow-pos 64)
+
+  pub off-turn : (j : ℕ) → t ≤ j → j < t + n → j < t + leadingZeros 64 word → freeBit m j ≡ 1 - bit b
+  unfolding freeBit
+  off-turn j u v w =
+      let e : j / 64 ≡ t / 64 = omega arith in
+      let i = j - t in
+      let z = leading-zero word i small (omega arith) in
+      let s = shifted (flipped b (getD m (t / 64) 0)) (t % 64) i (omega arith) in
+      let p : 63 - (t % 64 + i) ≡ 63 - j % 64 = omega arith in
+      rw e (flip-bit b (getD m (t / 64) 0) (63 - j % 64) (omega arith) .0 (ap (λ (q : ℕ). bitAt (flipped b (getD m (t / 64) 0)) q) (sym p) ∙ sym s ∙ z))
+
+  pub on-turn : leadingZeros 64 word < n → freeBit m (t + leadingZeros 64 word) ≡ bit b
+  unfolding freeBit
+  on-turn w =
+      let i = leadingZeros 64 word in
+      let j = t + i in
+      let e : j / 64 ≡ t / 64 = omega arith in
+      let z = leading-one word small (omega arith) in
+      let s = shifted (flipped b (getD m (t / 64) 0)) (t % 64) i (omega arith) in
+      let p : 63 - (t % 64 + i) ≡ 63 - j % 64 = omega arith in
+      rw e (flip-bit b (getD m (t / 64) 0) (63 - j % 64) (omega arith) .1 (ap (λ (q : ℕ). bitAt (flipped b (getD m (t / 64) 0)) q) (sym p) ∙ sym s ∙ z))
+
+-- ---- the map at the beginning
+
+pub word-none : (a n : ℕ) → n ≤ a → WordAt a n 0
+word-none a n h j u = zero-bit (63 - j) ∙ sym (ap bit (le-ltb (a + j) n (omega arith)))
+
+pub word-all : (a n : ℕ) → a + 64 ≤ n → WordAt a n 0xffff_ffff_ffff_ffff
+word-all a n h j u = all-ones (63 - j) (omega arith) ∙ sym (ap bit (lt-ltb (a + j) n (omega arith)))
+
+pub word-part : (a n r : ℕ) → a < n → n < a + 64 → r ≡ block (64 - (0 + (n - a))) (n - a) → WordAt a n r
+word-part a n r h k q j u =
+    let lo = 64 - (0 + (n - a)) in
+    ap (λ (x : ℕ). bitAt x (63 - j)) q
+    ∙ ⊎-elim
+    (λ g. block-low lo (n - a) (63 - j) (omega arith) ∙ sym (ap bit (le-ltb (a + j) n g)))
+    (λ g. block-in lo (n - a) (63 - j) (omega arith) (omega arith) ∙ sym (ap bit (lt-ltb (a + j) n g)))
+    (le-or-lt n (a + j))
+
+-- the first w words say that the tracks below n are free
+abbrev pub Upto : List ℕ → ℕ → ℕ → Type 0
+Upto m w n = (t : ℕ) → t < 64 * w → freeBit m t ≡ bit (ltb t n)
+
+pub upto-more : (m : List ℕ) (w n r : ℕ) → w < length m → Upto m w n → WordAt (w * 64) n r → Upto (set m w r) (w + 1) n
+upto-more m w n r h p q t u =
+    ⊎-elim
+    (λ g.
+    let e : w * 64 + t % 64 ≡ t = omega arith in
+    store-in m w r t h (omega arith) ∙ q (t % 64) (omega arith) ∙ ap (λ (x : ℕ). bit (ltb x n)) e)
+    (λ g. store-off m w r t (λ z. absurd (omega arith)) ∙ p t g)
+    (le-or-lt (64 * w) t)

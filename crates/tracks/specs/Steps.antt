@@ -1,0 +1,35 @@
+-- What the functions inside the map's loops promise: masks, words and single tracks. Assumes nothing.
+use Prim.Native.Nat.{ℕ, suc, _+_, _-_, _*_, _^_, _≤_, _<_, min}
+use mathlib.Core.Path.{_≡_}
+use mathlib.Core.Bool.{Bool, true, false}
+use mathlib.Core.List.{List}
+use lib.Dec.{ltb}
+use lib.Bits.{bitXor}
+use Rattle.model.specs.Basics.{bit}
+use Rattle.tracks.specs.Map.{bitAt, freeBit}
+
+-- n ones from bit lo on
+unfoldable pub block : ℕ → ℕ → ℕ
+block lo n = (2 ^ n - 1) * 2 ^ lo
+
+-- the word whose first track is a, where the tracks below n are free and no others
+abbrev pub WordAt : ℕ → ℕ → ℕ → Type 0
+WordAt a n r = (j : ℕ) → j < 64 → bitAt r (63 - j) ≡ bit (ltb (a + j) n)
+
+-- the word, or its complement
+unfoldable pub flipped : Bool → ℕ → ℕ
+flipped true x = x
+flipped false x = bitXor x 0xffff_ffff_ffff_ffff
+
+-- r is the first track from s on and below n that is free (b true) or is not (b false); n where there is none
+pub record First (m : List ℕ) (b : Bool) (s n r : ℕ) : Type 0 where
+  pub from : s ≤ r
+  pub to : r ≤ n
+  pub before : (t : ℕ) → s ≤ t → t < r → freeBit m t ≡ 1 - bit b
+  pub here : r < n → freeBit m r ≡ bit b
+
+-- the bits of the word x with a clear bit before them, where y is the word before x
+pub record Starts (y x r : ℕ) : Type 0 where
+  pub small : r < 2 ^ 64
+  pub top : bitAt r 63 ≡ min (bitAt x 63) (1 - bitAt y 0)
+  pub rest : (j : ℕ) → j < 63 → bitAt r j ≡ min (bitAt x j) (1 - bitAt x (suc j))
