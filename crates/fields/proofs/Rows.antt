@@ -9,8 +9,8 @@ use native.Mathlib.Omega.{arith}
 use borrow.Author.Tests.{eq-eqb, ne-eqb, eqb-true, eqb-false}
 use lib.Bits.{bitOr, bitXor, or-add-and, and-le-l, and-le-r, xor-add-and, xor-self}
 use lib.Dec.{T, eqb, eqb→eq, eqb-refl}
-use lib.ListN.{length, getD, drop, replicate, drop-of-length-le}
-use lib.Seq.{drop-cons}
+use lib.ListN.{length, getD, take, drop, replicate, length-drop, drop-of-length-le}
+use lib.Seq.{drop-cons, take-all}
 use Rattle.model.specs.Basics.{same}
 use Rattle.model.proofs.Lists.{and-l, and-r, both, by}
 use Rattle.fields.specs.Tests.{allAre}
@@ -95,3 +95,7 @@ same-long (x ∷ xs) (y ∷ ys) n = rw (same-long xs ys (λ e. n (ap suc e)), an
 
 pub product : (p h f : ℕ) → p < 65536 → h < 65536 → f < 65536 → (p * h ≤ 65535 * h) × (p * h + f ≤ 65535 * h + 65535)
 product p h f u v w = let a : p ≤ 65535 = omega arith in let m : p * h ≤ 65535 * h = mul-le-mul a (native.Mathlib.Nat.le-refl h) in (m, omega arith)
+
+-- `&l[i..]` is lent
+pub from-place : (l : List ℕ) (i : ℕ) → take (length l - i) (drop i l) ≡ drop i l
+from-place l i = take-all (length l - i) (drop i l) (omega (arith, length-drop i l))

@@ -2,10 +2,12 @@
 ghost use mathlib.Core.Path.{_≡_};
 ghost use Prim.Native.Nat.{_+_, _-_, _*_, _≤_, _<_};
 ghost use lib.ListN.{length};
-ghost use Rattle.model.specs.Basics.{get2, get3, part, same};
+ghost use Rattle.model.specs.Basics.{get2, get3, part, same, within};
+ghost use Rattle.rules.specs.Layout.{extentPart};
 ghost use Rattle.rules.specs.Reading.{trackAt};
+ghost use Rattle.rules.specs.Table.{goodName, inPart, startsPart};
 ghost use Rattle.fields.specs.Records.{putRecord, slotBytes};
-ghost use Rattle.fields.specs.Tests.{allAre};
+ghost use Rattle.fields.specs.Tests.{allAre, partAfter};
 
 // ---- numbers and rows of bytes
 
@@ -104,4 +106,125 @@ pub fn put_record(table: &mut [u8], k: usize, rec: &[u8; 140])
 {
     let a = 140 * k;
     bytes::copy(rec, &mut table[a..]);
+}
+
+// The ten bytes of extent number e: a part of the format 1 (DS1EXT1 to 3) or of the format 3 (DS3EXTNT, DS3ADEXT), handed
+// back and not copied; an empty part where e is above 15 or a record is not 140 bytes.
+pub fn extent_part<'a>(f1: &'a [u8], f3: &'a [u8], e: usize) -> &'a [u8]
+    ensures { λ r. ⌜ now r ≡ extentPart (now (f1 .entry)) (now (f3 .entry)) e ⌝ }
+{
+    if f1.len() != 140 {
+        return &f1[..0];
+    }
+    if f3.len() != 140 {
+        return &f1[..0];
+    }
+    if e < 3 {
+        let at = 105 + 10 * e;
+        let to = at + 10;
+        return &f1[at..to];
+    }
+    if e < 7 {
+        let at = 4 + 10 * (e - 3);
+        let to = at + 10;
+        return &f3[at..to];
+    }
+    if e < 16 {
+        let at = 45 + 10 * (e - 7);
+        let to = at + 10;
+        return &f3[at..to];
+    }
+    &f1[..0]
+}
+
+// ---- names
+
+// Whether c lies from lo to hi.
+fn within(lo: u8, hi: u8, c: u8) -> bool
+    ensures { λ r. ⌜ r ≡ within lo hi c ⌝ }
+{
+    if c < lo {
+        return false;
+    }
+    c <= hi
+}
+
+// Whether c is a letter or national: it may start a part of a name.
+pub fn starts_part(c: u8) -> bool
+    ensures { λ r. ⌜ r ≡ startsPart c ⌝ }
+{
+    if within(0xC1, 0xC9, c) {
+        return true;
+    }
+    if within(0xD1, 0xD9, c) {
+        return true;
+    }
+    if within(0xE2, 0xE9, c) {
+        return true;
+    }
+    if c == 0x5B {
+        return true;
+    }
+    if c == 0x7B {
+        return true;
+    }
+    c == 0x7C
+}
+
+// Whether c may stand in a part of a name, behind its start.
+pub fn in_part(c: u8) -> bool
+    ensures { λ r. ⌜ r ≡ inPart c ⌝ }
+{
+    if starts_part(c) {
+        return true;
+    }
+    if within(0xF0, 0xF9, c) {
+        return true;
+    }
+    c == 0x60
+}
+
+// The length of a name's present part after the character c, which is no blank; it was n before c, 0 where a part is to
+// start. More than 8: c cannot stand there.
+fn part_after(n: u32, c: u8) -> u32
+    requires { ⌜ n ≤ 8 ⌝ }
+    ensures { λ r. ⌜ (r ≡ partAfter n c) × (r ≤ 9) ⌝ }
+{
+    if n == 0 {
+        if starts_part(c) {
+            return 1;
+        }
+        return 9;
+    }
+    if c == 0x4B {
+        return 0;
+    }
+    if in_part(c) {
+        return n + 1;
+    }
+    9
+}
+
+// Whether a name obeys the rule: parts of 1 to 8 characters joined by periods, then blanks.
+pub fn name_ok(name: &[u8]) -> bool
+    ensures { λ r. ⌜ r ≡ goodName (now (name .entry)) ⌝ }
+{
+    let mut n: u32 = 0;
+    let mut i = 0;
+    while i < name.len() {
+        let c = name[i];
+        if c == 0x40 {
+            if n == 0 {
+                return false;
+            }
+            return all_are(&name[i..], 0x40);
+        }
+        let m = part_after(n, c);
+        if m > 8 {
+            return false;
+        }
+        n = m;
+        i += 1;
+    }
+    n != 0
 }
