@@ -18,7 +18,7 @@ use Rattle.fields.specs.Tests.{allAre}
 pub rest : (l : List ℕ) (i : ℕ) → i < length l → drop i l ≡ getD l i 0 ∷ drop (i + 1) l
 rest l i h = rw (add-one, drop-cons l i 0)
 
-and-false : (t : Bool) → t && false ≡ false
+pub and-false : (t : Bool) → t && false ≡ false
 and-false true = refl
 and-false false = refl
 

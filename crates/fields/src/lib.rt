@@ -7,7 +7,7 @@ ghost use Rattle.rules.specs.Layout.{extentPart};
 ghost use Rattle.rules.specs.Reading.{trackAt};
 ghost use Rattle.rules.specs.Table.{goodName, inPart, startsPart};
 ghost use Rattle.fields.specs.Records.{putRecord, slotBytes};
-ghost use Rattle.fields.specs.Tests.{allAre, partAfter};
+ghost use Rattle.fields.specs.Tests.{addressOk, allAre, goodTen, partAfter, slotNamed, typeOk};
 
 // ---- numbers and rows of bytes
 
@@ -227,4 +227,95 @@ pub fn name_ok(name: &[u8]) -> bool
         i += 1;
     }
     n != 0
+}
+
+// ---- extents
+
+// Whether the type byte fits an extent whose first and last track are these of their cylinders: X'81' starts a cylinder and
+// ends one, X'01' needn't.
+fn type_ok(kind: u32, first: u32, last: u32, h: u32) -> bool
+    requires { ⌜ last < h ⌝ }
+    ensures { λ r. ⌜ r ≡ typeOk h kind first last ⌝ }
+{
+    if kind == 0x01 {
+        return true;
+    }
+    if kind != 0x81 {
+        return false;
+    }
+    if first != 0 {
+        return false;
+    }
+    last + 1 == h
+}
+
+// Whether the ten bytes are an extent of number i on a volume of t tracks, h to a cylinder.
+pub fn good_ten(x: &[u8], i: u32, h: u32, t: u32) -> bool
+    requires { ⌜ (length (now x) ≡ 10) × (h < 65536) ⌝ }
+    ensures { λ r. ⌜ r ≡ goodTen h t i (now (x .entry)) ⌝ }
+{
+    let first = two(x, 4);
+    if first >= h {
+        return false;
+    }
+    let last = two(x, 8);
+    if last >= h {
+        return false;
+    }
+    if wide(x[1]) != i {
+        return false;
+    }
+    let a = track_at(x, 2, h);
+    let b = track_at(x, 6, h);
+    if b < a {
+        return false;
+    }
+    if b >= t {
+        return false;
+    }
+    type_ok(wide(x[0]), first, last, h)
+}
+
+// ---- addresses
+
+// Whether the five bytes are the address CCHHR of slot k: the VTOC starts at track s and has d records a track.
+pub fn address_ok(x: &[u8], k: usize, h: u32, d: u32, s: u32) -> bool
+    requires { ⌜ (length (now x) ≡ 5) × (1 ≤ h) × (1 ≤ d) × (s < 65536) × (k < 65536) ⌝ }
+    ensures { λ r. ⌜ r ≡ addressOk h d s k (now (x .entry)) ⌝ }
+{
+    let q = k as u32;
+    let t = s + q / d;
+    if two(x, 0) != t / h {
+        return false;
+    }
+    if two(x, 2) != t % h {
+        return false;
+    }
+    wide(x[4]) == q % d + 1
+}
+
+// The slot, below n, whose address the five bytes are; 0 if they are no such slot's.
+pub fn slot_of(x: &[u8], h: u32, d: u32, s: u32, n: usize) -> usize
+    requires { ⌜ (length (now x) ≡ 5) × (h ≤ 255) × (d ≤ 255) ⌝ }
+    ensures { λ r. ⌜ r ≡ slotNamed h d s n (now (x .entry)) ⌝ }
+{
+    if two(x, 2) >= h {
+        return 0;
+    }
+    let r = wide(x[4]);
+    if r < 1 {
+        return 0;
+    }
+    if r > d {
+        return 0;
+    }
+    let t = track_at(x, 0, h);
+    if t < s {
+        return 0;
+    }
+    let k = ((t - s) * d + r - 1) as usize;
+    if k >= n {
+        return 0;
+    }
+    k
 }
