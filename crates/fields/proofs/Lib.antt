@@ -5,3 +5,4 @@ pub mod Names
 pub mod Failing
 pub mod Bytes10
 pub mod Links
+pub mod Entries

@@ -1,4 +1,6 @@
 // Label records (DSCBs): their fields, read and tested where they stand.
+pub mod listing;
+
 ghost use mathlib.Core.Path.{_≡_};
 ghost use Prim.Native.Nat.{_+_, _-_, _*_, _≤_, _<_};
 ghost use lib.ListN.{length};
