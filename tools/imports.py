@@ -54,7 +54,7 @@ def words(body):
 
 
 KIT = "/opt/rattle"
-PLAIN = {"decLe", "map", "Bool", "true", "false", "Option", "none", "some", "List", "sym", "ap", "ap₂", "subst", "refl", "cond", "not", "inl", "inr", "getD", "take", "drop", "length", "replicate", "leb", "ltb", "eqb", "T"}  # names without a hyphen
+PLAIN = {"decLe", "map", "Bool", "true", "false", "Option", "none", "some", "List", "sym", "ap", "ap₂", "subst", "refl", "cond", "not", "inl", "inr", "getD", "set", "take", "drop", "length", "replicate", "leb", "ltb", "eqb", "T"}  # names without a hyphen
 OPERATORS = {
     "Prim.Native.Nat": ["ℕ", "zero", "suc", "_+_", "_-_", "_*_", "_/_", "_%_", "_≤_", "_<_", "max", "min"],
     "mathlib.Core.Path": ["_≡_", "_∙_"],

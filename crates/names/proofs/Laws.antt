@@ -1,0 +1,211 @@
+-- How the searches and the comparison of names go on from slot to slot. Assumes nothing.
+use mathlib.Core.Path.{_≡_, refl, ap, _∙_, subst, sym}
+use mathlib.Core.Bool.{true, false, cond, _&&_, _||_, Bool}
+use mathlib.Core.List.{List, [], _∷_}
+use Prim.Native.Nat.{ℕ, zero, suc, _+_, _-_, _≤_, _<_, _*_, _%_}
+use native.Mathlib.Nat.{lt-of-not-le}
+use native.Mathlib.Decide.{decLe, ℕ-discrete}
+use native.Mathlib.Omega.{arith}
+use native.Mathlib.Numerals.{add-one}
+use lib.Dec.{eqb}
+use lib.ListN.{length, getD, take, set, drop, drop-of-length-le, length-set}
+use Rattle.names.specs.declared.Found.{Found}
+use Rattle.names.specs.declared.Found.the-variants.{Slot, Nothing}
+use lib.Seq.{getD-set-other, getD-take, getD-set-same, drop-cons}
+use borrow.Author.Tests.{eq-eqb, ne-eqb}
+use Rattle.model.specs.Basics.{same}
+use Rattle.model.specs.Choice.{before}
+use Rattle.model.proofs.Lists.{and-l, and-r, by, clash, is-true, same→eq, true-is}
+use Rattle.fields.specs.Records.{slotBytes}
+use Rattle.names.specs.Find.{Entered, Tagged, distinctFrom, findSlot, firstNamed, hasTag, isLabel, isNamed, isNothing, nameOf, newAt, tagFrom, tagOf}
+
+module _ (t name : List ℕ) (k n : ℕ) (h : k < n) where
+  step : firstNamed t name k (n - k) ≡ cond (isNamed (slotBytes t k) name) (Slot k) (firstNamed t name (k + 1) (n - (k + 1)))
+  unfolding firstNamed
+  step = let e : n - k ≡ suc (n - suc k) = omega arith in rw (e, add-one)
+
+  pub hit : isNamed (slotBytes t k) name ≡ true → firstNamed t name k (n - k) ≡ Slot k
+  hit e = rw (step, e)
+
+  pub miss : isNamed (slotBytes t k) name ≡ false → firstNamed t name k (n - k) ≡ firstNamed t name (k + 1) (n - (k + 1))
+  miss e = rw (step, e)
+
+pub done : (t name : List ℕ) (k n : ℕ) → n ≤ k → firstNamed t name k (n - k) ≡ Nothing
+unfolding firstNamed
+done t name k n h = let e : n - k ≡ 0 = omega arith in rw e
+
+-- a search that ends at slot k: it has the name, and no slot before it has
+pub record FirstAt (t name : List ℕ) (from n k : ℕ) : Type 0 where
+  pub low : from ≤ k
+  pub high : k < from + n
+  pub here : isNamed (slotBytes t k) name ≡ true
+  pub before : (j : ℕ) → from ≤ j → j < k → isNamed (slotBytes t j) name ≡ false
+
+pub first-at : (t name : List ℕ) (from n k : ℕ) → firstNamed t name from n ≡ Slot k → FirstAt t name from n k
+unfolding firstNamed
+first-at t name from zero k e = let z : _≡_ {A = ℕ} 0 1 = cc in absurd (omega arith)
+first-at t name from (suc n) k e =
+    by (isNamed (slotBytes t from) name)
+    (λ p.
+    let s : Slot from ≡ Slot k = rw p at e in
+    let q : from ≡ k = cc in
+    record { low = omega arith; high = omega arith; here = rw (← q) p; before = λ j u w. absurd (omega arith) })
+    (λ p.
+    let r = first-at t name (suc from) n k (rw p at e) in
+    record {
+      low = let x = r .low in omega arith;
+      high = let x = r .high in omega arith;
+      here = r .here;
+      before = λ j u w. elim (decLe (suc from) j) [ yes x ↦ r .before j x w | no x ↦ (let y : j ≡ from = let z = lt-of-not-le x in omega arith in rw y p) ];
+    })
+
+pub found-at : (t name : List ℕ) (n k : ℕ) → findSlot t name n ≡ Slot k → FirstAt t name 0 n k
+unfolding findSlot
+found-at t name n k e = first-at t name 0 n k e
+
+-- a search that finds nothing
+pub none-named : (t name : List ℕ) (from n : ℕ) → firstNamed t name from n ≡ Nothing → (j : ℕ) → from ≤ j → j < from + n → isNamed (slotBytes t j) name ≡ false
+unfolding firstNamed
+none-named t name from zero e j u w = absurd (omega arith)
+none-named t name from (suc n) e j u w =
+    by (isNamed (slotBytes t from) name)
+    (λ p. absurd (let s : Slot from ≡ Nothing = rw p at e in let z : _≡_ {A = ℕ} 0 1 = cc in omega arith))
+    (λ p.
+    elim (decLe (suc from) j) [
+      | yes x ↦ none-named t name (suc from) n (rw p at e) j x (omega arith)
+      | no x ↦ let y : j ≡ from = let z = lt-of-not-le x in omega arith in rw y p
+    ])
+
+pub nothing-at : (t name : List ℕ) (n : ℕ) → findSlot t name n ≡ Nothing → (j : ℕ) → j < n → isNamed (slotBytes t j) name ≡ false
+unfolding findSlot
+nothing-at t name n e j u = none-named t name 0 n e j (omega arith) (omega arith)
+
+-- ---- names that differ
+
+module _ (t : List ℕ) (k n : ℕ) (h : k < n) where
+  distinct-step : distinctFrom t k (n - k) ≡ (newAt t k && distinctFrom t (k + 1) (n - (k + 1)))
+  unfolding distinctFrom
+  distinct-step = let e : n - k ≡ suc (n - suc k) = omega arith in rw (e, add-one)
+
+  pub distinct-next : newAt t k ≡ true → distinctFrom t k (n - k) ≡ distinctFrom t (k + 1) (n - (k + 1))
+  distinct-next e = rw (distinct-step, e)
+
+  pub distinct-stop : newAt t k ≡ false → distinctFrom t k (n - k) ≡ false
+  distinct-stop e = rw (distinct-step, e)
+
+pub distinct-end : (t : List ℕ) (k n : ℕ) → n ≤ k → distinctFrom t k (n - k) ≡ true
+unfolding distinctFrom
+distinct-end t k n h = let e : n - k ≡ 0 = omega arith in rw e
+
+-- ---- tags
+
+pub tag-there : (tags : List ℕ) (x j : ℕ) → j < length tags → getD tags j 0 ≡ x → hasTag tags x ≡ true
+unfolding hasTag
+tag-there [] x j u e = absurd (omega arith)
+tag-there (y ∷ ys) x zero u e = rw (eq-eqb y x e)
+tag-there (y ∷ ys) x (suc j) u e = by (eqb y x) (λ h. rw h) (λ h. rw h (tag-there ys x j (omega arith) e))
+
+named-label : (r name : List ℕ) → isNamed r name ≡ true → (isLabel r ≡ true) × (nameOf r ≡ name)
+unfolding isNamed
+named-label r name e =
+    let x = true-is e in (is-true (and-l (isLabel r) (same (nameOf r) name) x), same→eq (nameOf r) name (and-r (isLabel r) (same (nameOf r) name) x))
+
+-- no such tag before slot k, so no such name
+pub no-tag : (t tags : List ℕ) (k : ℕ) → length tags ≡ k → Tagged t k tags → (name : List ℕ) → hasTag tags (tagOf name) ≡ false → findSlot t name k ≡ Nothing
+no-tag t tags k l g name e = go (findSlot t name k) refl
+  where
+    go : (f : Found) → findSlot t name k ≡ f → f ≡ Nothing
+    go Nothing q = refl
+    go (Slot j) q =
+        let a = found-at t name k j q in
+        let b = named-label (slotBytes t j) name (a .here) in
+        let u = a .high in
+        let c : getD tags j 0 ≡ tagOf name = g j (omega arith) (b .0) ∙ ap tagOf (b .1) in
+        clash (tag-there tags (tagOf name) j (omega arith) c) e
+
+pub tag-next : (t tags : List ℕ) (k : ℕ) → k < length tags → Tagged t k tags → Tagged t (k + 1) (set tags k (tagOf (nameOf (slotBytes t k))))
+tag-next t tags k l g j u e =
+    elim (ℕ-discrete j k) [
+      | yes q ↦ rw q (getD-set-same tags k (tagOf (nameOf (slotBytes t k))) 0 l)
+      | no q ↦ getD-set-other tags k j (tagOf (nameOf (slotBytes t k))) 0 q ∙ g j (omega arith) e
+    ]
+
+pub tag-skip : (t tags : List ℕ) (k : ℕ) → isLabel (slotBytes t k) ≡ false → Tagged t k tags → Tagged t (k + 1) tags
+tag-skip t tags k f g j u e =
+    elim (ℕ-discrete j k) [
+      | yes q ↦ clash (subst (λ (x : ℕ). isLabel (slotBytes t x) ≡ true) q e) f
+      | no q ↦ g j (omega arith) e
+    ]
+
+pub label-at : (t : List ℕ) (k : ℕ) → isLabel (slotBytes t k) ≡ true → newAt t k ≡ isNothing (findSlot t (nameOf (slotBytes t k)) k)
+unfolding newAt
+label-at t k e = rw e
+
+pub no-label : (t : List ℕ) (k : ℕ) → isLabel (slotBytes t k) ≡ false → newAt t k ≡ true
+unfolding newAt
+no-label t k e = rw e
+
+-- ---- the loops over tags and characters
+
+or-true : (a : Bool) → (a || true) ≡ true
+or-true true = refl
+or-true false = refl
+
+or-false : (a : Bool) → (a || false) ≡ a
+or-false true = refl
+or-false false = refl
+
+module _ (tags : List ℕ) (x i : ℕ) (h : i < length tags) where
+  pub tag-hit : (b : Bool) → getD tags i 0 ≡ x → (b || hasTag (drop i tags) x) ≡ (true || hasTag (drop (i + 1) tags) x)
+  unfolding hasTag
+  tag-hit b e = rw (drop-cons tags i 0 h, eq-eqb _ _ e) (or-true b)
+
+  pub tag-miss : (b : Bool) → (getD tags i 0 ≡ x → ⊥) → (b || hasTag (drop i tags) x) ≡ (b || hasTag (drop (i + 1) tags) x)
+  unfolding hasTag
+  tag-miss b e = rw (add-one, drop-cons tags i 0 h, ne-eqb _ _ e)
+
+pub tag-end : (tags : List ℕ) (x i : ℕ) (b : Bool) → length tags ≤ i → (b || hasTag (drop i tags) x) ≡ b
+unfolding hasTag
+tag-end tags x i b h = rw (drop-of-length-le tags {i = i} h) (or-false b)
+
+pub tag-turn : (name : List ℕ) (i : ℕ) → i < length name → tagFrom (i + 1) (drop i name) ≡ getD name i 0 * ((i + 1) * 40503 % 65536) + tagFrom (i + 1 + 1) (drop (i + 1) name)
+unfolding tagFrom
+tag-turn name i h = let e : i + 1 + 1 ≡ suc (i + 1) = omega arith in rw (e, drop-cons name i 0 h, add-one)
+
+pub tag-done : (name : List ℕ) (i : ℕ) → length name ≤ i → tagFrom (i + 1) (drop i name) ≡ 0
+unfolding tagFrom
+tag-done name i h = rw (drop-of-length-le name {i = i} h)
+
+pub tag-value : (name : List ℕ) → tagFrom 1 name % 65536 ≡ tagOf name
+unfolding tagOf
+tag-value name = refl
+
+pub tag-first : (t tags : List ℕ) (k : ℕ) → Tagged t k tags → Tagged t k (take k tags)
+tag-first t tags k g j u e = getD-take k tags j 0 u ∙ g j u e
+
+-- ---- what `enter` leaves, by the record r in slot k
+
+module _ (t tags r : List ℕ) (k : ℕ) (e : r ≡ slotBytes t k) (g : Tagged t k tags) where
+  pub enter-skip : (getD r 44 0 ≡ 0xF1 → ⊥) → Entered t k tags tags true
+  enter-skip n =
+      let f : isLabel (slotBytes t k) ≡ false = subst (λ (x : List ℕ). isLabel x ≡ false) e (ne-eqb _ _ n) in
+      record { new = sym (no-label t k f); long = refl; tagged = λ q. tag-skip t tags k f g }
+
+  module _ (m : getD r 44 0 ≡ 0xF1) where
+    label : isLabel (slotBytes t k) ≡ true
+    label = subst (λ (x : List ℕ). isLabel x ≡ true) e (eq-eqb _ _ m)
+
+    pub enter-new : (x : ℕ) → k < length tags → x ≡ tagOf (nameOf r) → isNothing (findSlot t (nameOf r) k) ≡ true → Entered t k tags (set tags k x) true
+    enter-new x l q n =
+        let a : x ≡ tagOf (nameOf (slotBytes t k)) = q ∙ ap (λ (y : List ℕ). tagOf (nameOf y)) e in
+        let b : isNothing (findSlot t (nameOf (slotBytes t k)) k) ≡ true = subst (λ (y : List ℕ). isNothing (findSlot t (nameOf y) k) ≡ true) e n in
+        record {
+          new = sym (label-at t k label ∙ b);
+          long = length-set tags k x;
+          tagged = λ _. subst (λ (y : ℕ). Tagged t (k + 1) (set tags k y)) (sym a) (tag-next t tags k l g);
+        }
+
+    pub enter-old : (m′ : List ℕ) → length m′ ≡ length tags → isNothing (findSlot t (nameOf r) k) ≡ false → Entered t k tags m′ false
+    enter-old m′ l n =
+        let b : isNothing (findSlot t (nameOf (slotBytes t k)) k) ≡ false = subst (λ (y : List ℕ). isNothing (findSlot t (nameOf y) k) ≡ false) e n in
+        record { new = sym (label-at t k label ∙ b); long = l; tagged = λ q. clash {b = false} q refl }

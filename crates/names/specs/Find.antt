@@ -1,0 +1,74 @@
+-- The lookup of a name in a table's slots, and that names differ, as the code goes. Assumes nothing.
+use Prim.Native.Nat.{ℕ, zero, suc, _+_, _*_, _%_, _<_}
+use mathlib.Core.Bool.{Bool, true, false, cond, _&&_}
+use mathlib.Core.List.{List, [], _∷_}
+use mathlib.Core.Path.{_≡_}
+use lib.ListN.{getD, length}
+use lib.Dec.{eqb}
+use Rattle.model.specs.Basics.{any, part, same}
+use Rattle.fields.specs.Records.{slotBytes}
+use Rattle.names.specs.declared.Found.{Found}
+use Rattle.names.specs.declared.Found.the-variants.{Slot, Nothing}
+
+-- the record is a format 1
+abbrev pub isLabel : List ℕ → Bool
+isLabel r = eqb (getD r 44 0) 0xF1
+
+-- DS1DSNAM
+abbrev pub nameOf : List ℕ → List ℕ
+nameOf r = part 0 44 r
+
+-- a format 1 under this name
+unfoldable pub isNamed : List ℕ → List ℕ → Bool
+isNamed r name = isLabel r && same (nameOf r) name
+
+-- the first of the n slots from k on that has the name
+unfoldable pub firstNamed : List ℕ → List ℕ → ℕ → ℕ → Found
+firstNamed t name k zero = Nothing
+firstNamed t name k (suc n) = cond (isNamed (slotBytes t k) name) (Slot k) (firstNamed t name (suc k) n)
+
+unfoldable pub findSlot : List ℕ → List ℕ → ℕ → Found
+findSlot t name n = firstNamed t name 0 n
+
+-- a lookup's number in document 01: 0, or refusal 5, not found
+abbrev pub refusalOf : Found → ℕ
+refusalOf (Slot k) = 0
+refusalOf Nothing = 5
+
+abbrev pub isNothing : Found → Bool
+isNothing (Slot k) = false
+isNothing Nothing = true
+
+-- slot k holds no label, or one whose name no slot before it has
+unfoldable pub newAt : List ℕ → ℕ → Bool
+newAt t k = cond (isLabel (slotBytes t k)) (isNothing (findSlot t (nameOf (slotBytes t k)) k)) true
+
+unfoldable pub distinctFrom : List ℕ → ℕ → ℕ → Bool
+distinctFrom t k zero = true
+distinctFrom t k (suc n) = newAt t k && distinctFrom t (suc k) n
+
+-- the names of the format 1s among the n slots differ
+unfoldable pub distinct : List ℕ → ℕ → Bool
+distinct t n = distinctFrom t 0 n
+
+-- ---- a number made of a name: any function of it would do
+
+unfoldable pub tagFrom : ℕ → List ℕ → ℕ
+tagFrom i [] = 0
+tagFrom i (b ∷ bs) = b * (i * 40503 % 65536) + tagFrom (suc i) bs
+
+unfoldable pub tagOf : List ℕ → ℕ
+tagOf name = tagFrom 1 name % 65536
+
+unfoldable pub hasTag : List ℕ → ℕ → Bool
+hasTag tags t = any (λ x. eqb x t) tags
+
+-- each label among the first k slots has its tag at its slot
+abbrev pub Tagged : List ℕ → ℕ → List ℕ → Type 0
+Tagged t k tags = (j : ℕ) → j < k → isLabel (slotBytes t j) ≡ true → getD tags j 0 ≡ tagOf (nameOf (slotBytes t j))
+
+-- slot k was looked at: whether its name is new, and the tags then
+pub record Entered (t : List ℕ) (k : ℕ) (tags tags′ : List ℕ) (r : Bool) : Type 0 where
+  pub new : r ≡ newAt t k
+  pub long : length tags′ ≡ length tags
+  pub tagged : r ≡ true → Tagged t (k + 1) tags′
