@@ -52,7 +52,7 @@ def main():
     text = "\n".join(out) + "\n"
     if "--check" in sys.argv:
         if open(TARGET).read() != text:
-            sys.exit(f"{TARGET} is not what tests/src/bin/cases.rs makes: run tests/make_cases.sh")
+            sys.exit(f"{TARGET} is not what tests/src/bin/cases.rs makes: run cargo run --bin cases -- DIR and tests/make_cases.py DIR")
     else:
         open(TARGET, "w").write(text)
 

@@ -1,0 +1,79 @@
+//! How long the reference takes per call, on a small, a medium and two large volumes.
+
+use std::hint::black_box;
+use std::time::Instant;
+
+use vtoc_tests::reference::{
+    allocate, extend, listing, lspace, obtain, release, rename, scratch, taken,
+};
+use vtoc_tests::volumes::{
+    many_extents, many_names, medium, name, set_name, small, ANSWER, ATTRIBUTES,
+};
+
+/// Microseconds of one run of `work`: the best of 60 batches, each of some 3 ms, for a
+/// shared machine is often slow and never too fast.
+fn time(mut work: impl FnMut()) -> f64 {
+    let start = Instant::now();
+    work();
+    let once = start.elapsed().as_secs_f64();
+    let runs = ((0.003 / once.max(1e-8)) as u32).clamp(1, 100_000);
+    let mut batch = || {
+        let start = Instant::now();
+        (0..runs).for_each(|_| work());
+        start.elapsed().as_secs_f64() / f64::from(runs)
+    };
+    (0..60).map(|_| batch()).fold(f64::MAX, f64::min) * 1e6
+}
+
+fn accepted(result: u32) {
+    assert_eq!(black_box(result), 0);
+}
+
+fn measure(label: &str, mut table: Vec<u8>, present: &str) {
+    let (present, fresh) = (name(present), name("BENCH.FRESH"));
+    let mut answer = [0; ANSWER];
+    let mut labels = [0; 280];
+    let before = table.clone();
+    let check = time(|| assert!(black_box(taken(black_box(&table)))));
+    let inquiry = time(|| accepted(lspace(black_box(&table), &mut answer)));
+    let read = time(|| accepted(obtain(&table, &present, &mut labels, &mut answer)));
+    let list = time(|| drop(black_box(listing(black_box(&table)))));
+    let names = time(|| {
+        accepted(rename(&mut table, &present, &fresh, &mut answer));
+        accepted(rename(&mut table, &fresh, &present, &mut answer));
+    }) / 2.0;
+    // Pairs that undo each other; shown is the pair, so no call hides behind another.
+    let grant = time(|| {
+        accepted(allocate(&mut table, &fresh, &ATTRIBUTES, 0, 0, 1, 1, &mut answer));
+        accepted(scratch(&mut table, &fresh, &mut answer));
+    });
+    accepted(allocate(&mut table, &fresh, &ATTRIBUTES, 0, 0, 1, 1, &mut answer));
+    let growth = time(|| {
+        accepted(extend(&mut table, &fresh, &mut answer));
+        accepted(release(&mut table, &fresh, 1, &mut answer));
+    });
+    accepted(scratch(&mut table, &fresh, &mut answer));
+    assert!(table == before, "the benchmark must leave the table as it was");
+    println!(
+        "{label:<14}{check:>9.2}{inquiry:>9.2}{read:>9.2}{list:>9.2}{names:>9.2}{grant:>14.2}{growth:>14.2}"
+    );
+}
+
+fn main() {
+    println!("microseconds per call (pairs: for both calls)");
+    println!(
+        "{:<14}{:>9}{:>9}{:>9}{:>9}{:>9}{:>14}{:>14}",
+        "volume",
+        "check",
+        "lspace",
+        "obtain",
+        "listing",
+        "rename",
+        "alloc+scratch",
+        "extend+release"
+    );
+    measure("small", small(), "FLT.C");
+    measure("medium", medium(), &set_name(50));
+    measure("many names", many_names(), &set_name(400));
+    measure("many extents", many_extents(), &set_name(150));
+}

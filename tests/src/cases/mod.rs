@@ -1,0 +1,64 @@
+//! Scripted sequences of calls, whose outcomes are computed here and verified elsewhere.
+
+mod chains;
+mod damages;
+mod grants;
+pub mod print;
+mod random;
+mod refusals;
+mod volumes;
+
+use crate::coverage::Coverage;
+use crate::desk::{Desk, Row};
+use crate::generate::glance::glance;
+
+/// A series of calls that begins with an empty table.
+pub struct Sequence {
+    pub title: &'static str,
+    pub desk: Desk,
+}
+
+/// A sequence from the function that plays it on an empty desk.
+fn sequence(title: &'static str, play: impl FnOnce(&mut Desk)) -> Sequence {
+    let mut desk = Desk::default();
+    play(&mut desk);
+    Sequence { title, desk }
+}
+
+/// All sequences, always the same.
+pub fn sequences() -> Vec<Sequence> {
+    let mut all = volumes::sequences();
+    all.extend(grants::sequences());
+    all.extend(refusals::sequences());
+    all.extend(damages::sequences());
+    all.extend(chains::sequences());
+    all.extend(random::sequences());
+    all
+}
+
+/// What the sequences touch.
+pub fn coverage(sequences: &[Sequence]) -> Coverage {
+    let mut coverage = Coverage::default();
+    for row in sequences.iter().flat_map(|sequence| &sequence.desk.rows) {
+        match row {
+            Row::Made { call, outcome, before, after } => {
+                coverage.count(call, outcome.result);
+                if outcome.result == 0 {
+                    coverage.count_effect(call, before, after, &outcome.answer);
+                }
+            }
+            Row::Hurt { call, result, .. } => coverage.count_changed(call, *result),
+            Row::Sized { call, result, .. } => coverage.count(call, *result),
+        }
+    }
+    coverage
+}
+
+/// The tracks and records of a sequence's largest volume.
+pub fn size(sequence: &Sequence) -> (u32, usize) {
+    let sizes = sequence.desk.rows.iter().filter_map(|row| match row {
+        Row::Made { after, .. } => glance(after).map(|g| (g.geometry.tracks(), after.len() / 140)),
+        _ => None,
+    });
+    sizes.fold((0, 0), |(t, n), (tracks, slots)| (t.max(tracks), n.max(slots)))
+}

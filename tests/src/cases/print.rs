@@ -1,0 +1,103 @@
+//! Rows of a sequence in the syntax of the checker.
+
+use crate::call::Call;
+use crate::desk::{attributes_of, Desk, Row};
+
+/// The digest of some bytes: h × 257 + b + 1 modulo 2^61 − 1, from 0.
+pub fn digest(bytes: &[u8]) -> u64 {
+    const MODULUS: u128 = 2_305_843_009_213_693_951;
+    let step = |h: u128, &b: &u8| (h * 257 + u128::from(b) + 1) % MODULUS;
+    bytes.iter().fold(0, step) as u64
+}
+
+/// A definition named `name` with all rows of the desk.
+pub fn sequence(name: &str, title: &str, desk: &Desk) -> String {
+    let mut text = format!("\n-- {title}\nabbrev pub {name} : List Row\n{name} =\n");
+    for (i, row) in desk.rows.iter().enumerate() {
+        text += if i == 0 { "    " } else { "    ∷ " };
+        text += &print_row(row);
+        text += "\n";
+    }
+    text + "    ∷ []\n"
+}
+
+fn print_row(row: &Row) -> String {
+    match row {
+        Row::Made { call: Call::Initialise { c, h, d, s, v }, outcome, after, .. } => {
+            let digest = if outcome.result == 0 { digest(after) } else { 0 };
+            format!("begin {c} {h} {d} {s} {v} {} {digest:#X}", outcome.result)
+        }
+        Row::Made { call, outcome, after, .. } if outcome.result == 0 => {
+            let (answer, digest_after) = (numeral(&outcome.answer), digest(after));
+            match call {
+                Call::Obtain { .. } => {
+                    let labels = digest(&outcome.labels);
+                    format!("okLabels {} {answer} {digest_after:#X} {labels:#X}", print_call(call))
+                }
+                _ => format!("ok {} {answer} {digest_after:#X}", print_call(call)),
+            }
+        }
+        Row::Made { call, outcome, .. } => format!("no {} {}", print_call(call), outcome.result),
+        Row::Hurt { patches, call, result } => {
+            let patches = patches.iter().map(|(at, byte)| format!("({at} , {byte:#04X})"));
+            format!("hurt {} {} {result}", list(patches), print_call(call))
+        }
+        Row::Sized { table, answer, labels, call, result } => {
+            format!("sized {table} {answer} {labels} {} {result}", print_call(call))
+        }
+    }
+}
+
+fn print_call(call: &Call) -> String {
+    match call {
+        // Only `begin` makes a table.
+        Call::Initialise { .. } => unreachable!("an initialise is a row of its own"),
+        Call::Allocate { name, attributes, kind, start, amount, secondary } => format!(
+            "(allocate {} {} {kind} {start} {amount} {secondary})",
+            print_name(name),
+            print_attributes(attributes)
+        ),
+        Call::Extend { name } => format!("(extend {})", print_name(name)),
+        Call::Release { name, ttr } => format!("(release {} {ttr:#X})", print_name(name)),
+        Call::Scratch { name } => format!("(scratch {})", print_name(name)),
+        Call::Rename { old, new } => format!("(rename {} {})", print_name(old), print_name(new)),
+        Call::Obtain { name } => format!("(obtain {})", print_name(name)),
+        Call::Lspace => "lspace".into(),
+    }
+}
+
+/// The name up to the blanks that pad it, and its length where that is not 44.
+fn print_name(name: &[u8]) -> String {
+    let length = name.iter().rposition(|&b| b != 0x40).map_or(0, |at| at + 1);
+    let bytes = list(name[..length].iter().map(|b| format!("{b:#04X}")));
+    match name.len() {
+        44 => format!("(nm {bytes})"),
+        other => format!("(raw {other} {bytes})"),
+    }
+}
+
+/// The number that makes the attribute bytes.
+fn print_attributes(bytes: &[u8]) -> String {
+    let k = bytes.first().copied().unwrap_or(0);
+    assert_eq!(bytes, attributes_of(bytes.len(), k), "attributes made by hand");
+    match bytes.len() {
+        52 => format!("(attr {k})"),
+        other => format!("(attrN {other} {k})"),
+    }
+}
+
+fn list(items: impl Iterator<Item = String>) -> String {
+    let text: String = items.map(|item| item + " ∷ ").collect();
+    if text.is_empty() {
+        "[]".into()
+    } else {
+        format!("({text}[])")
+    }
+}
+
+/// The bytes as one numeral without leading zeros.
+fn numeral(bytes: &[u8]) -> String {
+    let digits: String = bytes.iter().map(|b| format!("{b:02X}")).collect();
+    let digits = digits.trim_start_matches('0');
+    format!("0x{}", if digits.is_empty() { "0" } else { digits })
+}

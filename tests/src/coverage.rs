@@ -1,0 +1,190 @@
+//! What a run of calls has touched: results of each call, and paths worth seeing.
+
+use std::collections::BTreeMap;
+use std::fmt;
+
+use crate::call::{Call, CALL_NAMES, RESULTS};
+use crate::generate::glance::{glance, Glance};
+
+/// The paths that a run must see.
+pub const FEATURES: [&str; 36] = [
+    "allocate: 1 piece",
+    "allocate: 2 pieces",
+    "allocate: 3 pieces",
+    "allocate: 4 pieces",
+    "allocate: 5 pieces",
+    "extend: 1 piece",
+    "extend: 2 pieces",
+    "extend: 3 pieces",
+    "extend: 4 pieces",
+    "extend: 5 pieces",
+    "cylinders granted",
+    "absolute granted",
+    "format 3 made by allocate",
+    "format 3 made by extend",
+    "format 3 freed by release",
+    "format 3 freed by scratch",
+    "format 5 made by allocate",
+    "format 5 made by extend",
+    "format 5 made by release",
+    "format 5 made by scratch",
+    "format 5 freed by allocate",
+    "format 5 freed by extend",
+    "format 5 freed by release",
+    "format 5 freed by scratch",
+    "formats 3 and 5 made at once",
+    "formats 3 and 5 freed at once",
+    "format 3 made, format 5 freed",
+    "format 3 freed, format 5 made",
+    "release inside an extent",
+    "release at the end of an extent",
+    "release of nothing",
+    "obtain with format 3",
+    "obtain without format 3",
+    "lspace with no free extent",
+    "damaged table refused",
+    "changed table accepted",
+];
+
+/// Kinds of volume that a run must see.
+pub const VOLUMES: [&str; 4] = ["H = 1", "D = 1", "VTOC not at track 1", "sixteen extents"];
+
+#[derive(Clone, Debug, Default)]
+pub struct Coverage {
+    pub results: BTreeMap<(usize, u32), usize>,
+    pub features: BTreeMap<&'static str, usize>,
+}
+
+impl Coverage {
+    /// Counts the result of a call on a table that may have been spoiled.
+    pub fn count(&mut self, call: &Call, result: u32) {
+        *self.results.entry((call.index(), result)).or_default() += 1;
+    }
+
+    /// Counts the result of a call on a table that was changed by hand.
+    pub fn count_changed(&mut self, call: &Call, result: u32) {
+        self.count(call, result);
+        match result {
+            3 => self.saw("damaged table refused"),
+            2 => {}
+            _ => self.saw("changed table accepted"),
+        }
+    }
+
+    /// Counts an accepted call by what it did to a sound table.
+    pub fn count_effect(&mut self, call: &Call, before: &[u8], after: &[u8], answer: &[u8]) {
+        let (Some(old), Some(new)) = (glance(before), glance(after)) else { return };
+        self.volume(&new);
+        let pieces = usize::from(answer[2]);
+        match call {
+            Call::Allocate { kind, .. } => {
+                self.saw(FEATURES[pieces - 1]);
+                match kind {
+                    1 => self.saw("cylinders granted"),
+                    2 => self.saw("absolute granted"),
+                    _ => {}
+                }
+            }
+            Call::Extend { .. } => self.saw(FEATURES[4 + pieces]),
+            Call::Release { name, ttr } => self.release(&old, name, ttr >> 8),
+            Call::Obtain { name } => {
+                let set = old.sets.iter().find(|set| set.name == *name);
+                let with = set.is_some_and(|set| set.format_3.is_some());
+                self.saw(if with { "obtain with format 3" } else { "obtain without format 3" });
+            }
+            Call::Lspace if old.holes.is_empty() => self.saw("lspace with no free extent"),
+            _ => {}
+        }
+        if !matches!(call, Call::Initialise { .. }) {
+            self.records(call, &old, &new);
+        }
+    }
+
+    fn saw(&mut self, feature: &'static str) {
+        *self.features.entry(feature).or_default() += 1;
+    }
+
+    fn volume(&mut self, glance: &Glance) {
+        let long = glance.sets.iter().any(|set| set.extents.len() == 16);
+        let g = glance.geometry;
+        let facts = [g.heads == 1, g.per_track == 1, g.vtoc_start > 1, long];
+        for (fact, feature) in facts.into_iter().zip(VOLUMES) {
+            if fact {
+                self.saw(feature);
+            }
+        }
+    }
+
+    fn release(&mut self, old: &Glance, name: &[u8], tt: u32) {
+        let Some(set) = old.sets.iter().find(|set| set.name == name) else { return };
+        let mut end = 0;
+        let at_end = set.extents.iter().any(|&(_, length)| {
+            end += length;
+            end == tt + 1
+        });
+        self.saw(match at_end {
+            _ if tt + 1 == set.tracks() => "release of nothing",
+            true => "release at the end of an extent",
+            false => "release inside an extent",
+        });
+    }
+
+    /// Format 3s and 5s made and freed.
+    fn records(&mut self, call: &Call, old: &Glance, new: &Glance) {
+        let threes = |glance: &Glance| glance.sets.iter().filter(|s| s.format_3.is_some()).count();
+        let three = threes(new) as isize - threes(old) as isize;
+        let five = new.format_5s.len() as isize - old.format_5s.len() as isize;
+        match (three.signum(), five.signum()) {
+            (1, 1) => self.saw("formats 3 and 5 made at once"),
+            (-1, -1) => self.saw("formats 3 and 5 freed at once"),
+            (1, -1) => self.saw("format 3 made, format 5 freed"),
+            (-1, 1) => self.saw("format 3 freed, format 5 made"),
+            _ => {}
+        }
+        for (format, change) in [(3, three), (5, five)] {
+            let verb = if change > 0 { "made" } else { "freed" };
+            let text = format!("format {format} {verb} by {}", CALL_NAMES[call.index()]);
+            if let (true, Some(&feature)) = (change != 0, FEATURES.iter().find(|&&f| f == text)) {
+                self.saw(feature);
+            }
+        }
+    }
+
+    /// The required results and features not seen. `beyond` lists results that a run
+    /// cannot show.
+    pub fn missing(&self, beyond: &[(usize, u32)]) -> Vec<String> {
+        let results = RESULTS
+            .iter()
+            .enumerate()
+            .flat_map(|(call, results)| results.iter().map(move |&result| (call, result)));
+        let results = results
+            .filter(|key| !self.results.contains_key(key) && !beyond.contains(key))
+            .map(|(call, result)| format!("{} {result}", CALL_NAMES[call]));
+        let features = FEATURES.iter().chain(&VOLUMES);
+        let features = features.filter(|&f| !self.features.contains_key(f));
+        results.chain(features.map(|f| f.to_string())).collect()
+    }
+}
+
+impl fmt::Display for Coverage {
+    fn fmt(&self, f: &mut fmt::Formatter) -> fmt::Result {
+        write!(f, "{:<12}", "result")?;
+        (0..=12).try_for_each(|result| write!(f, "{result:>6}"))?;
+        writeln!(f)?;
+        for (call, name) in CALL_NAMES.iter().enumerate() {
+            write!(f, "{name:<12}")?;
+            for result in 0..=12 {
+                match self.results.get(&(call, result)) {
+                    Some(count) => write!(f, "{count:>6}")?,
+                    None if RESULTS[call].contains(&result) => write!(f, "{:>6}", "NONE")?,
+                    None => write!(f, "{:>6}", "-")?,
+                }
+            }
+            writeln!(f)?;
+        }
+        for feature in FEATURES.iter().chain(&VOLUMES) {
+            writeln!(f, "{:>8}  {feature}", self.features.get(feature).unwrap_or(&0))?;
+        }
+        Ok(())
+    }
+}

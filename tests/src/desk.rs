@@ -1,0 +1,203 @@
+//! A table with the calls in short form, for tests and scripted cases. Each call is kept as
+//! a row, and each is watched: a refused one must not write a byte.
+
+use crate::call::{Buffers, Call, Reference};
+use crate::volumes::name;
+
+/// What came of a call.
+#[derive(Clone, Debug, PartialEq, Eq)]
+pub struct Outcome {
+    pub result: u32,
+    pub answer: Vec<u8>,
+    pub labels: Vec<u8>,
+}
+
+/// A call made and what came of it.
+#[derive(Clone, Debug)]
+pub enum Row {
+    /// On the desk's own table, which is given as it was left.
+    Made { call: Call, outcome: Outcome, before: Vec<u8>, after: Vec<u8> },
+    /// On a copy with these bytes changed.
+    Hurt { patches: Vec<(usize, u8)>, call: Call, result: u32 },
+    /// On a copy cut or zero-padded to a length, with output buffers of given lengths.
+    Sized { table: usize, answer: usize, labels: usize, call: Call, result: u32 },
+}
+
+#[derive(Clone, Debug, Default)]
+pub struct Desk {
+    pub table: Vec<u8>,
+    pub rows: Vec<Row>,
+}
+
+/// The 52 attribute bytes made from `k`.
+pub fn attributes(k: u8) -> Vec<u8> {
+    attributes_of(52, k)
+}
+
+/// `len` attribute bytes made from `k`.
+pub fn attributes_of(len: usize, k: u8) -> Vec<u8> {
+    (1..=len).map(|i| (usize::from(k) * i) as u8).collect()
+}
+
+impl Desk {
+    /// A desk with a table fresh from initialise.
+    pub fn begin(c: u32, h: u32, d: u32, s: u32, v: u32) -> Desk {
+        let mut desk = Desk::default();
+        desk.initialise(c, h, d, s, v).accepted();
+        desk
+    }
+
+    /// Initialise with a table of the right length; of none where the geometry is bad.
+    pub fn initialise(&mut self, c: u32, h: u32, d: u32, s: u32, v: u32) -> Outcome {
+        let good = crate::reference::geometry::Geometry::new(c, h, d, s, v);
+        let kept = std::mem::replace(&mut self.table, vec![0; good.map_or(0, |g| g.table_len())]);
+        let outcome = self.call(Call::Initialise { c, h, d, s, v });
+        if outcome.result != 0 {
+            self.table = kept;
+        }
+        outcome
+    }
+
+    /// Makes a call on the desk's table.
+    #[track_caller]
+    pub fn call(&mut self, call: Call) -> Outcome {
+        let before = self.table.clone();
+        let mut buffers = Buffers::new(std::mem::take(&mut self.table), 24, 280);
+        let untouched = buffers.clone();
+        let result = call.run(&Reference, &mut buffers);
+        if result != 0 {
+            assert_eq!(buffers, untouched, "refused with {result} but written: {call:?}");
+        }
+        let Buffers { table, answer, labels } = buffers;
+        let outcome = Outcome { result, answer, labels };
+        self.table = table;
+        let after = self.table.clone();
+        self.rows.push(Row::Made { call, outcome: outcome.clone(), before, after });
+        outcome
+    }
+
+    /// Makes a call on a damaged copy of the table.
+    pub fn hurt(&mut self, damaged: &[u8], call: Call) -> u32 {
+        let pairs = self.table.iter().zip(damaged).enumerate();
+        let patches = pairs.filter(|(_, (a, b))| a != b).map(|(at, (_, &b))| (at, b)).collect();
+        let result = call.run(&Reference, &mut Buffers::new(damaged.to_vec(), 24, 280));
+        self.rows.push(Row::Hurt { patches, call, result });
+        result
+    }
+
+    /// Makes a call with buffers of other lengths.
+    pub fn sized(&mut self, table: usize, answer: usize, labels: usize, call: Call) -> u32 {
+        let mut bytes = self.table.clone();
+        bytes.resize(table, 0);
+        let result = call.run(&Reference, &mut Buffers::new(bytes, answer, labels));
+        self.rows.push(Row::Sized { table, answer, labels, call, result });
+        result
+    }
+
+    #[track_caller]
+    pub fn allocate(
+        &mut self, text: &str, kind: u32, start: u32, amount: u32, secondary: u32,
+    ) -> Outcome {
+        let k = (self.rows.len() % 251) as u8;
+        let (name, attributes) = (name(text).to_vec(), attributes(k));
+        self.call(Call::Allocate { name, attributes, kind, start, amount, secondary })
+    }
+
+    #[track_caller]
+    pub fn tracks(&mut self, text: &str, amount: u32, secondary: u32) -> Outcome {
+        self.allocate(text, 0, 0, amount, secondary)
+    }
+
+    #[track_caller]
+    pub fn cylinders(&mut self, text: &str, amount: u32, secondary: u32) -> Outcome {
+        self.allocate(text, 1, 0, amount, secondary)
+    }
+
+    #[track_caller]
+    pub fn absolute(&mut self, text: &str, start: u32, count: u32) -> Outcome {
+        self.allocate(text, 2, start, count, 0)
+    }
+
+    #[track_caller]
+    pub fn extend(&mut self, text: &str) -> Outcome {
+        self.call(Call::Extend { name: name(text).to_vec() })
+    }
+
+    /// Release at TT, R.
+    #[track_caller]
+    pub fn release(&mut self, text: &str, tt: u32, r: u32) -> Outcome {
+        self.call(Call::Release { name: name(text).to_vec(), ttr: tt << 8 | r })
+    }
+
+    #[track_caller]
+    pub fn scratch(&mut self, text: &str) -> Outcome {
+        self.call(Call::Scratch { name: name(text).to_vec() })
+    }
+
+    #[track_caller]
+    pub fn rename(&mut self, old: &str, new: &str) -> Outcome {
+        self.call(Call::Rename { old: name(old).to_vec(), new: name(new).to_vec() })
+    }
+
+    #[track_caller]
+    pub fn obtain(&mut self, text: &str) -> Outcome {
+        self.call(Call::Obtain { name: name(text).to_vec() })
+    }
+
+    #[track_caller]
+    pub fn lspace(&mut self) -> Outcome {
+        self.call(Call::Lspace)
+    }
+
+    /// The record in a slot.
+    pub fn slot(&self, k: usize) -> &[u8] {
+        &self.table[k * 140..(k + 1) * 140]
+    }
+}
+
+impl Outcome {
+    /// Two bytes of the answer.
+    pub fn word(&self, at: usize) -> u32 {
+        u32::from(self.answer[at]) << 8 | u32::from(self.answer[at + 1])
+    }
+
+    pub fn pieces(&self) -> Vec<(u32, u32)> {
+        let count = usize::from(self.answer[2]);
+        (0..count).map(|i| (self.word(3 + 4 * i), self.word(5 + 4 * i))).collect()
+    }
+
+    #[track_caller]
+    pub fn accepted(&self) {
+        assert_eq!(self.result, 0, "refused");
+    }
+
+    #[track_caller]
+    pub fn refused(&self, refusal: u32) {
+        assert_eq!(self.result, refusal);
+    }
+
+    /// Accepted with exactly these pieces, and nothing else in the answer.
+    #[track_caller]
+    pub fn granted(&self, pieces: &[(u32, u32)]) {
+        self.accepted();
+        assert_eq!(self.pieces(), pieces);
+        let tracks: u32 = pieces.iter().map(|&(_, count)| count).sum();
+        assert_eq!(self.word(0), tracks);
+        assert!(self.answer[3 + 4 * pieces.len()..].iter().all(|&b| b == 0));
+    }
+
+    /// Accepted with this many tracks given back, and nothing else in the answer.
+    #[track_caller]
+    pub fn gave_back(&self, tracks: u32) {
+        self.accepted();
+        assert_eq!(self.word(0), tracks);
+        assert!(self.answer[2..].iter().all(|&b| b == 0));
+    }
+
+    /// Accepted with an answer of zeros.
+    #[track_caller]
+    pub fn without_numbers(&self) {
+        self.accepted();
+        assert_eq!(self.answer, [0; 24]);
+    }
+}

@@ -1,0 +1,12 @@
+//! Random and hostile calls and damaged tables, all from one seed.
+
+mod aim;
+mod brink;
+pub mod damage;
+pub mod glance;
+mod hostile;
+pub mod names;
+pub mod rng;
+pub mod session;
+pub mod shapes;
+pub mod shuffle;

@@ -1,0 +1,189 @@
+//! A volume's life: calls one after another, most of them kept, some on spoiled copies.
+
+use super::aim::Aim;
+use super::brink;
+use super::damage::any_damage;
+use super::glance::glance;
+use super::hostile::spoil;
+use super::rng::Rng;
+use super::shapes::{beyond, geometry, Shape, SHAPES};
+use super::shuffle::shuffled;
+use crate::call::{Buffers, Call, Reference};
+
+/// One call to make and the buffers to make it with.
+#[derive(Clone, Debug)]
+pub struct Trial {
+    pub call: Call,
+    pub buffers: Buffers,
+    pub origin: Origin,
+}
+
+/// Where a trial's table comes from.
+#[derive(Clone, Copy, Debug, PartialEq, Eq)]
+pub enum Origin {
+    /// The volume as it is; what the call leaves is its next state.
+    Live,
+    /// A copy of the volume; the call is made to see what it would do.
+    Probe,
+    /// A copy that was damaged, cut or padded.
+    Changed,
+}
+
+/// What a volume mostly does for a while.
+#[derive(Clone, Copy)]
+enum Phase {
+    Fill,
+    Wear,
+    Stretch,
+    Drain,
+    /// Calls that make and free records, on a volume on the brink.
+    Tip,
+}
+
+pub struct Session {
+    rng: Rng,
+    pub shape: Shape,
+    phase: Phase,
+    table: Vec<u8>,
+    /// Whether the table may turn into another sound one without a call.
+    shuffles: bool,
+}
+
+/// Weights of tracks, cylinders, absolute, wall, extend, release, scratch, rename, obtain,
+/// lspace, initialise.
+fn weights(phase: Phase, shape: Shape) -> [usize; 11] {
+    let cylinders = if shape == Shape::Cylinders { 4 } else { 1 };
+    match phase {
+        Phase::Fill => [40, 10 * cylinders, 10, 5, 20, 6, 6, 3, 3, 3, 1],
+        Phase::Wear => [6, 6 * cylinders, 20, 60, 6, 6, 8, 2, 2, 2, 1],
+        Phase::Stretch => [6, 2 * cylinders, 4, 4, 70, 10, 4, 2, 4, 2, 0],
+        Phase::Drain => [10, 3 * cylinders, 5, 5, 5, 30, 30, 3, 3, 3, 1],
+        Phase::Tip => [20, 25, 6, 3, 25, 25, 12, 1, 2, 1, 0],
+    }
+}
+
+impl Session {
+    pub fn new(seed: u64) -> Session {
+        let mut rng = Rng::new(seed);
+        // Large ones are slow, and so are few.
+        let shape = SHAPES[rng.weighted(&[4, 3, 2, 2, 5, 1])];
+        Session::of_shape(rng.word(), shape)
+    }
+
+    /// A volume of the given shape, set up and worn in.
+    pub fn of_shape(seed: u64, shape: Shape) -> Session {
+        let mut rng = Rng::new(seed);
+        if shape == Shape::Brink {
+            let table = brink::table(&mut rng);
+            return Session { rng, shape, phase: Phase::Tip, table, shuffles: true };
+        }
+        let g = geometry(&mut rng, shape);
+        let call = Call::Initialise {
+            c: g.cylinders,
+            h: g.heads,
+            d: g.per_track,
+            s: g.vtoc_start,
+            v: g.vtoc_tracks,
+        };
+        let mut buffers = Buffers::new(vec![0; g.table_len()], 24, 280);
+        call.run(&Reference, &mut buffers);
+        let mut session =
+            Session { rng, shape, phase: Phase::Fill, table: buffers.table, shuffles: true };
+        if shape == Shape::Worn || (shape != Shape::Tiny && session.rng.chance(50)) {
+            session.phase = Phase::Wear;
+            for _ in 0..session.rng.below(g.slots().min(80)) {
+                let call = session.honest_call();
+                session.make(&call);
+            }
+        }
+        session
+    }
+
+    /// A life that goes on from a given sound table, by calls alone.
+    pub fn on(seed: u64, table: &[u8], shape: Shape) -> Session {
+        let (rng, table) = (Rng::new(seed), table.to_vec());
+        Session { rng, shape, phase: Phase::Fill, table, shuffles: false }
+    }
+
+    pub fn table(&self) -> &[u8] {
+        &self.table
+    }
+
+    /// Makes a call with the reference and keeps its effect.
+    fn make(&mut self, call: &Call) {
+        if matches!(call, Call::Initialise { .. }) {
+            return;
+        }
+        let mut buffers = Buffers::new(std::mem::take(&mut self.table), 24, 280);
+        call.run(&Reference, &mut buffers);
+        self.table = buffers.table;
+    }
+
+    /// The next call. Give its outcome to `keep`.
+    pub fn next_trial(&mut self) -> Trial {
+        if self.rng.chance(4) && self.shape != Shape::Brink {
+            self.phase =
+                [Phase::Fill, Phase::Wear, Phase::Stretch, Phase::Drain][self.rng.below(4)];
+        }
+        if self.shuffles && self.rng.chance(1) {
+            // As sound as before, but as no series of calls would leave it.
+            self.table = shuffled(&mut self.rng, &self.table);
+        }
+        let mut call = self.honest_call();
+        let mut buffers = Buffers::new(self.table.clone(), 24, 280);
+        // A volume leaves the brink with a few calls; most of them are only tried there.
+        let stays = self.shape == Shape::Brink && self.rng.chance(80);
+        let mut origin = if stays { Origin::Probe } else { Origin::Live };
+        match self.rng.below(100) {
+            0..=7 => {
+                spoil(&mut self.rng, &mut call, &mut buffers);
+                if buffers.table.len() != self.table.len() {
+                    origin = Origin::Changed;
+                }
+            }
+            8..=24 => {
+                buffers.table = any_damage(&mut self.rng, &self.table);
+                origin = Origin::Changed;
+            }
+            _ => {}
+        }
+        Trial { call, buffers, origin }
+    }
+
+    /// Takes the table as the call left it.
+    pub fn keep(&mut self, trial: &Trial, table: Vec<u8>) {
+        if trial.origin == Origin::Live {
+            self.table = table;
+        }
+    }
+
+    fn honest_call(&mut self) -> Call {
+        let Some(glance) = glance(&self.table) else {
+            return Call::Lspace;
+        };
+        let which = self.rng.weighted(&weights(self.phase, self.shape));
+        let g = glance.geometry;
+        let mut aim = Aim { rng: &mut self.rng, glance: &glance };
+        match which {
+            0 => aim.tracks(),
+            1 => aim.cylinders(),
+            2 => aim.absolute(),
+            3 => aim.wall(),
+            4 => aim.extend(),
+            5 => aim.release(),
+            6 => aim.scratch(),
+            7 => aim.rename(),
+            8 => aim.obtain(),
+            9 => Call::Lspace,
+            _ if self.rng.chance(50) => {
+                let [c, h, d, s, v] = beyond(&mut self.rng);
+                Call::Initialise { c, h, d, s, v }
+            }
+            _ => {
+                let s = self.rng.range(1, g.tracks() - g.vtoc_tracks);
+                let (c, h, d, v) = (g.cylinders, g.heads, g.per_track, g.vtoc_tracks);
+                Call::Initialise { c, h, d, s, v }
+            }
+        }
+    }
+}

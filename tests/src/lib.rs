@@ -1,0 +1,12 @@
+//! An implementation of the VTOC space manager unrelated to the proved one, and what is
+//! needed to test the one against the other. See README.md.
+
+pub mod audit;
+pub mod call;
+pub mod cases;
+pub mod coverage;
+pub mod desk;
+pub mod generate;
+pub mod ledger;
+pub mod reference;
+pub mod volumes;

@@ -1,0 +1,68 @@
+//! The computed cases: complete, the same each time, and printed as agreed.
+
+use vtoc_tests::call::Call;
+use vtoc_tests::cases::{coverage, print, sequences, size};
+use vtoc_tests::desk::Desk;
+use vtoc_tests::volumes::name;
+
+#[test]
+fn digests() {
+    assert_eq!(print::digest(&[]), 0);
+    assert_eq!(print::digest(&[0]), 1);
+    assert_eq!(print::digest(&[0, 0]), 258);
+    assert_eq!(print::digest(&[255; 3]), (256 * 257 + 256) * 257 + 256);
+    // Beyond the modulus: 2^61 − 1.
+    let long: u128 = (0..12).fold(0, |h, _| h * 257 + 1) % ((1 << 61) - 1);
+    assert_eq!(u128::from(print::digest(&[0; 12])), long);
+}
+
+#[test]
+fn all_is_covered() {
+    let sequences = sequences();
+    assert_eq!(coverage(&sequences).missing(&[(0, 2)]), [""; 0]);
+    assert!((20..=25).contains(&sequences.len()));
+    let rows: usize = sequences.iter().map(|sequence| sequence.desk.rows.len()).sum();
+    assert!((300..=450).contains(&rows), "{rows} rows");
+    let small = sequences.iter().filter(|s| size(s).0 <= 60 && size(s).1 <= 16).count();
+    assert!(small + 2 >= sequences.len(), "more than two sequences on large volumes");
+}
+
+#[test]
+fn the_same_each_time() {
+    for (one, two) in sequences().iter().zip(&sequences()) {
+        assert_eq!(print::sequence("s", "t", &one.desk), print::sequence("s", "t", &two.desk));
+    }
+}
+
+#[test]
+fn rows_as_agreed() {
+    let mut desk = Desk::default();
+    desk.initialise(0, 5, 4, 1, 2).refused(1);
+    desk.initialise(4, 5, 4, 1, 2).accepted();
+    desk.tracks("AB", 4, 1).accepted();
+    desk.release("AB", 1, 2).accepted();
+    desk.scratch("").refused(4);
+    desk.lspace().accepted();
+    let mut damaged = desk.table.clone();
+    damaged[0] = 0;
+    damaged[280] = 0x41;
+    desk.hurt(&damaged, Call::Obtain { name: name("AB").to_vec() });
+    desk.sized(1119, 24, 280, Call::Rename { old: vec![0xC1; 3], new: vec![0xC2; 44] });
+    let text = print::sequence("sequence9", "Title", &desk);
+    let lines: Vec<&str> = text.lines().collect();
+    assert_eq!(lines[..4], ["", "-- Title", "abbrev pub sequence9 : List Row", "sequence9 ="]);
+    assert_eq!(lines[4], "    begin 0 5 4 1 2 1 0x0");
+    assert!(lines[5].starts_with("    ∷ begin 4 5 4 1 2 0 0x"));
+    let granted = "0x401000300040000000000000000000000000000000000";
+    let ok = "    ∷ ok (allocate (nm (0xC1 ∷ 0xC2 ∷ [])) (attr 2) 0 0 4 1)";
+    assert!(lines[6].starts_with(&format!("{ok} {granted} 0x")), "{}", lines[6]);
+    assert!(lines[7].contains("(release (nm (0xC1 ∷ 0xC2 ∷ [])) 0x102)"));
+    assert_eq!(lines[8], "    ∷ no (scratch (nm [])) 4");
+    assert!(lines[9].starts_with("    ∷ ok lspace 0x"));
+    let patches = "((0 , 0x00) ∷ (280 , 0x41) ∷ [])";
+    let obtain = "(obtain (nm (0xC1 ∷ 0xC2 ∷ [])))";
+    assert_eq!(lines[10], format!("    ∷ hurt {patches} {obtain} 3"));
+    let old = "(raw 3 (0xC1 ∷ 0xC1 ∷ 0xC1 ∷ []))";
+    assert!(lines[11].starts_with(&format!("    ∷ sized 1119 24 280 (rename {old} (nm (0xC2")));
+    assert_eq!(lines[12], "    ∷ []");
+}

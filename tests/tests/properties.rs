@@ -1,0 +1,150 @@
+//! Random and hostile calls over many volumes: what must hold whatever the calls are.
+
+use vtoc_tests::audit::picture;
+use vtoc_tests::call::{Call, Reference};
+use vtoc_tests::coverage::Coverage;
+use vtoc_tests::generate::damage::{damage, DAMAGES};
+use vtoc_tests::generate::rng::Rng;
+use vtoc_tests::generate::session::{Origin, Session};
+use vtoc_tests::generate::shapes::{Shape, SHAPES};
+use vtoc_tests::ledger::Ledger;
+use vtoc_tests::reference::{listing, taken};
+
+/// Runs a session. After each call: refused, nothing is written; accepted, the table is
+/// taken by the check and by the audit, and says what the ledger says.
+fn run(mut session: Session, calls: usize, coverage: &mut Coverage) {
+    let mut ledger = Ledger::of(&picture(session.table()).expect("sound"));
+    for _ in 0..calls {
+        let trial = session.next_trial();
+        let mut buffers = trial.buffers.clone();
+        let result = trial.call.run(&Reference, &mut buffers);
+        let before = &trial.buffers.table;
+        match trial.origin {
+            Origin::Changed => coverage.count_changed(&trial.call, result),
+            Origin::Live | Origin::Probe => coverage.count(&trial.call, result),
+        }
+        if result != 0 {
+            assert_eq!(buffers, trial.buffers, "{result} {:?}", trial.call);
+            let initialising = matches!(trial.call, Call::Initialise { .. });
+            assert_eq!(taken(before), picture(before).is_some());
+            assert!(initialising || result <= 2 || taken(before) == (result != 3));
+            continue;
+        }
+        let seen = picture(&buffers.table).expect("an accepted call leaves a sound table");
+        assert!(taken(&buffers.table));
+        if !matches!(trial.call, Call::Obtain { .. }) {
+            assert_eq!(buffers.labels, trial.buffers.labels);
+        }
+        if trial.origin != Origin::Changed {
+            coverage.count_effect(&trial.call, before, &buffers.table, &buffers.answer);
+        }
+        if trial.origin == Origin::Live {
+            ledger.enter(&trial.call, result, &buffers.answer);
+            assert!(ledger.agrees(&seen), "{:?}", trial.call);
+        }
+        session.keep(&trial, buffers.table);
+    }
+}
+
+#[test]
+fn random_calls() {
+    let mut coverage = Coverage::default();
+    // SESSIONS=5000 cargo test random_calls: for a long run.
+    let sessions = std::env::var("SESSIONS").ok().and_then(|text| text.parse().ok());
+    for seed in 0..sessions.unwrap_or(160) {
+        let session = Session::new(seed);
+        let calls = if session.shape == Shape::Large { 40 } else { 250 };
+        run(session, calls, &mut coverage);
+    }
+    println!("{coverage}");
+    assert_eq!(coverage.missing(&[]), [""; 0], "not seen");
+}
+
+#[test]
+fn every_damage_is_judged_alike() {
+    for (seed, &shape) in (0..60).zip(SHAPES[..5].iter().cycle()) {
+        let mut session = Session::of_shape(seed, shape);
+        let mut rng = Rng::new(seed);
+        for _ in 0..3 {
+            run_quietly(&mut session, 60);
+            for &kind in DAMAGES {
+                for _ in 0..4 {
+                    let Some(damaged) = damage(&mut rng, session.table(), kind) else { continue };
+                    assert_eq!(taken(&damaged), picture(&damaged).is_some(), "{kind:?} {seed}");
+                }
+            }
+        }
+    }
+}
+
+fn run_quietly(session: &mut Session, calls: usize) {
+    for _ in 0..calls {
+        let trial = session.next_trial();
+        let mut buffers = trial.buffers.clone();
+        trial.call.run(&Reference, &mut buffers);
+        session.keep(&trial, buffers.table);
+    }
+}
+
+/// Every byte of a small worn volume, changed in several ways: the check and the audit,
+/// which share nothing, judge alike.
+#[test]
+fn every_single_byte_is_judged_alike() {
+    for shape in [Shape::Tiny, Shape::Stretched, Shape::Worn] {
+        let mut session = Session::of_shape(7, shape);
+        run_quietly(&mut session, 150);
+        let mut table = session.table().to_vec();
+        assert!(taken(&table));
+        for at in 0..table.len() {
+            let kept = table[at];
+            for value in [kept.wrapping_add(1), kept.wrapping_sub(1), kept ^ 0x80, 0, 1, 0x40] {
+                table[at] = value;
+                assert_eq!(taken(&table), picture(&table).is_some(), "{at} {value:02X}");
+            }
+            table[at] = kept;
+        }
+    }
+}
+
+#[test]
+fn listings_say_what_the_audit_sees() {
+    for seed in 0..40 {
+        let mut session = Session::new(seed);
+        run_quietly(&mut session, 60);
+        let seen = picture(session.table()).expect("sound");
+        let mut text = format!("V {} {} {}\n", seen.c, seen.h, seen.c * seen.h);
+        for set in &seen.sets {
+            let name: String = set.name.iter().filter(|&&b| b != 0x40).map(|&b| ascii(b)).collect();
+            text += &format!("D {name} {} {}\n", set.tracks().len(), set.extents.len());
+        }
+        for (start, length) in seen.free {
+            text += &format!("F {start} {length}\n");
+        }
+        text += &format!("S {}\n", seen.format_0s);
+        assert_eq!(String::from_utf8(listing(session.table())).unwrap(), text);
+    }
+}
+
+/// The character of a name byte, found by looking for it in the other direction.
+fn ascii(byte: u8) -> char {
+    let letters = b"ABCDEFGHIJKLMNOPQRSTUVWXYZ0123456789.-$#@";
+    let found = letters.iter().find(|&&c| vtoc_tests::volumes::ebcdic(c) == byte);
+    char::from(*found.expect("a name character"))
+}
+
+/// Bytes of any kind and length, and wild numbers: no panic, and no call but initialise
+/// takes them.
+#[test]
+fn noise_is_refused() {
+    let mut rng = Rng::new(1);
+    for _ in 0..3000 {
+        let length = match rng.below(3) {
+            0 => rng.below(3000),
+            1 => 140 * rng.below(20),
+            _ => 140 * (465 + rng.below(6)),
+        };
+        let table: Vec<u8> = (0..length).map(|_| rng.byte()).collect();
+        assert!(!taken(&table));
+        assert!(listing(&table).starts_with(b"E "));
+    }
+}
