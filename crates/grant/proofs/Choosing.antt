@@ -65,7 +65,7 @@ first-place (x ∷ g) r l = refl
 
 -- ---- what the pass has found
 
-module _ (m : List ℕ) (n u k : ℕ) (best : Run) (five : List Run) (fits : n ≤ 65535) (pos : 1 ≤ k) (s : Surveyed u k (freeFrom m n 0) best five) where
+module _ (m : List ℕ) (n : ℕ) {u k : ℕ} {best : Run} {five : List Run} (fits : n ≤ 65535) (pos : 1 ≤ k) (s : Surveyed u k (freeFrom m n 0) best five) where
   pub five-within : Within u five
   five-within j =
       let c = candidates u (freeFrom m n 0) in

@@ -89,7 +89,7 @@ map-nothing (some ps) = refl
 pub filling-none : (u n : ℕ) (five g₀ : List (List ℕ)) → 1 ≤ n → n ≤ total (toRuns five) → Filling u n five g₀ n g₀ 0
 filling-none u n five g₀ h l = record { few = omega arith; some = h; enough = l; so-far = map-nothing (gather n (toRuns five)); places = refl }
 
-module _ (u n : ℕ) (five g₀ : List (List ℕ)) (rest : ℕ) (g : List (List ℕ)) (k : ℕ) (l : length five ≡ 5) (l₀ : length g₀ ≡ 5) (f : Filling u n five g₀ rest g k) where
+module _ {u n : ℕ} {five g₀ : List (List ℕ)} {rest : ℕ} {g : List (List ℕ)} {k : ℕ} (f : Filling u n five g₀ rest g k) (l : length five ≡ 5) (l₀ : length g₀ ≡ 5) where
   inside : k < length five
   inside = let a = f .few in omega arith
 

@@ -57,9 +57,10 @@ all-below lo hi f [] s i a = tt
 all-below lo hi f (p ∷ ps) s i a =
     let t = p .start + p .count - 1 in
     let x = hit-in p t (omega (arith, a .0)) (omega (arith, a .0)) in
-    let y = i t in
-    (⊎-elim (λ h. absurd (omega (arith, above lo hi f t s h))) (λ h. omega arith) (le-or-lt hi t),
-      all-below lo hi f ps s (λ t. let z = i t in omega arith) (a .1))
+    let y = i t in (
+      ⊎-elim (λ h. absurd (omega (arith, above lo hi f t s h))) (λ h. omega arith) (le-or-lt hi t),
+      all-below lo hi f ps s (λ t. let z = i t in omega arith) (a .1),
+    )
 
 pub granted-law : (u n lo hi : ℕ) (f ps : List Run) → 1 ≤ u → 1 ≤ n → Separate lo hi f → grantedRuns u n f ≡ some ps → Pieces u n hi f ps
 granted-law u n lo hi f ps pos h s e =

@@ -27,7 +27,9 @@ index-2-result-3 : tie.Need-index-2-result-3
 index-2-result-3 c = search needs
 
 add-result-2 : tie.Need-add-result-2
-add-result-2 c = omega (arith, rows-small (c .before .before .before .args .u) (c .before .before .before .args .t1) (omega arith) (c .before .before .before .pre .1))
+add-result-2 c =
+    let top = c .before .before .before in
+    omega (arith, rows-small (top .args .u) (top .args .t1) (omega arith) (top .pre .1))
 
 index-1-result-4 : tie.Need-index-1-result-4
 index-1-result-4 c = search needs
@@ -36,7 +38,9 @@ index-2-result-4 : tie.Need-index-2-result-4
 index-2-result-4 c = search needs
 
 add-result-3 : tie.Need-add-result-3
-add-result-3 c = omega (arith, rows-small (c .before .before .before .before .args .u) (c .before .before .before .before .args .t1) (omega arith) (c .before .before .before .before .pre .1))
+add-result-3 c =
+    let top = c .before .before .before .before in
+    omega (arith, rows-small (top .args .u) (top .args .t1) (omega arith) (top .pre .1))
 
 index-1-result-5 : tie.Need-index-1-result-5
 index-1-result-5 c = search needs
@@ -45,7 +49,9 @@ index-2-result-5 : tie.Need-index-2-result-5
 index-2-result-5 c = search needs
 
 add-result-4 : tie.Need-add-result-4
-add-result-4 c = omega (arith, rows-small (c .before .before .before .before .before .args .u) (c .before .before .before .before .before .args .t1) (omega arith) (c .before .before .before .before .before .pre .1))
+add-result-4 c =
+    let top = c .before .before .before .before .before in
+    omega (arith, rows-small (top .args .u) (top .args .t1) (omega arith) (top .pre .1))
 
 returns : tie.Need-returns
 returns c = total-five (c .before .before .before .before .before .args .t1) (search needs)
