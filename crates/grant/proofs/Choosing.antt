@@ -18,7 +18,8 @@ use Rattle.model.proofs.Choose.{sorted-All}
 use Rattle.tracks.specs.Map.{freeFrom}
 use Rattle.tracks.proofs.Held.{free-apart}
 use Rattle.grant.specs.Grant.{grantedRuns, row, grant, replyOf}
-use Rattle.grant.specs.Pass.{noRun, runOrNone, padded, Surveyed, Within}
+use Rattle.grant.specs.Pass.{noRun, runOrNone, padded, Surveyed, Within, Small}
+use Rattle.grant.proofs.Bounds.{small}
 use Rattle.grant.proofs.Gathering.{gather-padded, gather-short}
 
 -- ---- where the candidates lie
@@ -73,6 +74,9 @@ module _ (m : List ℕ) (n : ℕ) {u k : ℕ} {best : Run} {five : List Run} (fi
       (subst (λ (ds : List Run). (getD ds j noRun .start + getD ds j noRun .count) * u ≤ n) (sym (s .longest))
       (padded-at u n 5 (longestFirst c) (sorted-All (Ends u n) c (free-end u n m)) j))
       fits
+
+  pub five-small : 1 ≤ u → Small five
+  five-small h = small u five h five-within
 
   found : 1 ≤ best .count → shortest (serving k (candidates u (freeFrom m n 0))) ≡ some best
   unfolding runOrNone

@@ -5,7 +5,7 @@ use native.Mathlib.Omega.{arith}
 use native.Mathlib.Nat.{mul-le-mul}
 use borrow.Author.Needs.{needs}
 use Rattle.model.specs.Model.{Run}
-use Rattle.grant.proofs.Choosing.{five-within, best-within, granted-one, granted-none, granted-more}
+use Rattle.grant.proofs.Choosing.{five-within, five-small, best-within, granted-one, granted-none, granted-more}
 use Rattle.grant.specs.Grant.{replyOf}
 use Rattle.grant.specs.Pass.{padded}
 use Rattle.grant.proofs.choose.Statement.{statement}
@@ -36,7 +36,7 @@ returns c =
 sum-requires : tie.Need-sum-requires
 sum-requires c κs =
     let top = c .before .before .before .before .before in
-    (omega arith, five-within (top .args .map .now) (top .args .n) (omega arith) (omega arith) (c .before .before .survey .ensures))
+    five-small (top .args .map .now) (top .args .n) (omega arith) (omega arith) (c .before .before .survey .ensures) (omega arith)
 
 returns-2 : tie.Need-returns-2
 returns-2 c =

@@ -31,7 +31,7 @@ array-read-piece c = search needs
 piece-requires : tie.Need-piece-requires Inv-loop μ-loop
 piece-requires c κs =
     let top = c .before .before .before in
-    part-within (top .args .u) (top .args .t1) (omega arith) (top .pre .1 .0) (c .before .loop .k) (c .before .loop .next) (getD (c .before .loop .next) 1 0) (c .before .loop .inv .0) (omega arith)
+    part-within (top .args .u) (top .args .t1) (c .before .loop .k) (c .before .loop .next) (getD (c .before .loop .next) 1 0) (top .pre .1 .0) (c .before .loop .inv .0) (omega arith)
 
 mul-all : tie.Need-mul-all Inv-loop μ-loop
 mul-all c = search needs
@@ -75,7 +75,7 @@ loop-again c = (refl, turn (c .before))
 piece-requires-2 : tie.Need-piece-requires-2 Inv-loop μ-loop
 piece-requires-2 c κs =
     let top = c .before .before .before in
-    part-within (top .args .u) (top .args .t1) (omega arith) (top .pre .1 .0) (c .before .loop .k) (c .before .loop .next) (c .before .loop .rest) (c .before .loop .inv .0) (c .loop-test .left)
+    part-within (top .args .u) (top .args .t1) (c .before .loop .k) (c .before .loop .next) (c .before .loop .rest) (top .pre .1 .0) (c .before .loop .inv .0) (c .loop-test .left)
 
 mul-last : tie.Need-mul-last Inv-loop μ-loop
 mul-last c = search needs
