@@ -1,18 +1,18 @@
 -- From what the pass has found to what is granted. Assumes nothing.
 use mathlib.Core.Path.{_≡_, refl, sym, ap, _∙_, subst}
-use mathlib.Core.Bool.{Bool, true, false, cond}
+use mathlib.Core.Bool.{Bool}
 use mathlib.Core.Option.{Option, none, some}
-use mathlib.Core.List.{List, [], _∷_, _++_, map}
-use Prim.Native.Nat.{ℕ, zero, suc, _+_, _-_, _*_, _/_, _≤_, _<_}
-use native.Mathlib.Nat.{le-refl, le-trans, div-mul-le-self, mul-le-mul-right}
+use mathlib.Core.List.{List, [], _∷_, map}
+use Prim.Native.Nat.{ℕ, zero, suc, _+_, _*_, _/_, _≤_, _<_}
+use native.Mathlib.Nat.{le-trans, div-mul-le-self, mul-le-mul-right}
 use native.Mathlib.Omega.{arith}
-use borrow.Author.Tests.{leb-true, leb-false, le-leb, lt-leb}
-use lib.ListN.{length, getD, set, take, drop}
+use borrow.Author.Tests.{leb-true, le-leb, lt-leb}
+use lib.ListN.{length, getD, set, drop}
 use lib.Dec.{T, leb, leb→le}
-use Rattle.model.specs.Basics.{filter, keepIf, orElse, mapOption}
+use Rattle.model.specs.Basics.{mapOption}
 use Rattle.model.specs.Model.{Run, run, total}
-use Rattle.model.specs.Choice.{wholeIn, candidates, serving, shorter, shortest, longestFirst, firstPart, gather, oneOrFive, choose, scale}
-use Rattle.model.proofs.Lists.{by, All, All-map, All-filter, All-both, filter-pass, some-is}
+use Rattle.model.specs.Choice.{wholeIn, candidates, serving, shorter, shortest, longestFirst, gather, oneOrFive, choose, scale}
+use Rattle.model.proofs.Lists.{by, All, All-filter, All-both, filter-pass, some-is}
 use Rattle.model.proofs.Runs.{Separate}
 use Rattle.model.proofs.Choose.{sorted-All}
 use Rattle.tracks.specs.Map.{freeFrom}

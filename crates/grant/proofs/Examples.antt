@@ -1,9 +1,8 @@
 -- Cases of the paper, computed on the definition that `choose` is proved against. Assumes nothing.
 use mathlib.Core.Path.{_≡_, refl}
-use mathlib.Core.Option.{Option, none, some}
-use mathlib.Core.List.{List, [], _∷_}
-use Prim.Native.Nat.{ℕ}
-use Rattle.model.specs.Model.{Run, run}
+use mathlib.Core.Option.{none, some}
+use mathlib.Core.List.{[], _∷_}
+use Rattle.model.specs.Model.{run}
 use Rattle.model.specs.Choice.{choose}
 use Rattle.grant.specs.Grant.{grantedRuns}
 
