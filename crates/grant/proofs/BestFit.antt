@@ -1,14 +1,14 @@
 -- The best fit, kept as the candidates come, is the shortest that serves, and the first of those. Assumes nothing.
 use mathlib.Core.Path.{_≡_, refl, sym, ap, _∙_}
-use mathlib.Core.Bool.{Bool, true, false, cond, _&&_, _||_}
+use mathlib.Core.Bool.{Bool, true, false, cond}
 use mathlib.Core.Option.{Option, none, some}
-use mathlib.Core.List.{List, [], _∷_, map}
-use Prim.Native.Nat.{ℕ, zero, suc, _≤_, _<_}
+use mathlib.Core.List.{List, [], _∷_}
+use Prim.Native.Nat.{ℕ, _≤_, _<_}
 use native.Mathlib.Omega.{arith}
 use borrow.Author.Tests.{ltb-true, ltb-false, leb-true, leb-false, eqb-true, eqb-false, lt-ltb, le-ltb, le-leb, lt-leb, eq-eqb, ne-eqb}
 use lib.Dec.{leb, ltb, eqb}
-use Rattle.model.specs.Basics.{filter, keepIf, orElse}
-use Rattle.model.specs.Model.{Run, run}
+use Rattle.model.specs.Basics.{keepIf}
+use Rattle.model.specs.Model.{Run}
 use Rattle.model.specs.Choice.{wholeIn, candidates, serving, shorter, shortest}
 use Rattle.model.proofs.Lists.{by}
 use Rattle.grant.specs.Pass.{noRun, runOrNone, fitsBetter}

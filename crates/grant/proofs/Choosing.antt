@@ -1,23 +1,24 @@
 -- From what the pass has found to what is granted. Assumes nothing.
 use mathlib.Core.Path.{_≡_, refl, sym, ap, _∙_, subst}
-use mathlib.Core.Bool.{Bool, true, false, cond}
+use mathlib.Core.Bool.{Bool}
 use mathlib.Core.Option.{Option, none, some}
-use mathlib.Core.List.{List, [], _∷_, _++_, map}
-use Prim.Native.Nat.{ℕ, zero, suc, _+_, _-_, _*_, _/_, _≤_, _<_}
-use native.Mathlib.Nat.{le-refl, le-trans, div-mul-le-self, mul-le-mul-right}
+use mathlib.Core.List.{List, [], _∷_, map}
+use Prim.Native.Nat.{ℕ, zero, suc, _+_, _*_, _/_, _≤_, _<_}
+use native.Mathlib.Nat.{le-trans, div-mul-le-self, mul-le-mul-right}
 use native.Mathlib.Omega.{arith}
-use borrow.Author.Tests.{leb-true, leb-false, le-leb, lt-leb}
-use lib.ListN.{length, getD, set, take, drop}
+use borrow.Author.Tests.{leb-true, le-leb, lt-leb}
+use lib.ListN.{length, getD, set, drop}
 use lib.Dec.{T, leb, leb→le}
-use Rattle.model.specs.Basics.{filter, keepIf, orElse, mapOption}
+use Rattle.model.specs.Basics.{mapOption}
 use Rattle.model.specs.Model.{Run, run, total, Separate}
-use Rattle.model.specs.Choice.{wholeIn, candidates, serving, shorter, shortest, longestFirst, firstPart, gather, oneOrFive, choose, scale}
-use Rattle.model.proofs.Lists.{by, All, All-map, All-filter, All-both, filter-pass, some-is}
+use Rattle.model.specs.Choice.{wholeIn, candidates, serving, shorter, shortest, longestFirst, gather, oneOrFive, choose, scale}
+use Rattle.model.proofs.Lists.{by, All, All-filter, All-both, filter-pass, some-is}
 use Rattle.model.proofs.Choose.{sorted-All}
 use Rattle.tracks.specs.Map.{freeFrom}
 use Rattle.tracks.proofs.Held.{free-apart}
 use Rattle.grant.specs.Grant.{grantedRuns, row, grant, replyOf}
-use Rattle.grant.specs.Pass.{noRun, runOrNone, padded, Surveyed, Within}
+use Rattle.grant.specs.Pass.{noRun, runOrNone, padded, Surveyed, Within, Small}
+use Rattle.grant.proofs.Bounds.{small}
 use Rattle.grant.proofs.Gathering.{gather-padded, gather-short}
 
 -- ---- where the candidates lie
@@ -64,7 +65,7 @@ first-place (x ∷ g) r l = refl
 
 -- ---- what the pass has found
 
-module _ (m : List ℕ) (n u k : ℕ) (best : Run) (five : List Run) (fits : n ≤ 65535) (pos : 1 ≤ k) (s : Surveyed u k (freeFrom m n 0) best five) where
+module _ (m : List ℕ) (n : ℕ) {u k : ℕ} {best : Run} {five : List Run} (fits : n ≤ 65535) (pos : 1 ≤ k) (s : Surveyed u k (freeFrom m n 0) best five) where
   pub five-within : Within u five
   five-within j =
       let c = candidates u (freeFrom m n 0) in
@@ -72,6 +73,9 @@ module _ (m : List ℕ) (n u k : ℕ) (best : Run) (five : List Run) (fits : n �
       (subst (λ (ds : List Run). (getD ds j noRun .start + getD ds j noRun .count) * u ≤ n) (sym (s .longest))
       (padded-at u n 5 (longestFirst c) (sorted-All (Ends u n) c (free-end u n m)) j))
       fits
+
+  pub five-small : 1 ≤ u → Small five
+  five-small h = small u five h five-within
 
   found : 1 ≤ best .count → shortest (serving k (candidates u (freeFrom m n 0))) ≡ some best
   unfolding runOrNone

@@ -1,15 +1,14 @@
 -- What a turn of `enter` does to the five rows. Assumes nothing.
-use mathlib.Core.Path.{_≡_, refl, sym, ap, _∙_}
-use mathlib.Core.Bool.{Bool, true, false, cond}
-use mathlib.Core.List.{List, [], _∷_, _++_, map, map-append, append-assoc, append-nil}
-use Prim.Native.Nat.{ℕ, zero, suc, _+_, _≤_, _<_}
+use mathlib.Core.Path.{_≡_, sym, ap, _∙_}
+use mathlib.Core.Bool.{Bool, cond}
+use mathlib.Core.List.{List, [], _∷_, _++_, map-append, append-assoc, append-nil}
+use Prim.Native.Nat.{ℕ, suc, _+_, _≤_, _<_}
 use native.Mathlib.Numerals.{add-one}
 use native.Mathlib.Omega.{arith}
 use borrow.Author.Tests.{lt-ltb, le-ltb}
 use lib.ListN.{length, getD, set, take, drop, List·getD-map, drop-of-length-le}
 use lib.Seq.{take-suc, drop-cons, take-suc-set, drop-set-lt, take-all}
-use lib.Dec.{ltb}
-use Rattle.model.specs.Model.{Run, run}
+use Rattle.model.specs.Model.{Run}
 use Rattle.grant.specs.Pass.{toRun, toRuns, noRun, placed, entered}
 
 -- the first k places are as they will be; the row that is held is to go among the others

@@ -1,20 +1,20 @@
 -- Whole candidates, longest first, and the first part of the next: the turns of `fill`. Assumes nothing.
-use mathlib.Core.Path.{_≡_, refl, sym, ap, _∙_, subst}
-use mathlib.Core.Bool.{Bool, true, false, cond}
+use mathlib.Core.Path.{_≡_, refl, sym, ap, _∙_}
+use mathlib.Core.Bool.{Bool, false, cond}
 use mathlib.Core.Option.{Option, none, some}
 use mathlib.Core.List.{List, [], _∷_, _++_, map, map-append, append-assoc}
 use Prim.Native.Nat.{ℕ, zero, suc, _+_, _-_, _*_, _≤_, _<_}
-use native.Mathlib.Nat.{le-refl, add-mul}
+use native.Mathlib.Nat.{add-mul}
 use native.Mathlib.Numerals.{add-one}
 use native.Mathlib.Omega.{arith}
-use borrow.Author.Tests.{leb-true, leb-false, le-leb, lt-leb}
+use borrow.Author.Tests.{leb-false, le-leb, lt-leb}
 use lib.ListN.{length, getD, set, take, drop, length-append, length-map, length-take, length-drop}
-use lib.Seq.{take-suc, drop-cons, take-nil, set-at, drop-length}
+use lib.Seq.{take-suc, drop-cons, take-nil, set-at}
 use lib.Dec.{leb}
-use Rattle.model.specs.Basics.{mapOption, sumOf}
+use Rattle.model.specs.Basics.{mapOption}
 use Rattle.model.specs.Model.{Run, run, total}
 use Rattle.model.specs.Choice.{firstPart, gather, scale}
-use Rattle.model.proofs.Lists.{by, some-is, sum-append}
+use Rattle.model.proofs.Lists.{by, some-is}
 use Rattle.grant.specs.Grant.{row, grant, replyOf}
 use Rattle.grant.specs.Pass.{toRun, toRuns, noRun, padded}
 
@@ -89,7 +89,7 @@ map-nothing (some ps) = refl
 pub filling-none : (u n : ℕ) (five g₀ : List (List ℕ)) → 1 ≤ n → n ≤ total (toRuns five) → Filling u n five g₀ n g₀ 0
 filling-none u n five g₀ h l = record { few = omega arith; some = h; enough = l; so-far = map-nothing (gather n (toRuns five)); places = refl }
 
-module _ (u n : ℕ) (five g₀ : List (List ℕ)) (rest : ℕ) (g : List (List ℕ)) (k : ℕ) (l : length five ≡ 5) (l₀ : length g₀ ≡ 5) (f : Filling u n five g₀ rest g k) where
+module _ {u n : ℕ} {five g₀ : List (List ℕ)} {rest : ℕ} {g : List (List ℕ)} {k : ℕ} (f : Filling u n five g₀ rest g k) (l : length five ≡ 5) (l₀ : length g₀ ≡ 5) where
   inside : k < length five
   inside = let a = f .few in omega arith
 

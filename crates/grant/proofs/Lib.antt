@@ -6,3 +6,4 @@ pub mod Passing
 pub mod Gathering
 pub mod Choosing
 pub mod Reply
+pub mod Examples

@@ -1,15 +1,14 @@
 -- The five longest: candidates entered as they come leave the first five of `longestFirst`. Assumes nothing.
 use mathlib.Core.Path.{_≡_, refl, sym, ap, _∙_}
-use mathlib.Core.Bool.{Bool, true, false, cond}
-use mathlib.Core.List.{List, [], _∷_, _++_, map, append-assoc, append-nil}
+use mathlib.Core.Bool.{true, false, cond}
+use mathlib.Core.List.{List, [], _∷_, _++_, append-assoc, append-nil}
 use Prim.Native.Nat.{ℕ, zero, suc, _≤_, _<_}
 use native.Mathlib.Omega.{arith}
-use borrow.Author.Tests.{ltb-true, ltb-false, leb-true, leb-false, lt-ltb, le-ltb, le-leb, lt-leb}
+use borrow.Author.Tests.{ltb-false, leb-true, leb-false, lt-ltb, le-ltb, le-leb, lt-leb}
 use lib.ListN.{getD}
 use lib.Dec.{leb, ltb}
-use Rattle.model.specs.Basics.{filter, keepIf}
-use Rattle.model.specs.Model.{Run, run}
-use Rattle.model.specs.Choice.{wholeIn, candidates, before, insertRun, longestFirst}
+use Rattle.model.specs.Model.{Run}
+use Rattle.model.specs.Choice.{wholeIn, candidates, insertRun, longestFirst}
 use Rattle.model.proofs.Lists.{by, All, All-map}
 use Rattle.grant.specs.Pass.{noRun, padded, placed, entered}
 

@@ -1,9 +1,9 @@
 -- The pass over the map's runs, turn by turn, and what it comes to. Assumes nothing.
-use mathlib.Core.Path.{_≡_, refl, sym, ap, _∙_, subst}
-use mathlib.Core.Bool.{Bool, true, false, cond}
-use mathlib.Core.Logic.{_⊎_, inl, inr, ⊎-elim}
-use mathlib.Core.List.{List, [], _∷_}
-use Prim.Native.Nat.{ℕ, zero, suc, _+_, _-_, _*_, _/_, _≤_, _<_}
+use mathlib.Core.Path.{_≡_, sym, ap, _∙_}
+use mathlib.Core.Bool.{Bool, cond}
+use mathlib.Core.Logic.{⊎-elim}
+use mathlib.Core.List.{List, []}
+use Prim.Native.Nat.{ℕ, _+_, _-_, _/_, _≤_}
 use native.Mathlib.Nat.{le-div-iff-mul-le, div-mul-le-self}
 use native.Mathlib.Omega.{arith}
 use Rattle.model.specs.Model.{Run, run}
@@ -22,7 +22,7 @@ no-units u a h =
     omega arith
 
 -- where no run is left, what the code looks at has no tracks
-module _ (m : List ℕ) (n s a b u : ℕ) (pos : 1 ≤ u) (r : NextRun m n s a b) (h : n ≤ a) where
+module _ {m : List ℕ} {n s a b : ℕ} (u : ℕ) (pos : 1 ≤ u) (r : NextRun m n s a b) (h : n ≤ a) where
   at-end : b ≡ n
   at-end = let l = r .low in let k = r .high in omega arith
 
@@ -32,14 +32,14 @@ module _ (m : List ℕ) (n s a b u : ℕ) (pos : 1 ≤ u) (r : NextRun m n s a b
   none-left : freeFrom m n b ≡ []
   none-left = ap (freeFrom m n) at-end ∙ free-from-end m n
 
-module _ (m : List ℕ) (n s a b u : ℕ) (pos : 1 ≤ u) (r : NextRun m n s a b) where
+module _ {m : List ℕ} {n s a b : ℕ} (u : ℕ) (pos : 1 ≤ u) (r : NextRun m n s a b) where
   pub best-turn : (k : ℕ) (x : Run) → 1 ≤ k → bestAfter u k x (freeFrom m n s) ≡ bestAfter u k (better k x (wholeIn u (run a (b - a)))) (freeFrom m n b)
   best-turn k x h =
       ⊎-elim
       (λ l.
       ap (bestAfter u k x) (r .done l)
-      ∙ sym (best-none k x (wholeIn u (run a (b - a))) h (nothing m n s a b u pos r l))
-      ∙ sym (ap (bestAfter u k (better k x (wholeIn u (run a (b - a))))) (none-left m n s a b u pos r l)))
+      ∙ sym (best-none k x (wholeIn u (run a (b - a))) h (nothing u pos r l))
+      ∙ sym (ap (bestAfter u k (better k x (wholeIn u (run a (b - a))))) (none-left u pos r l)))
       (λ l. ap (bestAfter u k x) (r .more l .1))
       (le-or-lt n a)
 
@@ -48,8 +48,8 @@ module _ (m : List ℕ) (n s a b u : ℕ) (pos : 1 ≤ u) (r : NextRun m n s a b
       ⊎-elim
       (λ l.
       ap (fiveAfter u ds) (r .done l)
-      ∙ sym (five-none u (run a (b - a)) ds (nothing m n s a b u pos r l))
-      ∙ sym (ap (fiveAfter u (entered (wholeIn u (run a (b - a))) ds)) (none-left m n s a b u pos r l)))
+      ∙ sym (five-none u (run a (b - a)) ds (nothing u pos r l))
+      ∙ sym (ap (fiveAfter u (entered (wholeIn u (run a (b - a))) ds)) (none-left u pos r l)))
       (λ l. ap (fiveAfter u ds) (r .more l .1))
       (le-or-lt n a)
 

@@ -1,19 +1,17 @@
 -- What a caller reads off a reply: refused or not, and where the pieces lie. Assumes nothing.
 use mathlib.Core.Path.{_≡_, refl, sym, ap, _∙_, subst}
-use mathlib.Core.Bool.{Bool, true, false}
 use mathlib.Core.Option.{Option, none, some}
 use mathlib.Core.Logic.{⊎-elim}
 use mathlib.Core.List.{List, [], _∷_, _++_, map}
-use Prim.Native.Nat.{ℕ, zero, suc, _+_, _-_, _*_, _≤_, _<_}
-use native.Mathlib.Nat.{le-refl, le-trans}
+use Prim.Native.Nat.{ℕ, _+_, _-_, _*_, _≤_}
 use native.Mathlib.Omega.{arith}
 use lib.ListN.{length, drop, length-map}
-use Rattle.model.specs.Basics.{mapOption, bit}
-use Rattle.model.specs.Model.{Run, run, Extent, extent, overs, covers, times, total, Separate}
+use Rattle.model.specs.Basics.{mapOption}
+use Rattle.model.specs.Model.{Run, Extent, extent, overs, times, total, Separate}
 use Rattle.model.specs.Choice.{candidates, choose, scale, piece, pieces}
 use Rattle.model.proofs.Lists.{All}
 use Rattle.model.proofs.Runs.{hit-in, above}
-use Rattle.model.proofs.Candidates.{Piece, Granted, pieces-law}
+use Rattle.model.proofs.Candidates.{Piece, pieces-law}
 use Rattle.tracks.proofs.Bits.{le-or-lt}
 use Rattle.grant.specs.Grant.{grantedRuns, row, Grant, grant, replyOf}
 

@@ -4,7 +4,7 @@ use mathlib.Core.Option.{Option, none, some}
 use mathlib.Core.List.{List, [], _∷_, _++_, map}
 use lib.ListN.{length, drop}
 use Rattle.model.specs.Basics.{mapOption}
-use Rattle.model.specs.Model.{Run, run, total}
+use Rattle.model.specs.Model.{Run, total}
 use Rattle.model.specs.Choice.{candidates, choose, scale}
 
 -- the pieces, in tracks, for n units of u tracks out of the free extents f; none: the five longest candidates are too few

@@ -1,8 +1,8 @@
 -- One pass over the free extents: the best fit so far and the five longest so far, in units. Assumes nothing.
 use Prim.Native.Nat.{ℕ, zero, suc, _+_, _*_, _≤_}
 use mathlib.Core.Path.{_≡_}
-use mathlib.Core.Bool.{Bool, true, false, cond, _&&_, _||_}
-use mathlib.Core.Option.{Option, none, some}
+use mathlib.Core.Bool.{Bool, cond, _&&_, _||_}
+use mathlib.Core.Option.{Option, none}
 use mathlib.Core.List.{List, [], _∷_, map}
 use lib.ListN.{getD}
 use lib.Dec.{leb, ltb, eqb}
@@ -47,6 +47,9 @@ pub record Surveyed (u n : ℕ) (f : List Run) (best : Run) (five : List Run) : 
   pub fit : runOrNone best ≡ shortest (serving n (candidates u f))
   pub longest : five ≡ padded 5 (longestFirst (candidates u f))
 
--- the tracks of each candidate have numbers of 16 bits
+-- each candidate ends at a track of 16 bits; each has a count of 16 bits
 abbrev pub Within : ℕ → List Run → Type 0
 Within u ds = (k : ℕ) → (getD ds k noRun .start + getD ds k noRun .count) * u ≤ 65535
+
+abbrev pub Small : List Run → Type 0
+Small ds = (k : ℕ) → getD ds k noRun .count ≤ 65535

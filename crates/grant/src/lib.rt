@@ -9,7 +9,7 @@ ghost use Rattle.model.specs.Model.{run, total};
 ghost use Rattle.model.specs.Choice.{wholeIn, firstPart, gather, scale};
 ghost use Rattle.tracks.specs.Map.{freeFrom};
 ghost use Rattle.grant.specs.Grant.{grantedRuns, row, grant, replyOf};
-ghost use Rattle.grant.specs.Pass.{toRun, toRuns, padded, fitsBetter, entered, Surveyed, Within};
+ghost use Rattle.grant.specs.Pass.{toRun, toRuns, padded, fitsBetter, entered, Surveyed, Within, Small};
 
 // Units that follow each other: the first, and how many; none where the count is 0.
 struct Units {
@@ -40,7 +40,7 @@ fn fits_better(amount: u32, best: u32, size: u32) -> bool
     amount <= size && (best == 0 || size < best)
 }
 
-// Enters a candidate among the five longest, behind those that are as long.
+// Enters a candidate among the five longest, behind those that are as long. Most are shorter than the fifth.
 fn enter(five: &mut [[u32; 2]; 5], c: Units)
     requires { ⌜ length (now five) ≡ 5 ⌝ }
     ensures { λ _. ⌜ (length (now (five .exit)) ≡ 5) × (toRuns (now (five .exit)) ≡ entered (run (c .start) (c .count)) (toRuns (now (five .entry)))) ⌝ }
@@ -62,6 +62,7 @@ fn enter(five: &mut [[u32; 2]; 5], c: Units)
 }
 
 // One pass over the free tracks below n: the best fit is the result, the five longest go into `five`.
+// Where no run is left, the last turn sees tracks n up to n, which have no unit.
 fn survey(map: &[u64], n: usize, u: u32, amount: u32, five: &mut [[u32; 2]; 5]) -> Units
     requires { ⌜ (n ≤ 65535) × (n ≤ 64 * length (now map)) × (1 ≤ u) × (u ≤ 255) × (1 ≤ amount) ⌝ }
     requires { ⌜ (length (now five) ≡ 5) × (toRuns (now five) ≡ padded 5 []) ⌝ }
@@ -92,8 +93,8 @@ fn piece(u: u32, c: [u32; 2], n: u32) -> [u16; 2]
 }
 
 // How many units the five longest have.
-fn sum(five: [[u32; 2]; 5], u: u32) -> u32
-    requires { ⌜ (1 ≤ u) × Within u (toRuns five) ⌝ }
+fn sum(five: [[u32; 2]; 5]) -> u32
+    requires { ⌜ Small (toRuns five) ⌝ }
     ensures { λ r. ⌜ r ≡ total (toRuns five) ⌝ }
 {
     five[0][1] + five[1][1] + five[2][1] + five[3][1] + five[4][1]
@@ -128,7 +129,8 @@ fn fill(five: [[u32; 2]; 5], u: u32, amount: u32, pieces: &mut [[u16; 2]; 5]) ->
     Chosen { count, tracks }
 }
 
-// The pieces for an amount of units of u tracks, out of the free tracks below n.
+// The pieces for an amount of units of u tracks, out of the free tracks below n. Nothing is written where the five
+// longest candidates are too few.
 pub fn choose(map: &[u64], n: usize, u: u32, amount: u32, pieces: &mut [[u16; 2]; 5]) -> Chosen
     requires { ⌜ (n ≤ 65535) × (n ≤ 64 * length (now map)) × (1 ≤ u) × (u ≤ 255) ⌝ }
     requires { ⌜ (1 ≤ amount) × (amount ≤ 16777215) × (length (now pieces) ≡ 5) ⌝ }
@@ -142,7 +144,7 @@ pub fn choose(map: &[u64], n: usize, u: u32, amount: u32, pieces: &mut [[u16; 2]
         let tracks = amount * u;
         return Chosen { count: 1, tracks };
     }
-    if sum(five, u) < amount {
+    if sum(five) < amount {
         return Chosen {
             count: 0,
             tracks: 0,

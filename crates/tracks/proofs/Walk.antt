@@ -1,9 +1,9 @@
 -- The runs of a test over tracks, one after the other. Assumes nothing.
-use mathlib.Core.Path.{_≡_, refl, sym, ap, _∙_, subst}
+use mathlib.Core.Path.{_≡_, sym, ap, _∙_, subst}
 use mathlib.Core.Bool.{Bool, true, false}
-use mathlib.Core.Logic.{_⊎_, inl, inr, ⊎-elim}
+use mathlib.Core.Logic.{⊎-elim}
 use mathlib.Core.List.{List, [], _∷_}
-use Prim.Native.Nat.{ℕ, zero, suc, _+_, _-_, _*_, _≤_, _<_}
+use Prim.Native.Nat.{ℕ, zero, suc, _+_, _-_, _≤_, _<_}
 use native.Mathlib.Nat.{le-refl}
 use native.Mathlib.Omega.{arith}
 use borrow.Author.Tests.{eq-eqb, ne-eqb}
@@ -97,8 +97,8 @@ next-run-law m n s a b f g =
 -- ---- for a caller that goes from run to run
 
 -- it comes further with each call
-pub goes-on : (m : List ℕ) (n s a b : ℕ) → NextRun m n s a b → s < n → s < b
-goes-on m n s a b r h =
+pub goes-on : {m : List ℕ} {n s a b : ℕ} → NextRun m n s a b → s < n → s < b
+goes-on {n} {a} r h =
     let f = r .from in
     let l = r .low in
     ⊎-elim (λ u. omega arith) (λ u. let p = r .more u .0 in omega arith) (le-or-lt n a)
@@ -112,9 +112,9 @@ unfolding freeFrom
 free-from-end m n = let e : n - n ≡ 0 = omega arith in ap (runs (isFree m) n) e
 
 -- the track behind a run is not free: the next run may be looked for behind that track
-pub free-from-behind : (m : List ℕ) (n s a b : ℕ) → NextRun m n s a b → a < n → b < n → freeFrom m n b ≡ freeFrom m n (suc b)
+pub free-from-behind : {m : List ℕ} {n s a b : ℕ} → NextRun m n s a b → a < n → b < n → freeFrom m n b ≡ freeFrom m n (suc b)
 unfolding freeFrom
-free-from-behind m n s a b r h k =
+free-from-behind {m} {n} {s} {a} {b} r h k =
     let c = b - a in
     let e1 = r .from in
     let e2 = r .more h .0 in

@@ -1,9 +1,9 @@
 -- What a turn over one word says of its tracks. Assumes nothing.
-use mathlib.Core.Path.{_≡_, refl, sym, ap, _∙_, subst}
+use mathlib.Core.Path.{_≡_, refl, sym, ap, _∙_}
 use mathlib.Core.Bool.{Bool, true, false}
-use mathlib.Core.Logic.{_⊎_, inl, inr, ⊎-elim}
+use mathlib.Core.Logic.{⊎-elim}
 use mathlib.Core.List.{List}
-use Prim.Native.Nat.{ℕ, _+_, _-_, _*_, _/_, _%_, _^_, _≤_, _<_, min}
+use Prim.Native.Nat.{ℕ, _+_, _-_, _*_, _/_, _%_, _^_, _≤_, _<_}
 use native.Mathlib.Nat.{mod-lt}
 use native.Mathlib.Decide.{ℕ-discrete}
 use native.Mathlib.Omega.{arith}
@@ -16,7 +16,7 @@ use lib.ListN.{length, getD, set, length-set}
 use lib.Seq.{getD-set-same, getD-set-other}
 use Rattle.model.specs.Basics.{bit}
 use Rattle.tracks.specs.Map.{bitAt, freeBit, AllFree, Hit, Made}
-use Rattle.tracks.specs.Steps.{block, flipped, First, WordAt}
+use Rattle.tracks.specs.Steps.{block, flipped, WordAt}
 use Rattle.tracks.proofs.Bits.{le-or-lt, zero-bit, all-ones, and-bit, or-bit, xor-bit, block-low, block-in, block-high, block-lt, lacks, not-bit, shifted, leading-zero, leading-one}
 
 -- the mask of the n tracks from t on, in t's word

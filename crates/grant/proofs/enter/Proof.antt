@@ -50,23 +50,26 @@ loop-less c = search needs
 
 loop-again : tie.Need-loop-again Inv-loop μ-loop
 loop-again c =
-    let n = c .before .before .before .before .before .before .args .c .count in
-    let x = c .before .before .before .before .before .before .args .c .start ∷ c .before .before .before .before .before .before .args .c .count ∷ [] in
-    let five₀ = c .before .before .before .before .before .before .args .five .now in
-    let held = c .before .before .before .loop .held in
-    let five = c .before .before .before .loop .five in
-    let k = c .before .before .before .loop .k in
+    let top = c .before .before .before .before .before .before in
+    let at-loop = c .before .before .before in
+    let n = top .args .c .count in
+    let x = top .args .c .start ∷ top .args .c .count ∷ [] in
+    let five₀ = top .args .five .now in
+    let held = at-loop .loop .held in
+    let five = at-loop .loop .five in
+    let k = at-loop .loop .k in
     ⊎-elim
-    (λ w. rw (w .1, w .2) (omega arith, length-set five k held ∙ c .before .before .before .loop .inv .1, goes-in n x five₀ held five k (omega arith) (c .before .before .before .loop .inv .2) (w .0 .taken)))
-    (λ w. rw (w .1, w .2) (omega arith, c .before .before .before .loop .inv .1, goes-by n x five₀ held five k (omega arith) (c .before .before .before .loop .inv .2) (w .0 .left)))
+    (λ w. rw (w .1, w .2) (omega arith, length-set five k held ∙ at-loop .loop .inv .1, goes-in n x five₀ held five k (omega arith) (at-loop .loop .inv .2) (w .0 .taken)))
+    (λ w. rw (w .1, w .2) (omega arith, at-loop .loop .inv .1, goes-by n x five₀ held five k (omega arith) (at-loop .loop .inv .2) (w .0 .left)))
     (c .if2 .came)
 
 returns-2 : tie.Need-returns-2 Inv-loop μ-loop
-returns-2 c = (
-  c .before .loop .inv .1,
-  enter-is (c .before .before .before .before .args .c .start ∷ c .before .before .before .before .args .c .count ∷ []) (c .before .before .before .before .args .five .now) (c .before .loop .five) (c .before .before .if1 .left)
-      (enter-done (c .before .before .before .before .args .c .count) (c .before .before .before .before .args .c .start ∷ c .before .before .before .before .args .c .count ∷ []) (c .before .before .before .before .args .five .now) (c .before .loop .held) (c .before .loop .five) (c .before .loop .k) (omega arith) (c .before .loop .inv .2)),
-)
+returns-2 c =
+    let top = c .before .before .before .before in (
+      c .before .loop .inv .1,
+      enter-is (top .args .c .start ∷ top .args .c .count ∷ []) (top .args .five .now) (c .before .loop .five) (c .before .before .if1 .left)
+          (enter-done (top .args .c .count) (top .args .c .start ∷ top .args .c .count ∷ []) (top .args .five .now) (c .before .loop .held) (c .before .loop .five) (c .before .loop .k) (omega arith) (c .before .loop .inv .2)),
+    )
 
 pub enter-spec : {M : Type 1} → statement M
 enter-spec =

@@ -1,20 +1,14 @@
-use Prim.Native.Nat.{ℕ, _≤_, _-_, _+_, _*_}
-use mathlib.Core.Path.{_≡_, refl, sym, ap, _∙_}
-use mathlib.Core.List.{List, []}
+use mathlib.Core.Path.{_≡_, refl}
+use mathlib.Core.List.{[]}
+use Prim.Native.Nat.{_-_, _+_}
 use native.Mathlib.Omega.{arith}
 use native.Mathlib.Nat.{mul-le-mul}
-use lib.ListN.{length, getD, set}
-use Rattle.grant.proofs.Gathering.{Filling, filling-none, filling-next, filling-done}
-use Rattle.grant.proofs.Bounds.{row-within, part-within}
-use Rattle.grant.specs.Grant.{row, grant, replyOf}
-use Rattle.model.specs.Choice.{scale}
-use Rattle.model.specs.Model.{run}
 use borrow.Author.Needs.{needs}
+use lib.ListN.{getD, set}
+use Rattle.grant.proofs.Gathering.{Filling, filling-none, filling-next, filling-done}
+use Rattle.grant.proofs.Bounds.{part-within}
 use Rattle.grant.proofs.fill.Statement.{statement}
 use Rattle.grant.proofs.fill.Tie as tie
-use Rattle.grant.proofs.fill.Reads as reads
-use Rattle.grant.proofs.fill.Lts as lts
-use Rattle.grant.proofs.piece.Reads as piece-reads
 
 abbrev Inv-loop : tie.InvT-loop
 Inv-loop u amount pieces₀ five rest₀ k₀ next₀ pieces rest k next = (next ≡ getD five k []) × Filling u amount five pieces₀ rest pieces k
@@ -22,47 +16,38 @@ Inv-loop u amount pieces₀ five rest₀ k₀ next₀ pieces rest k next = (next
 abbrev μ-loop : tie.MeasureT-loop
 μ-loop u amount pieces₀ five rest₀ k₀ next₀ pieces rest k next = 5 - k
 
--- src/lib.rt:116:20
 array-copy-out-next : tie.Need-array-copy-out-next Inv-loop μ-loop
 array-copy-out-next c = search needs
 
--- src/lib.rt:117:5
 loop-holds : tie.Need-loop-holds Inv-loop μ-loop
 loop-holds c = (refl, filling-none (c .before .args .u) (c .before .args .amount) (c .before .args .t1) (c .before .args .pieces .now) (omega arith) (c .before .pre .0 .4))
 
--- src/lib.rt:117:11
 array-read-loop : tie.Need-array-read-loop Inv-loop μ-loop
 array-read-loop c = search needs
 
--- src/lib.rt:118:34
 array-read-piece : tie.Need-array-read-piece Inv-loop μ-loop
 array-read-piece c = search needs
 
--- src/lib.rt:118:13
 piece-requires : tie.Need-piece-requires Inv-loop μ-loop
-piece-requires c κs = part-within (c .before .before .before .args .u) (c .before .before .before .args .t1) (omega arith) (c .before .before .before .pre .1 .0) (c .before .loop .k) (c .before .loop .next) (getD (c .before .loop .next) 1 0) (c .before .loop .inv .0) (omega arith)
+piece-requires c κs =
+    let top = c .before .before .before in
+    part-within (top .args .u) (top .args .t1) (c .before .loop .k) (c .before .loop .next) (getD (c .before .loop .next) 1 0) (top .pre .1 .0) (c .before .loop .inv .0) (omega arith)
 
--- src/lib.rt:119:9
 mul-all : tie.Need-mul-all Inv-loop μ-loop
 mul-all c = search needs
 
--- src/lib.rt:119:9
 element-set-from-all : tie.Need-element-set-from-all Inv-loop μ-loop
 element-set-from-all c = search needs
 
--- src/lib.rt:120:17
 array-read-rest : tie.Need-array-read-rest Inv-loop μ-loop
 array-read-rest c = search needs
 
--- src/lib.rt:120:9
 sub-rest : tie.Need-sub-rest Inv-loop μ-loop
 sub-rest c = search needs
 
--- src/lib.rt:121:9
 add-k : tie.Need-add-k Inv-loop μ-loop
 add-k c = search needs
 
--- src/lib.rt:122:16
 mul-next : tie.Need-mul-next Inv-loop μ-loop
 mul-next c = search needs
 
@@ -71,51 +56,48 @@ turn : (c : tie.After-piece Inv-loop μ-loop)
     → Filling (c .before .before .before .before .args .u) (c .before .before .before .before .args .amount) (c .before .before .before .before .args .t1) (c .before .before .before .before .args .pieces .now)
     (c .before .before .loop .rest - getD (c .before .before .loop .next) 1 0) (set (c .before .before .loop .pieces) (c .before .before .loop .k) (c .piece .result)) (c .before .before .loop .k + 1)
 turn c =
-    let five = c .before .before .before .before .args .t1 in
+    let top = c .before .before .before .before in
+    let five = top .args .t1 in
     let k = c .before .before .loop .k in
     let e : c .before .before .loop .next ≡ getD five k [] = c .before .before .loop .inv .0 in
     rw (c .piece .ensures, e)
-    (filling-next (c .before .before .before .before .args .u) (c .before .before .before .before .args .amount) five (c .before .before .before .before .args .pieces .now) (c .before .before .loop .rest) (c .before .before .loop .pieces) k (search needs) (c .before .before .before .before .pre .1 .1) (c .before .before .loop .inv .1) (rw e at (c .before .loop-test .taken)))
+    (filling-next (c .before .before .loop .inv .1) (search needs) (top .pre .1 .1) (rw e at (c .before .loop-test .taken)))
 
--- src/lib.rt:122:16
 array-copy-out-next-2 : tie.Need-array-copy-out-next-2 Inv-loop μ-loop
 array-copy-out-next-2 c = turn c .few
 
--- src/lib.rt:117:5
 loop-less : tie.Need-loop-less Inv-loop μ-loop
 loop-less c = search needs
 
--- src/lib.rt:117:5
 loop-again : tie.Need-loop-again Inv-loop μ-loop
 loop-again c = (refl, turn (c .before))
 
--- src/lib.rt:124:9
 piece-requires-2 : tie.Need-piece-requires-2 Inv-loop μ-loop
-piece-requires-2 c κs = part-within (c .before .before .before .args .u) (c .before .before .before .args .t1) (omega arith) (c .before .before .before .pre .1 .0) (c .before .loop .k) (c .before .loop .next) (c .before .loop .rest) (c .before .loop .inv .0) (c .loop-test .left)
+piece-requires-2 c κs =
+    let top = c .before .before .before in
+    part-within (top .args .u) (top .args .t1) (c .before .loop .k) (c .before .loop .next) (c .before .loop .rest) (top .pre .1 .0) (c .before .loop .inv .0) (c .loop-test .left)
 
--- src/lib.rt:125:5
 mul-last : tie.Need-mul-last Inv-loop μ-loop
 mul-last c = search needs
 
--- src/lib.rt:125:5
 element-set-from-last : tie.Need-element-set-from-last Inv-loop μ-loop
 element-set-from-last c = search needs
 
--- src/lib.rt:126:17
 add-count : tie.Need-add-count Inv-loop μ-loop
 add-count c = search needs
 
--- src/lib.rt:127:18
 mul-tracks : tie.Need-mul-tracks Inv-loop μ-loop
-mul-tracks c = omega (arith, mul-le-mul (c .before .before .before .before .pre .0 .3) (c .before .before .before .before .pre .0 .1))
+mul-tracks c =
+    let top = c .before .before .before .before in
+    omega (arith, mul-le-mul (top .pre .0 .3) (top .pre .0 .1))
 
--- src/lib.rt:109:1
 returns : tie.Need-returns Inv-loop μ-loop
 returns c =
-    let five = c .before .before .before .before .args .t1 in
+    let top = c .before .before .before .before in
+    let five = top .args .t1 in
     let k = c .before .before .loop .k in
     let e : c .before .before .loop .next ≡ getD five k [] = c .before .before .loop .inv .0 in
-    rw (c .piece2 .ensures, e) (filling-done (c .before .before .before .before .args .u) (c .before .before .before .before .args .amount) five (c .before .before .before .before .args .pieces .now) (c .before .before .loop .rest) (c .before .before .loop .pieces) k (search needs) (c .before .before .before .before .pre .1 .1) (c .before .before .loop .inv .1) (rw e at (c .before .loop-test .left)))
+    rw (c .piece2 .ensures, e) (filling-done (c .before .before .loop .inv .1) (search needs) (top .pre .1 .1) (rw e at (c .before .loop-test .left)))
 
 pub fill-spec : {M : Type 1} → statement M
 fill-spec =

@@ -1,7 +1,7 @@
 use native.Mathlib.Omega.{arith}
 use borrow.Author.Needs.{needs}
-use Rattle.grant.proofs.Bounds.{rows-small}
 use Rattle.grant.proofs.Gathering.{total-five}
+use Rattle.grant.proofs.Bounds.{rows-small}
 use Rattle.grant.proofs.sum.Statement.{statement}
 use Rattle.grant.proofs.sum.Tie as tie
 
@@ -18,7 +18,7 @@ index-2-result-2 : tie.Need-index-2-result-2
 index-2-result-2 c = search needs
 
 add-result : tie.Need-add-result
-add-result c = omega (arith, rows-small (c .before .before .args .u) (c .before .before .args .t1) (omega arith) (c .before .before .pre .1))
+add-result c = omega (arith, rows-small (c .before .before .args .t1) (c .before .before .pre))
 
 index-1-result-3 : tie.Need-index-1-result-3
 index-1-result-3 c = search needs
@@ -27,7 +27,7 @@ index-2-result-3 : tie.Need-index-2-result-3
 index-2-result-3 c = search needs
 
 add-result-2 : tie.Need-add-result-2
-add-result-2 c = omega (arith, rows-small (c .before .before .before .args .u) (c .before .before .before .args .t1) (omega arith) (c .before .before .before .pre .1))
+add-result-2 c = omega (arith, rows-small (c .before .before .before .args .t1) (c .before .before .before .pre))
 
 index-1-result-4 : tie.Need-index-1-result-4
 index-1-result-4 c = search needs
@@ -36,7 +36,7 @@ index-2-result-4 : tie.Need-index-2-result-4
 index-2-result-4 c = search needs
 
 add-result-3 : tie.Need-add-result-3
-add-result-3 c = omega (arith, rows-small (c .before .before .before .before .args .u) (c .before .before .before .before .args .t1) (omega arith) (c .before .before .before .before .pre .1))
+add-result-3 c = omega (arith, rows-small (c .before .before .before .before .args .t1) (c .before .before .before .before .pre))
 
 index-1-result-5 : tie.Need-index-1-result-5
 index-1-result-5 c = search needs
@@ -45,7 +45,7 @@ index-2-result-5 : tie.Need-index-2-result-5
 index-2-result-5 c = search needs
 
 add-result-4 : tie.Need-add-result-4
-add-result-4 c = omega (arith, rows-small (c .before .before .before .before .before .args .u) (c .before .before .before .before .before .args .t1) (omega arith) (c .before .before .before .before .before .pre .1))
+add-result-4 c = omega (arith, rows-small (c .before .before .before .before .before .args .t1) (c .before .before .before .before .before .pre))
 
 returns : tie.Need-returns
 returns c = total-five (c .before .before .before .before .before .args .t1) (search needs)

@@ -42,35 +42,40 @@ enter-requires : tie.Need-enter-requires Inv-loop μ-loop
 enter-requires c κs = search needs
 
 loop-less : tie.Need-loop-less Inv-loop μ-loop
-loop-less c = omega (arith, goes-on (c .before .before .before .before .before .before .before .before .before .args .map .now) (c .before .before .before .before .before .before .before .before .before .args .n) (c .before .before .before .before .before .before .before .loop .at) (c .before .before .before .before .before .next-run .result .from) (c .before .before .before .before .before .next-run .result .to) (c .before .before .before .before .before .next-run .ensures) (c .before .before .before .before .before .before .loop-test .taken))
+loop-less c =
+    let next = c .before .before .before .before .before in
+    omega (arith, goes-on (next .next-run .ensures) (next .before .loop-test .taken))
 
 loop-again : tie.Need-loop-again Inv-loop μ-loop
 loop-again c =
-    let m = c .before .before .before .before .before .before .before .before .before .args .map .now in
-    let n = c .before .before .before .before .before .before .before .before .before .args .n in
-    let u = c .before .before .before .before .before .before .before .before .before .args .u in
-    let k = c .before .before .before .before .before .before .before .before .before .args .amount in
-    let at = c .before .before .before .before .before .before .before .loop .at in
-    let from = c .before .before .before .before .before .next-run .result .from in
-    let to = c .before .before .before .before .before .next-run .result .to in
-    let f : List Run = freeFrom m n to in
-    let x : Run = run (c .before .before .before .before .before .before .before .loop .best .start) (c .before .before .before .before .before .before .before .loop .best .count) in
-    let y : Run = run (c .before .before .before .before .whole .result .start) (c .before .before .before .before .whole .result .count) in
-    let best = better-is k x y (wholeIn u (run from (to - from))) (c .before .before .before .fits-better .result) (c .before .before .before .fits-better .ensures) (c .before .before .before .before .whole .ensures) in
-    let new : run (c .before .before .if1 .best .start) (c .before .before .if1 .best .count) ≡ cond (c .before .before .before .fits-better .result) y x =
+    let test = c .before .before .before in
+    let unit = test .before in
+    let next = unit .before in
+    let at-loop = next .before .before in
+    let top = at-loop .before .before in
+    let u = top .args .u in
+    let k = top .args .amount in
+    let from = next .next-run .result .from in
+    let to = next .next-run .result .to in
+    let f : List Run = freeFrom (top .args .map .now) (top .args .n) to in
+    let x : Run = run (at-loop .loop .best .start) (at-loop .loop .best .count) in
+    let y : Run = run (unit .whole .result .start) (unit .whole .result .count) in
+    let best = better-is k x y (wholeIn u (run from (to - from))) (test .fits-better .result) (test .fits-better .ensures) (unit .whole .ensures) in
+    let new : run (c .before .before .if1 .best .start) (c .before .before .if1 .best .count) ≡ cond (test .fits-better .result) y x =
     ⊎-elim (λ w. rw (w .1, w .0 .taken)) (λ w. rw (w .1, w .0 .left)) (c .before .before .if1 .came) in (
       omega arith,
       c .enter .ensures .0,
-      c .before .before .before .before .before .before .before .loop .inv .2 ∙ best-turn m n at from to u (omega arith) (c .before .before .before .before .before .next-run .ensures) k x (omega arith)
+      at-loop .loop .inv .2 ∙ best-turn u (omega arith) (next .next-run .ensures) k x (omega arith)
           ∙ ap (λ (z : Run). bestAfter u k z f) (sym (new ∙ best)),
-      c .before .before .before .before .before .before .before .loop .inv .3 ∙ five-turn m n at from to u (omega arith) (c .before .before .before .before .before .next-run .ensures) (toRuns (c .before .before .before .before .before .before .before .loop .five))
-          ∙ ap (λ (ds : List Run). fiveAfter u ds f) (ap (λ (z : Run). entered z (toRuns (c .before .before .before .before .before .before .before .loop .five))) (sym (c .before .before .before .before .whole .ensures)) ∙ sym (c .enter .ensures .1)),
+      at-loop .loop .inv .3 ∙ five-turn u (omega arith) (next .next-run .ensures) (toRuns (at-loop .loop .five))
+          ∙ ap (λ (ds : List Run). fiveAfter u ds f) (ap (λ (z : Run). entered z (toRuns (at-loop .loop .five))) (sym (unit .whole .ensures)) ∙ sym (c .enter .ensures .1)),
     )
 
 returns : tie.Need-returns Inv-loop μ-loop
 returns c =
-    let e : c .before .loop .at ≡ c .before .before .before .args .n = omega arith in
-    surveyed (c .before .before .before .args .map .now) (c .before .before .before .args .n) (c .before .before .before .args .u) (c .before .before .before .args .amount) _ _ (omega arith) (rw e at (c .before .loop .inv .2)) (rw e at (c .before .loop .inv .3))
+    let top = c .before .before .before in
+    let e : c .before .loop .at ≡ top .args .n = omega arith in
+    surveyed (top .args .map .now) (top .args .n) (top .args .u) (top .args .amount) _ _ (omega arith) (rw e at (c .before .loop .inv .2)) (rw e at (c .before .loop .inv .3))
 
 pub survey-spec : {M : Type 1} → statement M
 survey-spec =

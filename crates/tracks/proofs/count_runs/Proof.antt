@@ -43,9 +43,10 @@ counted : (c : tie.After-starts Inv-loop μ-loop)
     → c .before .before .before .before .loop .count + ones (c .starts .result / 2 ^ (64 - c .before .before .chunk .result))
     ≡ length (runs (isFree (c .before .before .before .before .before .before .args .map .now)) 0 (c .before .before .before .before .loop .t + c .before .before .chunk .result))
 counted c =
-    let g = c .before .before .before .before .loop .inv .2 (omega arith) in
-    let d = c .before .before .before .before .loop .inv .1 in
-    omega (arith, count-turn (c .before .before .before .before .before .before .args .map .now) (c .before .before .before .before .loop .y) (c .starts .result) (c .before .before .before .before .loop .t) (g .0) (g .1) (c .starts .ensures) (c .before .before .chunk .result) (omega arith))
+    let at-loop = c .before .before .before .before in
+    let g = at-loop .loop .inv .2 (omega arith) in
+    let d = at-loop .loop .inv .1 in
+    omega (arith, count-turn (c .before .before .before .before .before .before .args .map .now) (at-loop .loop .y) (c .starts .result) (at-loop .loop .t) (g .0) (g .1) (c .starts .ensures) (c .before .before .chunk .result) (omega arith))
 
 cast-count : tie.Need-cast-count Inv-loop μ-loop
 cast-count c = omega (arith, counted c, runs-length (isFree (c .before .before .before .before .before .before .args .map .now)) 0 (c .before .before .before .before .loop .t + c .before .before .chunk .result))
@@ -61,20 +62,22 @@ loop-less c = search needs
 
 loop-again : tie.Need-loop-again Inv-loop μ-loop
 loop-again c =
+    let at-loop = c .before .before .before .before in
     let m = c .before .before .before .before .before .before .args .map .now in
-    let t = c .before .before .before .before .loop .t in
-    let g = c .before .before .before .before .loop .inv .2 (omega arith) in (
+    let t = at-loop .loop .t in
+    let g = at-loop .loop .inv .2 (omega arith) in (
       omega arith,
       counted c,
       λ h. let z : t + 64 ≡ t + c .before .before .chunk .result = omega arith in
-          (omega arith, last-bit m (c .before .before .before .before .loop .y) (c .starts .result) t (g .0) (g .1) (c .starts .ensures) ∙ ap (bitBefore m) z),
+          (omega arith, last-bit m (at-loop .loop .y) (c .starts .result) t (g .0) (g .1) (c .starts .ensures) ∙ ap (bitBefore m) z),
     )
 
 returns : tie.Need-returns Inv-loop μ-loop
 returns c =
-    let m = c .before .before .before .args .map .now in
-    let e : c .before .loop .t ≡ c .before .before .before .args .n = omega arith in
-    let q = free-from-zero m (c .before .before .before .args .n) in
+    let top = c .before .before .before in
+    let m = top .args .map .now in
+    let e : c .before .loop .t ≡ top .args .n = omega arith in
+    let q = free-from-zero m (top .args .n) in
     (c .before .loop .inv .1 ∙ ap (λ (t : ℕ). length (runs (isFree m) 0 t)) e ∙ sym (ap length q), omega (arith, runs-length (isFree m) 0 (c .before .loop .t)))
 
 pub count-runs-spec : {M : Type 1} → statement M

@@ -44,12 +44,14 @@ loop-less c = search needs
 
 loop-again : tie.Need-loop-again Inv-loop μ-loop
 loop-again c =
-    let m = c .before .before .before .before .loop .map in
-    let s = c .before .before .before .before .before .before .args .s in
-    let t = c .before .before .before .before .loop .t in
+    let top = c .before .before .before .before .before .before in
+    let at-loop = c .before .before .before .before in
+    let m = at-loop .loop .map in
+    let s = top .args .s in
+    let t = at-loop .loop .t in
     let n = c .before .before .chunk .result in
     let step : Made 1 m (set m (t / 64) (bitOr (getD m (t / 64) 0) (c .mask .result))) t (t + n) = rw (c .mask .ensures) (give-chunk m t n (omega arith) (omega arith)) in
-    (omega arith, omega arith, made-more 1 (c .before .before .before .before .before .before .args .map .now) m _ s t (t + n) (omega arith) (omega arith) (c .before .before .before .before .loop .inv .2) step)
+    (omega arith, omega arith, made-more 1 (top .args .map .now) m _ s t (t + n) (omega arith) (omega arith) (at-loop .loop .inv .2) step)
 
 same-length : tie.Need-same-length Inv-loop μ-loop
 same-length c = search needs

@@ -10,7 +10,9 @@ next-track-requires-2 : tie.Need-next-track-requires-2
 next-track-requires-2 c κs = search needs
 
 returns : tie.Need-returns
-returns c = next-run-law (c .before .before .before .args .map .now) (c .before .before .before .args .n) (c .before .before .before .args .s) _ _ (c .before .next-track .ensures) (c .next-track2 .ensures)
+returns c =
+    let top = c .before .before .before in
+    next-run-law (top .args .map .now) (top .args .n) (top .args .s) _ _ (c .before .next-track .ensures) (c .next-track2 .ensures)
 
 pub next-run-spec : {M : Type 1} → statement M
 next-run-spec = tie.close (tie.spec next-track-requires next-track-requires-2 returns)

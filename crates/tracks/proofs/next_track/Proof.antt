@@ -43,16 +43,18 @@ add-result c = search needs
 
 returns : tie.Need-returns Inv-loop μ-loop
 returns c =
-    let m = c .before .before .before .before .before .before .before .args .map .now in
-    let b = c .before .before .before .before .before .before .before .args .free in
-    let t = c .before .before .before .before .before .loop .t in
+    let top = c .before .before .before .before .before .before .before in
+    let at-loop = c .before .before .before .before .before in
+    let m = top .args .map .now in
+    let b = top .args .free in
+    let t = at-loop .loop .t in
     let k = c .before .before .before .chunk .result in
     let e = ap (λ (x : ℕ). leadingZeros 64 (x * 2 ^ (t % 64) % 2 ^ 64)) (c .before .flip .ensures) in
     let z : leadingZeros 64 (c .before .flip .result * 2 ^ (t % 64) % 2 ^ 64) < k = c .if1 .taken in
     record {
       from = omega arith;
       to = omega arith;
-      before = λ j u v. ⊎-elim (λ g. off-turn m b t k (omega arith) j g (omega arith) (omega arith)) (λ g. c .before .before .before .before .before .loop .inv .2 j u g) (le-or-lt t j);
+      before = λ j u v. ⊎-elim (λ g. off-turn m b t k (omega arith) j g (omega arith) (omega arith)) (λ g. at-loop .loop .inv .2 j u g) (le-or-lt t j);
       here = λ _. rw e (on-turn m b t k (omega arith) (omega arith));
     }
 
@@ -64,13 +66,15 @@ loop-less c = search needs
 
 loop-again : tie.Need-loop-again Inv-loop μ-loop
 loop-again c =
-    let m = c .before .before .before .before .before .before .before .args .map .now in
-    let b = c .before .before .before .before .before .before .before .args .free in
-    let t = c .before .before .before .before .before .loop .t in
+    let top = c .before .before .before .before .before .before .before in
+    let at-loop = c .before .before .before .before .before in
+    let m = top .args .map .now in
+    let b = top .args .free in
+    let t = at-loop .loop .t in
     let k = c .before .before .before .chunk .result in
     let e = ap (λ (x : ℕ). leadingZeros 64 (x * 2 ^ (t % 64) % 2 ^ 64)) (c .before .flip .ensures) in
     let z : k ≤ leadingZeros 64 (c .before .flip .result * 2 ^ (t % 64) % 2 ^ 64) = c .if1 .left in
-    (omega arith, omega arith, λ j u v. ⊎-elim (λ g. off-turn m b t k (omega arith) j g v (omega arith)) (λ g. c .before .before .before .before .before .loop .inv .2 j u g) (le-or-lt t j))
+    (omega arith, omega arith, λ j u v. ⊎-elim (λ g. off-turn m b t k (omega arith) j g v (omega arith)) (λ g. at-loop .loop .inv .2 j u g) (le-or-lt t j))
 
 returns-2 : tie.Need-returns-2 Inv-loop μ-loop
 returns-2 c =

@@ -37,16 +37,18 @@ same-length c = search needs
 
 returns : tie.Need-returns Inv-loop μ-loop
 returns c =
-    let m = c .before .before .before .before .before .loop .map in
-    let s = c .before .before .before .before .before .before .before .args .s in
-    let t = c .before .before .before .before .before .loop .t in
-    let e = c .before .before .before .before .before .before .before .args .e in
+    let top = c .before .before .before .before .before .before .before in
+    let at-loop = c .before .before .before .before .before in
+    let m = at-loop .loop .map in
+    let s = top .args .s in
+    let t = at-loop .loop .t in
+    let e = top .args .e in
     let n = c .before .before .before .chunk .result in
     record {
-      long = c .before .before .before .before .before .loop .inv .3 .long;
+      long = at-loop .loop .inv .3 .long;
       were = λ r. clash r refl;
       made = λ r. clash r refl;
-      hit = λ _. hit-before (c .before .before .before .before .before .before .before .args .map .now) m s t e (omega arith) (c .before .before .before .before .before .loop .inv .3) (hit-chunk m t n (omega arith) (omega arith) e (omega arith)
+      hit = λ _. hit-before (top .args .map .now) m s t e (omega arith) (at-loop .loop .inv .3) (hit-chunk m t n (omega arith) (omega arith) e (omega arith)
           (λ z. c .if1 .taken (ap (bitAnd (getD m (t / 64) 0)) (c .before .before .mask .ensures) ∙ z ∙ sym (c .before .before .mask .ensures))));
     }
 
@@ -64,16 +66,18 @@ loop-less c = search needs
 
 loop-again : tie.Need-loop-again Inv-loop μ-loop
 loop-again c =
-    let m = c .before .before .before .before .before .loop .map in
-    let s = c .before .before .before .before .before .before .before .args .s in
-    let t = c .before .before .before .before .before .loop .t in
+    let top = c .before .before .before .before .before .before .before in
+    let at-loop = c .before .before .before .before .before in
+    let m = at-loop .loop .map in
+    let s = top .args .s in
+    let t = at-loop .loop .t in
     let n = c .before .before .before .chunk .result in
     let z : bitAnd (getD m (t / 64) 0) (block (64 - (t % 64 + n)) n) ≡ block (64 - (t % 64 + n)) n = rw (c .before .before .mask .ensures) at (c .if1 .left) in
     let step : Made 0 m (set m (t / 64) (bitXor (getD m (t / 64) 0) (c .before .before .mask .result))) t (t + n) = rw (c .before .before .mask .ensures) (take-chunk m t n (omega arith) (omega arith) z) in (
       omega arith,
       omega arith,
-      free-more (c .before .before .before .before .before .before .before .args .map .now) m s t (t + n) (c .before .before .before .before .before .loop .inv .2) (c .before .before .before .before .before .loop .inv .3) (all-free m t n (omega arith) (omega arith) z),
-      made-more 0 (c .before .before .before .before .before .before .before .args .map .now) m _ s t (t + n) (omega arith) (omega arith) (c .before .before .before .before .before .loop .inv .3) step,
+      free-more (top .args .map .now) m s t (t + n) (at-loop .loop .inv .2) (at-loop .loop .inv .3) (all-free m t n (omega arith) (omega arith) z),
+      made-more 0 (top .args .map .now) m _ s t (t + n) (omega arith) (omega arith) (at-loop .loop .inv .3) step,
     )
 
 same-length-2 : tie.Need-same-length-2 Inv-loop μ-loop

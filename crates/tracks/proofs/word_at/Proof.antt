@@ -20,7 +20,9 @@ mask-requires : tie.Need-mask-requires
 mask-requires c κs = search needs
 
 returns-3 : tie.Need-returns-3
-returns-3 c = word-part (c .before .before .before .args .a) (c .before .before .before .args .n) (c .mask .result) (omega arith) (omega arith) (c .mask .ensures)
+returns-3 c =
+    let top = c .before .before .before in
+    word-part (top .args .a) (top .args .n) (c .mask .result) (omega arith) (omega arith) (c .mask .ensures)
 
 pub word-at-spec : {M : Type 1} → statement M
 word-at-spec = tie.close (tie.spec returns add-if2 returns-2 sub-mask mask-requires returns-3)
