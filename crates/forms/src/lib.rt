@@ -1,0 +1,197 @@
+// Label records by their format: what each must hold beside its extents and links, and the geometry in the format 4.
+ghost use mathlib.Core.Path.{_≡_};
+ghost use Prim.Native.Nat.{_+_, _-_, _*_, _≤_, _<_};
+ghost use lib.ListN.{length};
+ghost use Rattle.rules.specs.Reading.{readGeometry};
+ghost use Rattle.rules.specs.Table.{goodUnit, limits};
+ghost use Rattle.forms.specs.Forms.{extentOk, fourOk, geometryOf, oneOk, threeOk};
+
+// ---- the geometry
+
+// C cylinders, H tracks in each (heads), D records a track, and the VTOC: V tracks from track S on.
+pub struct Geometry {
+    pub cylinders: u32,
+    pub heads: u32,
+    pub records: u32,
+    pub start: u32,
+    pub tracks: u32,
+}
+
+// The number of tracks from a to b, both counted.
+fn span(a: u32, b: u32) -> u32
+    requires { ⌜ b + 1 < 4294967296 ⌝ }
+    ensures { λ r. ⌜ r ≡ b + 1 - a ⌝ }
+{
+    if b < a {
+        return 0;
+    }
+    b + 1 - a
+}
+
+// The geometry that a format 4 gives, blind: DS4DEVSZ, DS4DEVDT and the extent DS4VTOCE.
+pub fn geometry_of(rec: &[u8]) -> Geometry
+    requires { ⌜ length (now rec) ≡ 140 ⌝ }
+    ensures { λ r. ⌜ geometryOf r ≡ readGeometry (now (rec .entry)) ⌝ }
+{
+    let heads = fields::two(rec, 64);
+    let start = fields::track_at(rec, 107, heads);
+    let last = fields::track_at(rec, 111, heads);
+    let tracks = span(start, last);
+    let cylinders = fields::two(rec, 62);
+    let records = fields::wide(rec[74]);
+    Geometry {
+        cylinders,
+        heads,
+        records,
+        start,
+        tracks,
+    }
+}
+
+// Whether a geometry meets the limits of initialise. Any numbers may be asked about.
+pub fn limits(g: Geometry) -> bool
+    ensures { λ r. ⌜ r ≡ limits (geometryOf g) ⌝ }
+{
+    if g.cylinders < 1 {
+        return false;
+    }
+    if g.cylinders > 65535 {
+        return false;
+    }
+    if g.heads < 1 {
+        return false;
+    }
+    if g.heads > 255 {
+        return false;
+    }
+    if g.records < 1 {
+        return false;
+    }
+    if g.records > 255 {
+        return false;
+    }
+    if g.start < 1 {
+        return false;
+    }
+    if g.tracks < 1 {
+        return false;
+    }
+    let t = g.cylinders * g.heads;
+    if t > 65535 {
+        return false;
+    }
+    if g.start > t {
+        return false;
+    }
+    if g.tracks > t - g.start {
+        return false;
+    }
+    let n = g.tracks * g.records;
+    if n < 3 {
+        return false;
+    }
+    n <= 468
+}
+
+// ---- format 4
+
+// Whether a format 4 holds what it must, all but bytes 45 to 51: t tracks, h to a cylinder.
+pub fn four_ok(rec: &[u8], h: u32, t: u32) -> bool
+    requires { ⌜ (length (now rec) ≡ 140) × (h < 65536) ⌝ }
+    ensures { λ r. ⌜ r ≡ fourOk h t (now (rec .entry)) ⌝ }
+{
+    if rec[44] != 0xF4 {
+        return false;
+    }
+    if rec[59] != 0x01 {
+        return false;
+    }
+    if rec[105] != 0x01 {
+        return false;
+    }
+    if fields::part_is(rec, 0, 44, 0x04) {} else {
+        return false;
+    }
+    if fields::part_is(rec, 52, 7, 0) {} else {
+        return false;
+    }
+    if fields::part_is(rec, 60, 2, 0) {} else {
+        return false;
+    }
+    if fields::part_is(rec, 66, 8, 0) {} else {
+        return false;
+    }
+    if fields::part_is(rec, 75, 30, 0) {} else {
+        return false;
+    }
+    if fields::part_is(rec, 115, 25, 0) {} else {
+        return false;
+    }
+    fields::good_ten(&rec[105..115], 0, h, t)
+}
+
+// ---- format 1
+
+// Whether the unit and the secondary amount (DS1SCALO) go together.
+fn unit_ok(unit: u8, secondary: u32) -> bool
+    ensures { λ r. ⌜ r ≡ goodUnit unit secondary ⌝ }
+{
+    if unit == 0x80 {
+        return true;
+    }
+    if unit == 0xC0 {
+        return true;
+    }
+    if unit != 0x00 {
+        return false;
+    }
+    secondary == 0
+}
+
+// Whether a format 1 holds what it must beside its id, its extents and its link: a name (DS1DSNAM), 1 to 16 extents
+// (DS1NOEPV), a unit with its secondary amount.
+pub fn one_ok(rec: &[u8]) -> bool
+    requires { ⌜ length (now rec) ≡ 140 ⌝ }
+    ensures { λ r. ⌜ r ≡ oneOk (now (rec .entry)) ⌝ }
+{
+    let n = rec[59];
+    if n < 1 {
+        return false;
+    }
+    if n > 16 {
+        return false;
+    }
+    if unit_ok(rec[94], fields::three(rec, 95)) {} else {
+        return false;
+    }
+    fields::name_ok(&rec[0..44])
+}
+
+// ---- format 3
+
+// Whether a format 3 holds what it must beside its extents.
+pub fn three_ok(rec: &[u8]) -> bool
+    requires { ⌜ length (now rec) ≡ 140 ⌝ }
+    ensures { λ r. ⌜ r ≡ threeOk (now (rec .entry)) ⌝ }
+{
+    if rec[44] != 0xF3 {
+        return false;
+    }
+    if fields::part_is(rec, 0, 4, 0x03) {} else {
+        return false;
+    }
+    fields::part_is(rec, 135, 5, 0)
+}
+
+// ---- extents
+
+// Whether the ten bytes x are extent number e as it must be where n are in use: good, or zeros from n on.
+pub fn extent_ok(x: &[u8], e: usize, n: usize, h: u32, t: u32) -> bool
+    requires { ⌜ (length (now x) ≡ 10) × (e < 16) × (h < 65536) ⌝ }
+    ensures { λ r. ⌜ r ≡ extentOk h t n e (now (x .entry)) ⌝ }
+{
+    if e < n {
+        return fields::good_ten(x, e as u32, h, t);
+    }
+    fields::all_are(x, 0)
+}
