@@ -2,26 +2,26 @@
 -- Assumes nothing.
 use mathlib.Core.Path.{_≡_, refl, sym, ap, ap₂, _∙_, subst}
 use mathlib.Core.Bool.{true, false, _&&_, cond}
-use mathlib.Core.List.{List, [], _∷_, _++_, append-nil}
+use mathlib.Core.List.{List, [], _∷_, append-nil}
 use Prim.Native.Nat.{ℕ, zero, suc, _+_, _-_, _*_, _/_, _%_, _≤_, _<_}
 use native.Mathlib.Nat.{add-zero, div-add-mod', mod-lt}
 use native.Mathlib.Omega.{arith}
 use borrow.Author.Tests.{eqb-true, eq-eqb, ltb-true, leb-true}
 use lib.Dec.{T, eqb, leb, ltb}
-use lib.ListN.{length, getD, take, drop}
+use lib.ListN.{length, getD, drop}
 use lib.Seq.{getD-take, getD-drop}
 use Rattle.model.specs.Basics.{get2, part, zeros}
 use Rattle.model.specs.Model.{Geometry}
-use Rattle.model.proofs.Lists.{and-l, and-r, both, by, is-true, true-is}
+use Rattle.model.proofs.Lists.{and-l, and-r, by, is-true, true-is}
 use Rattle.rules.specs.Layout.{address, link}
 use Rattle.rules.specs.Reading.{slotAt, trackAt}
 use Rattle.rules.proofs.Bytes.{be2-back}
-use Rattle.rules.proofs.LabelBack.{length-link, slot-back}
+use Rattle.rules.proofs.LabelBack.{slot-back}
 use Rattle.fields.specs.Records.{Bytes}
 use Rattle.fields.specs.Tests.{addressOk, allAre, slotNamed}
-use Rattle.fields.proofs.Rows.{are→, →are}
 use Rattle.fields.proofs.Bytes10.{cyl-of, five-of, head-of}
 use Rattle.fields.proofs.Failing.{slot-is}
+use Rattle.fields.proofs.Rows.{are→, →are}
 
 -- ---- the address of a given slot
 
@@ -159,3 +159,10 @@ slot-below h d s n x pos =
     by (a && (b && (c && (f && ltb m n))))
     (λ e. rw e (ltb-true m n (is-true (and-r f _ (and-r c _ (and-r b _ (and-r a _ (true-is e))))))))
     (λ e. rw e pos)
+
+-- the same at its place in a record
+pub place-read : (g : Geometry) (k : ℕ) (r : List ℕ) (i : ℕ) → link g k ≡ part i 5 r → slotAt g r i ≡ k
+place-read g k r i e = sym (slot-part g r i) ∙ slot-read g k (part i 5 r) e
+
+pub place-link : (g : Geometry) (k : ℕ) (r : List ℕ) (i : ℕ) → link g k ≡ part i 5 r → link g (slotAt g r i) ≡ part i 5 r
+place-link g k r i e = ap (link g) (place-read g k r i e) ∙ e

@@ -1,12 +1,12 @@
 -- Records in a table: what is put is read back, the others stay. Assumes nothing.
-use mathlib.Core.Path.{_≡_, refl, sym, ap, ap₂, _∙_}
+use mathlib.Core.Path.{_≡_, refl, sym, ap, _∙_}
 use mathlib.Core.List.{List, [], _∷_, _++_, append-nil}
 use Prim.Native.Nat.{ℕ, zero, suc, _+_, _-_, _*_, _≤_, _<_}
 use native.Mathlib.Nat.{lt-of-not-le}
 use native.Mathlib.Decide.{decLe}
 use native.Mathlib.Omega.{arith}
 use lib.ListN.{length, take, drop, getD, set, length-append, length-take, length-drop, length-set, drop-of-length-le, take-append-drop}
-use lib.Seq.{drop-drop, take-at, take-all, take-length, take-take, take-append-le, drop-append-le, drop-append-add, getD-set-same, getD-set-other, ext-getD}
+use lib.Seq.{drop-drop, take-at, take-all, take-length, take-append-le, drop-append-le, drop-append-add, getD-set-same, getD-set-other, ext-getD}
 use borrow.Rule.Slice.PartMut.{putMid, midOf}
 use Rattle.model.specs.Basics.{part}
 use Rattle.rules.specs.Layout.{whole}

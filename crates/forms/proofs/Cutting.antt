@@ -1,12 +1,12 @@
 -- A record cut into fields of given lengths, and parts of parts. Assumes nothing.
-use mathlib.Core.Path.{_≡_, refl, sym, ap, _∙_, subst}
+use mathlib.Core.Path.{_≡_, sym, ap, _∙_, subst}
 use mathlib.Core.List.{List, [], _∷_, _++_}
-use Prim.Native.Nat.{ℕ, zero, suc, _+_, _-_, _*_, _≤_, _<_, _/_, _%_}
+use Prim.Native.Nat.{ℕ, zero, suc, _+_, _-_, _≤_, _<_, _/_, _%_}
 use native.Mathlib.Nat.{sub-zero}
 use native.Mathlib.Omega.{arith}
 use lib.Dec.{T}
 use lib.ListN.{length, getD, take, drop, replicate, drop-of-length-le, length-replicate, take-append-drop, replicate-append-replicate}
-use lib.Seq.{drop-at, drop-cons, drop-drop, getD-drop, getD-take, take-at, take-nil, take-take}
+use lib.Seq.{drop-at, drop-cons, drop-drop, getD-drop, take-at, take-nil, take-take}
 use Rattle.model.specs.Basics.{be2, be3, get2, get3, part, sumOf, zeros}
 use Rattle.rules.specs.Layout.{whole}
 use Rattle.fields.specs.Records.{Bytes}

@@ -6,12 +6,12 @@ use Prim.Native.Nat.{ℕ, _+_, _-_, _*_, _≤_, _<_}
 use native.Mathlib.Nat.{mul-le-mul, le-refl}
 use native.Mathlib.Omega.{arith}
 use borrow.Author.Tests.{eqb-true, eq-eqb, leb-true, leb-false, le-leb, lt-ltb, le-ltb}
-use lib.Dec.{T, eqb, leb, ltb}
-use lib.ListN.{getD, take, drop}
+use lib.Dec.{T, eqb, leb}
+use lib.ListN.{getD, drop}
 use lib.Seq.{getD-take, getD-drop}
 use Rattle.model.specs.Basics.{get2, get3, part, within}
 use Rattle.model.specs.Model.{Geometry, slots, tracks}
-use Rattle.model.proofs.Lists.{and-l, and-r, both, by, is-true, true-is}
+use Rattle.model.proofs.Lists.{and-l, and-r, by, is-true, true-is}
 use Rattle.rules.specs.Reading.{readGeometry, trackAt}
 use Rattle.rules.specs.Table.{goodName, goodUnit, limits}
 use Rattle.rules.proofs.Valid.{Limits, limits→, →limits}

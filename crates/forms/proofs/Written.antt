@@ -1,17 +1,16 @@
 -- A record that passes its tests is what the layout writes for what is read from it, and what is written passes the tests.
 -- Assumes nothing.
 use mathlib.Core.Path.{_≡_, refl, sym, ap, ap₂, _∙_, subst}
-use mathlib.Core.Bool.{true, false, cond}
 use mathlib.Core.List.{List, [], _∷_, _++_, append-assoc}
-use Prim.Native.Nat.{ℕ, zero, suc, _+_, _-_, _*_, _≤_, _<_}
+use Prim.Native.Nat.{ℕ, suc, _+_, _-_, _*_, _≤_, _<_}
 use native.Mathlib.Nat.{lt-of-not-le, zero-add}
 use native.Mathlib.Decide.{decLe}
 use native.Mathlib.Omega.{arith}
 use borrow.Author.Tests.{le-ltb, lt-ltb, ltb-false, ltb-true}
 use lib.Dec.{T, ltb}
-use lib.ListN.{length, getD, take, drop, replicate, length-append, length-map}
+use lib.ListN.{length, getD, take, drop, length-append, length-map}
 use lib.Seq.{drop-at, take-all, take-at}
-use Rattle.model.specs.Basics.{be2, be3, fill, get2, get3, part, upFrom, zeros}
+use Rattle.model.specs.Basics.{be2, fill, get2, get3, part, upFrom, zeros}
 use Rattle.model.specs.Model.{Extent, Geometry, Label, extent, run, tracks}
 use Rattle.model.proofs.Lists.{All, All-at, by, length-upFrom}
 use Rattle.rules.specs.Layout.{extentBytes, extentPart, extentsBytes, fields1, fields3, fields4, format1, format3, format4, link, whole}
@@ -28,7 +27,7 @@ use Rattle.fields.proofs.Bytes10.{ten-good, ten-passes, ten-written, ten→}
 use Rattle.fields.proofs.Rows.{are→}
 use Rattle.fields.proofs.Slots.{length-part}
 use Rattle.fields.proofs.Tens.{extent-length, in-format1, in-format3, in-rest3}
-use Rattle.forms.specs.Forms.{extentOk, fourOk, oneOk, threeOk}
+use Rattle.forms.specs.Forms.{extentOk}
 use Rattle.forms.proofs.Blocks.{Stand, gather1, gather3, gather7, noExtent, spread1, spread3, spread7, tenFor}
 use Rattle.forms.proofs.Cutting.{alike-at, alike-is, be2-at, be3-at, bytes-part, one-at, whole-cut}
 use Rattle.forms.proofs.Sound.{FourOk, OneOk, ThreeOk, byte-part, in-use, not-in-use}

@@ -4,11 +4,11 @@ use mathlib.Core.Bool.{Bool, cond, _&&_}
 use mathlib.Core.List.{List}
 use lib.Dec.{ltb, eqb}
 use lib.ListN.{getD}
+use Rattle.forms.specs.declared.Geometry.{Geometry as Numbers}
 use Rattle.model.specs.Basics.{get3, part, within}
 use Rattle.model.specs.Model.{Geometry}
 use Rattle.rules.specs.Table.{goodName, goodUnit}
 use Rattle.fields.specs.Tests.{allAre, goodTen}
-use Rattle.forms.specs.declared.Geometry.{Geometry as Numbers}
 
 -- the numbers as the model's geometry
 abbrev pub geometryOf : Numbers → Geometry
