@@ -1,0 +1,52 @@
+-- What the tests of a label answer, as the code goes. Assumes nothing.
+use Prim.Native.Nat.{ℕ, zero, suc}
+use mathlib.Core.Bool.{Bool, true, false, cond, _&&_}
+use mathlib.Core.List.{List}
+use lib.ListN.{getD}
+use lib.Dec.{leb, eqb}
+use Rattle.model.specs.Basics.{part}
+use Rattle.model.specs.Model.{Geometry, tracks, slots}
+use Rattle.rules.specs.Layout.{extentPart}
+use Rattle.fields.specs.Records.{slotBytes}
+use Rattle.fields.specs.Tests.{allAre, slotNamed}
+use Rattle.forms.specs.Forms.{extentOk, oneOk, threeOk}
+use Rattle.labels.specs.declared.Form.{Form}
+use Rattle.labels.specs.declared.Form.the-variants.{Good, Bad}
+
+-- k extents from number e on, where n are in use
+unfoldable pub extentsOk : ℕ → ℕ → List ℕ → List ℕ → ℕ → ℕ → ℕ → Bool
+extentsOk h t f1 f3 n e zero = true
+extentsOk h t f1 f3 n e (suc k) = extentOk h t n e (extentPart f1 f3 e) && extentsOk h t f1 f3 n (suc e) k
+
+-- a format 1 without a format 3
+unfoldable pub fewOk : ℕ → ℕ → List ℕ → ℕ → Bool
+fewOk h t f1 n = allAre 0 (part 135 5 f1) && extentsOk h t f1 f1 n 0 3
+
+-- the slot that a format 1 names as its format 3's
+abbrev pub namedThird : Geometry → List ℕ → ℕ
+namedThird g f1 = slotNamed (g .heads) (g .records) (g .vtocStart) (slots g) (part 135 5 f1)
+
+abbrev pub orZero : Bool → ℕ → ℕ
+orZero true q = q
+orZero false q = 0
+
+-- a format 1 with its format 3: the slot of that, 0 where something is wrong
+unfoldable pub thirdOf : Geometry → List ℕ → List ℕ → ℕ → ℕ
+thirdOf g t f1 n =
+    let q : ℕ = namedThird g f1 in
+    orZero (threeOk (slotBytes t q) && extentsOk (g .heads) (tracks g) f1 (slotBytes t q) n 0 16) q
+
+abbrev pub goodIf : Bool → Form
+goodIf true = Good 0
+goodIf false = Bad
+
+abbrev pub goodThird : ℕ → Form
+goodThird zero = Bad
+goodThird (suc q) = Good (suc q)
+
+-- the label in slot k
+unfoldable pub formOf : Geometry → List ℕ → ℕ → Form
+formOf g t k =
+    let f1 : List ℕ = slotBytes t k in
+    let n : ℕ = getD f1 59 0 in
+    cond (oneOk f1) (cond (leb n 3) (goodIf (fewOk (g .heads) (tracks g) f1 n)) (goodThird (thirdOf g t f1 n))) Bad

@@ -1,0 +1,87 @@
+// Data sets' labels in a table: whether a format 1, with its format 3, is as the layout says, and its tracks and slots taken
+// out of the maps of free ones.
+use forms::Geometry;
+ghost use mathlib.Core.Path.{_≡_};
+ghost use Prim.Native.Nat.{_+_, _*_, _≤_, _<_};
+ghost use lib.ListN.{length};
+ghost use Rattle.model.specs.Model.{slots};
+ghost use Rattle.rules.proofs.Valid.{Limits};
+ghost use Rattle.forms.specs.Forms.{geometryOf};
+ghost use Rattle.labels.specs.Label.{extentsOk, fewOk, thirdOf, formOf};
+
+// What the label in a slot turns out to be: good, with the slot of its format 3, 0 for none; or bad.
+pub enum Form {
+    Good(usize),
+    Bad,
+}
+
+// Whether the first m extents are as they must be where n are in use.
+fn extents_ok<'a>(f1: &'a [u8], f3: &'a [u8], n: usize, m: usize, h: u32, t: u32) -> bool
+    requires { ⌜ (length (now f1) ≡ 140) × (length (now f3) ≡ 140) × (m ≤ 16) × (h < 65536) ⌝ }
+    ensures { λ r. ⌜ r ≡ extentsOk h t (now (f1 .entry)) (now (f3 .entry)) n 0 m ⌝ }
+{
+    let mut e: usize = 0;
+    while e < m {
+        let x = fields::extent_part(f1, f3, e);
+        if forms::extent_ok(x, e, n, h, t) {
+            e += 1;
+        } else {
+            return false;
+        }
+    }
+    true
+}
+
+// Whether a format 1 of n extents, 3 at most, is right in its extents and has no link.
+fn few_ok(f1: &[u8], n: usize, h: u32, t: u32) -> bool
+    requires { ⌜ (length (now f1) ≡ 140) × (h < 65536) ⌝ }
+    ensures { λ r. ⌜ r ≡ fewOk h t (now (f1 .entry)) n ⌝ }
+{
+    if fields::part_is(f1, 135, 5, 0) {
+        return extents_ok(f1, f1, n, 3, h, t);
+    }
+    false
+}
+
+// The slot of the format 3 of a format 1 of n extents, more than 3, where both are right in their extents; else 0.
+fn third_of<'a>(table: &'a [u8], f1: &'a [u8], n: usize, g: Geometry) -> usize
+    requires { ⌜ (length (now f1) ≡ 140) × Limits (geometryOf g) × (140 * slots (geometryOf g) ≤ length (now table)) ⌝ }
+    ensures { λ r. ⌜ r ≡ thirdOf (geometryOf g) (now (table .entry)) (now (f1 .entry)) n ⌝ }
+{
+    let many = (g.tracks * g.records) as usize;
+    let q = fields::slot_of(&f1[135..140], g.heads, g.records, g.start, many);
+    if q == 0 {
+        return 0;
+    }
+    let f3 = fields::record_at(table, q);
+    if forms::three_ok(f3) {} else {
+        return 0;
+    }
+    if extents_ok(f1, f3, n, 16, g.heads, g.cylinders * g.heads) {
+        return q;
+    }
+    0
+}
+
+// What the label in slot k is; that the slot has a format 1 is known.
+pub fn form_of(table: &[u8], k: usize, g: Geometry) -> Form
+    requires { ⌜ (k < slots (geometryOf g)) × Limits (geometryOf g) × (140 * slots (geometryOf g) ≤ length (now table)) ⌝ }
+    ensures { λ r. ⌜ r ≡ formOf (geometryOf g) (now (table .entry)) k ⌝ }
+{
+    let f1 = fields::record_at(table, k);
+    if forms::one_ok(f1) {} else {
+        return Form::Bad;
+    }
+    let n = fields::wide(f1[59]) as usize;
+    if n <= 3 {
+        if few_ok(f1, n, g.heads, g.cylinders * g.heads) {
+            return Form::Good(0);
+        }
+        return Form::Bad;
+    }
+    let q = third_of(table, f1, n, g);
+    if q == 0 {
+        return Form::Bad;
+    }
+    Form::Good(q)
+}
