@@ -1,18 +1,18 @@
 use lib.ListN.{length}
 use Rattle.forms.specs.Forms.{extentOk}
 use Rattle.fields.proofs.Tens.{extent-length}
-use Rattle.labels.proofs.Laws.{good-next, bad-here, extents-end}
-use Rattle.labels.specs.Label.{extentsOk}
+use Rattle.label_check.proofs.Laws.{good-next, bad-here, extents-end}
+use Rattle.label_check.specs.Label.{extentsOk}
 use native.Mathlib.Omega.{arith}
 use native.Mathlib.Nat.{sub-zero}
 use Prim.Native.Nat.{ℕ, _-_, _≤_}
 use mathlib.Core.Bool.{true}
 use mathlib.Core.Path.{_≡_, sym, ap, _∙_}
 use borrow.Author.Needs.{needs}
-use Rattle.labels.proofs.extents_ok.Statement.{statement}
-use Rattle.labels.proofs.extents_ok.Tie as tie
-use Rattle.labels.proofs.extents_ok.Reads as reads
-use Rattle.labels.proofs.extents_ok.Lts as lts
+use Rattle.label_check.proofs.extents_ok.Statement.{statement}
+use Rattle.label_check.proofs.extents_ok.Tie as tie
+use Rattle.label_check.proofs.extents_ok.Reads as reads
+use Rattle.label_check.proofs.extents_ok.Lts as lts
 use Rattle.fields.proofs.extent_part.Reads as extent-part-reads
 use Rattle.forms.proofs.extent_ok.Reads as extent-ok-reads
 

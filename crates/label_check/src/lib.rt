@@ -4,10 +4,13 @@ use forms::Geometry;
 ghost use mathlib.Core.Path.{_≡_};
 ghost use Prim.Native.Nat.{_+_, _*_, _≤_, _<_};
 ghost use lib.ListN.{length};
-ghost use Rattle.model.specs.Model.{slots};
-ghost use Rattle.rules.proofs.Valid.{Limits};
+ghost use Rattle.model.specs.Model.{overs, slots, tracks};
+ghost use Rattle.model.proofs.Lists.{All};
+ghost use Rattle.rules.specs.Reading.{readExtents};
+ghost use Rattle.rules.proofs.Valid.{GoodExtent, Limits};
 ghost use Rattle.forms.specs.Forms.{geometryOf};
-ghost use Rattle.labels.specs.Label.{extentsOk, fewOk, thirdOf, formOf};
+ghost use Rattle.label_check.specs.Label.{extentsOk, fewOk, thirdOf, formOf};
+ghost use Rattle.label_check.specs.Marks.{AtLabel, Took, TookLabel, TookSlots};
 
 // What the label in a slot turns out to be: good, with the slot of its format 3, 0 for none; or bad.
 pub enum Form {
@@ -84,4 +87,59 @@ pub fn form_of(table: &[u8], k: usize, g: Geometry) -> Form
         return Form::Bad;
     }
     Form::Good(q)
+}
+
+// Takes the first n extents of a label out of the map of free tracks: false if a track of theirs was not free.
+fn take_extents<'a>(f1: &'a [u8], f3: &'a [u8], n: usize, g: Geometry, map: &mut [u64]) -> bool
+    requires { ⌜ (length (now f1) ≡ 140) × (length (now f3) ≡ 140) × (n ≤ 16) × Limits (geometryOf g) × (tracks (geometryOf g) ≤ 64 * length (now map)) × All (GoodExtent (geometryOf g)) (readExtents (geometryOf g .heads) (now f1) (now f3) n) ⌝ }
+    ensures { λ r. ⌜ Took (tracks (geometryOf g)) (overs (readExtents (geometryOf g .heads) (now (f1 .entry)) (now (f3 .entry)) n)) (now (map .entry)) (now (map .exit)) r ⌝ }
+{
+    let h = g.heads;
+    let mut e: usize = 0;
+    while e < n {
+        let x = fields::extent_part(f1, f3, e);
+        let first = fields::track_at(x, 2, h) as usize;
+        let last = fields::track_at(x, 6, h) as usize;
+        let end = last + 1;
+        if tracks::take_range(map, first, end) {
+            e += 1;
+        } else {
+            return false;
+        }
+    }
+    true
+}
+
+// Takes slot k, and slot q where it is not 0, out of the map of free slots: false if one was not free.
+fn take_slots(slots: &mut [u64], k: usize, q: usize) -> bool
+    requires { ⌜ (1 ≤ k) × (k < 512) × (q < 512) × (length (now slots) ≡ 8) ⌝ }
+    ensures { λ r. ⌜ TookSlots k q (now (slots .entry)) (now (slots .exit)) r ⌝ }
+{
+    let next = k + 1;
+    if tracks::take_range(slots, k, next) {} else {
+        return false;
+    }
+    if q == 0 {
+        return true;
+    }
+    let end = q + 1;
+    tracks::take_range(slots, q, end)
+}
+
+// Tests the label in slot k and takes its slots and tracks out of the maps: false if it is not as the layout says, or if a
+// slot or a track of its was not free. That the slot has a format 1 is known.
+pub fn take_label(table: &[u8], k: usize, g: Geometry, map: &mut [u64], slots: &mut [u64]) -> bool
+    requires { ⌜ AtLabel (geometryOf g) (now table) k × (tracks (geometryOf g) ≤ 64 * length (now map)) × (length (now slots) ≡ 8) ⌝ }
+    ensures { λ r. ⌜ TookLabel (geometryOf g) (now (table .entry)) k (now (map .entry)) (now (map .exit)) (now (slots .entry)) (now (slots .exit)) r ⌝ }
+{
+    let Form::Good(q) = form_of(table, k, g) else {
+        return false;
+    };
+    if take_slots(slots, k, q) {} else {
+        return false;
+    }
+    let f1 = fields::record_at(table, k);
+    let f3 = fields::record_at(table, q);
+    let n = fields::wide(f1[59]) as usize;
+    take_extents(f1, f3, n, g, map)
 }

@@ -1,5 +1,5 @@
 -- A label that passes the tests is as `LabelOk` says, and one that is so passes. Assumes nothing.
-use Rattle.labels.specs.declared.Form.the-variants.{Bad, Good}
+use Rattle.label_check.specs.declared.Form.the-variants.{Bad, Good}
 use mathlib.Core.Path.{_≡_, refl, sym, ap, _∙_, subst}
 use mathlib.Core.List.{List, []}
 use Prim.Native.Nat.{ℕ, zero, suc, _+_, _*_, _≤_, _<_}
@@ -30,8 +30,8 @@ use Rattle.forms.proofs.Blocks.{tenFor}
 use Rattle.forms.proofs.Cutting.{bytes-part}
 use Rattle.forms.proofs.Sound.{OneOk, ThreeOk, one→, three→, →one, →three}
 use Rattle.forms.proofs.Written.{all-good, count-back, extent-passes, good-label, link1-back, one-back, stand1-back, stand3-back, stands, three-back, written1, written3}
-use Rattle.labels.specs.Label.{extentsOk, fewOk, formOf, goodIf, goodThird, namedThird, orZero, thirdOf}
-use Rattle.labels.proofs.Laws.{third-positive}
+use Rattle.label_check.specs.Label.{extentsOk, fewOk, formOf, goodIf, goodThird, namedThird, orZero, thirdOf}
+use Rattle.label_check.proofs.Laws.{third-positive}
 
 -- ---- rows of tests
 

@@ -1,4 +1,4 @@
-use Rattle.labels.proofs.Laws.{third-none, third-wrong, third-tested}
+use Rattle.label_check.proofs.Laws.{third-none, third-wrong, third-tested}
 use Rattle.fields.proofs.Links.{slot-below}
 use Rattle.forms.specs.Forms.{geometryOf}
 use Rattle.model.specs.Model.{slots}
@@ -7,14 +7,14 @@ use native.Mathlib.Omega.{arith}
 use mathlib.Core.Bool.{true, false}
 use mathlib.Core.Path.{_≡_, sym, ap, _∙_}
 use borrow.Author.Needs.{needs}
-use Rattle.labels.proofs.third_of.Statement.{statement}
-use Rattle.labels.proofs.third_of.Tie as tie
-use Rattle.labels.proofs.third_of.Reads as reads
-use Rattle.labels.proofs.third_of.Lts as lts
+use Rattle.label_check.proofs.third_of.Statement.{statement}
+use Rattle.label_check.proofs.third_of.Tie as tie
+use Rattle.label_check.proofs.third_of.Reads as reads
+use Rattle.label_check.proofs.third_of.Lts as lts
 use Rattle.fields.proofs.record_at.Reads as record-at-reads
 use Rattle.fields.proofs.slot_of.Reads as slot-of-reads
 use Rattle.forms.proofs.three_ok.Reads as three-ok-reads
-use Rattle.labels.proofs.extents_ok.Reads as extents-ok-reads
+use Rattle.label_check.proofs.extents_ok.Reads as extents-ok-reads
 
 -- src/lib.rt:51:17
 mul-many : tie.Need-mul-many

@@ -10,8 +10,8 @@ use Rattle.rules.specs.Layout.{extentPart}
 use Rattle.fields.specs.Records.{slotBytes}
 use Rattle.fields.specs.Tests.{allAre, slotNamed}
 use Rattle.forms.specs.Forms.{extentOk, oneOk, threeOk}
-use Rattle.labels.specs.declared.Form.{Form}
-use Rattle.labels.specs.declared.Form.the-variants.{Good, Bad}
+use Rattle.label_check.specs.declared.Form.{Form}
+use Rattle.label_check.specs.declared.Form.the-variants.{Good, Bad}
 
 -- k extents from number e on, where n are in use
 unfoldable pub extentsOk : ℕ → ℕ → List ℕ → List ℕ → ℕ → ℕ → ℕ → Bool

@@ -1,12 +1,12 @@
-use Rattle.labels.proofs.Laws.{few-linked, few-free}
+use Rattle.label_check.proofs.Laws.{few-linked, few-free}
 use mathlib.Core.Path.{_≡_, sym, ap, _∙_}
 use borrow.Author.Needs.{needs}
-use Rattle.labels.proofs.few_ok.Statement.{statement}
-use Rattle.labels.proofs.few_ok.Tie as tie
-use Rattle.labels.proofs.few_ok.Reads as reads
-use Rattle.labels.proofs.few_ok.Lts as lts
+use Rattle.label_check.proofs.few_ok.Statement.{statement}
+use Rattle.label_check.proofs.few_ok.Tie as tie
+use Rattle.label_check.proofs.few_ok.Reads as reads
+use Rattle.label_check.proofs.few_ok.Lts as lts
 use Rattle.fields.proofs.part_is.Reads as part-is-reads
-use Rattle.labels.proofs.extents_ok.Reads as extents-ok-reads
+use Rattle.label_check.proofs.extents_ok.Reads as extents-ok-reads
 
 -- src/lib.rt:40:8
 part-is-requires : tie.Need-part-is-requires

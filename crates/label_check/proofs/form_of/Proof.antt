@@ -1,20 +1,20 @@
-use Rattle.labels.proofs.Laws.{form-wrong, form-few, form-many, third-positive}
-use Rattle.labels.specs.Label.{goodThird}
+use Rattle.label_check.proofs.Laws.{form-wrong, form-few, form-many, third-positive}
+use Rattle.label_check.specs.Label.{goodThird}
 use Rattle.forms.specs.Forms.{geometryOf}
 use native.Mathlib.Omega.{arith}
 use Prim.Native.Nat.{ℕ, zero, suc}
 use mathlib.Core.Bool.{true, false}
 use mathlib.Core.Path.{_≡_, refl, sym, ap, _∙_, subst}
 use borrow.Author.Needs.{needs}
-use Rattle.labels.proofs.form_of.Statement.{statement}
-use Rattle.labels.proofs.form_of.Tie as tie
-use Rattle.labels.proofs.form_of.Reads as reads
-use Rattle.labels.proofs.form_of.Lts as lts
+use Rattle.label_check.proofs.form_of.Statement.{statement}
+use Rattle.label_check.proofs.form_of.Tie as tie
+use Rattle.label_check.proofs.form_of.Reads as reads
+use Rattle.label_check.proofs.form_of.Lts as lts
 use Rattle.fields.proofs.record_at.Reads as record-at-reads
 use Rattle.fields.proofs.wide.Reads as wide-reads
 use Rattle.forms.proofs.one_ok.Reads as one-ok-reads
-use Rattle.labels.proofs.few_ok.Reads as few-ok-reads
-use Rattle.labels.proofs.third_of.Reads as third-of-reads
+use Rattle.label_check.proofs.few_ok.Reads as few-ok-reads
+use Rattle.label_check.proofs.third_of.Reads as third-of-reads
 
 -- src/lib.rt:71:9
 record-at-requires : tie.Need-record-at-requires

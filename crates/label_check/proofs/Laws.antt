@@ -4,7 +4,7 @@ use mathlib.Core.Bool.{true, false, _&&_, Bool}
 use mathlib.Core.List.{List}
 use Prim.Native.Nat.{ℕ, suc, _+_, _-_, _≤_, _<_, zero}
 use native.Mathlib.Omega.{arith}
-use Rattle.labels.specs.declared.Form.the-variants.{Bad, Good}
+use Rattle.label_check.specs.declared.Form.the-variants.{Bad, Good}
 use native.Mathlib.Numerals.{add-one}
 use borrow.Author.Tests.{lt-leb, le-leb}
 use lib.ListN.{getD}
@@ -15,7 +15,7 @@ use Rattle.rules.proofs.Keyed.{count}
 use Rattle.fields.specs.Records.{slotBytes}
 use Rattle.fields.specs.Tests.{allAre}
 use Rattle.forms.specs.Forms.{extentOk, oneOk, threeOk}
-use Rattle.labels.specs.Label.{extentsOk, fewOk, formOf, goodIf, goodThird, namedThird, orZero, thirdOf}
+use Rattle.label_check.specs.Label.{extentsOk, fewOk, formOf, goodIf, goodThird, namedThird, orZero, thirdOf}
 
 module _ (h t : ℕ) (f1 f3 : List ℕ) (n e m : ℕ) (u : e < m) where
   step : extentsOk h t f1 f3 n e (m - e) ≡ (extentOk h t n e (extentPart f1 f3 e) && extentsOk h t f1 f3 n (e + 1) (m - (e + 1)))
