@@ -1,3 +1,4 @@
 pub mod Laws
 pub mod Meaning
 pub mod Taking
+pub mod Joined

@@ -98,13 +98,13 @@ module _ (g : Geometry) (limit : Limits g) (t : List ℕ) (bytes : Bytes t) (len
         let r : slotAt g f1 135 ≡ q = sym (slot-part g f1 135) ∙ slot-read g q (part 135 5 f1) e in
         record { read = r; linked = ap (link g) r ∙ e; inside = u }
 
-    slot3-is : l .slot3 ≡ slotAt g f1 135
+    pub slot3-is : l .slot3 ≡ slotAt g f1 135
     unfolding readLabel
     slot3-is = refl
 
-    slot-is : l .slot ≡ k
+    pub label-slot : l .slot ≡ k
     unfolding readLabel
-    slot-is = refl
+    label-slot = refl
 
     -- the label, from the tests
     good-from : (q : ℕ) → Third q → T (oneOk f1) → ((e : ℕ) → e < 3 → T (extentOk (g .heads) (tracks g) n e (extentPart f1 (slotBytes t q) e)))
@@ -147,7 +147,7 @@ module _ (g : Geometry) (limit : Limits g) (t : List ℕ) (bytes : Bytes t) (len
         label-ok =
             record {
               good = good;
-              one = written1 g rs k f1 l1 (slot-bytes k) r3-long id (λ e u w. stand e w) (th .linked) ∙ sym (ap (recordAt rs) slot-is ∙ at-slot k high);
+              one = written1 g rs k f1 l1 (slot-bytes k) r3-long id (λ e u w. stand e w) (th .linked) ∙ sym (ap (recordAt rs) label-slot ∙ at-slot k high);
               three = λ p.
                   let p′ : 1 ≤ slotAt g f1 135 = subst (λ (x : ℕ). 1 ≤ x) slot3-is p in
                   let u : 3 < n = elim (decLe n 3) [ yes z ↦ absurd (let a = few z in let b = th .read in omega arith) | no z ↦ lt-of-not-le z ] in
@@ -164,17 +164,16 @@ module _ (g : Geometry) (limit : Limits g) (t : List ℕ) (bytes : Bytes t) (len
     zero-slot : T (allAre 0 (part 135 5 f1)) → Third 0
     zero-slot z = from-link 0 (none-is g (part 135 5 f1) five z) (let m = limit .least in omega arith)
 
-    pub Passed : ℕ → Type 0
+    abbrev pub Passed : ℕ → Type 0
     Passed q = LabelOk g rs l × (l .slot3 ≡ q) × (q < N)
 
     few-passed : T (oneOk f1) → n ≤ 3 → T (fewOk (g .heads) (tracks g) f1 n) → Passed 0
-    unfolding fewOk Passed
+    unfolding fewOk
     few-passed one u p =
         let z = and-l (allAre 0 (part 135 5 f1)) (extentsOk (g .heads) (tracks g) f1 f1 n 0 3) p in
         let x = and-r (allAre 0 (part 135 5 f1)) (extentsOk (g .heads) (tracks g) f1 f1 n 0 3) p in
         let th = zero-slot z in
-        let s0 = slot-long 0 (th .inside) in
-        (
+        let s0 = slot-long 0 (th .inside) in (
           good-from 0 th one
               (λ e v. subst (λ (y : List ℕ). T (extentOk (g .heads) (tracks g) n e y)) (same-first f1 f1 (slotBytes t 0) e l1 l1 s0 v) (tests→ (g .heads) (tracks g) f1 f1 n 0 3 x e (omega arith) (omega arith)))
               (λ v. absurd (omega arith)) (λ v. refl),
@@ -187,7 +186,7 @@ module _ (g : Geometry) (limit : Limits g) (t : List ℕ) (bytes : Bytes t) (len
     or-some false q p u e = absurd (omega arith)
 
     many-passed : T (oneOk f1) → 3 < n → (q : ℕ) → 1 ≤ q → thirdOf g t f1 n ≡ q → Passed q
-    unfolding thirdOf Passed
+    unfolding thirdOf
     many-passed one u q pos e =
         let a = or-some (threeOk (slotBytes t (namedThird g f1)) && extentsOk (g .heads) (tracks g) f1 (slotBytes t (namedThird g f1)) n 0 16) (namedThird g f1) q pos e in
         let b = subst (λ (y : ℕ). T (threeOk (slotBytes t y) && extentsOk (g .heads) (tracks g) f1 (slotBytes t y) n 0 16)) (a .1) (a .0) in
@@ -227,7 +226,7 @@ module _ (g : Geometry) (limit : Limits g) (t : List ℕ) (bytes : Bytes t) (len
       es = l .extents
 
       written : f1 ≡ format1 g l
-      written = sym (ok .one ∙ ap (recordAt rs) slot-is ∙ at-slot k high)
+      written = sym (ok .one ∙ ap (recordAt rs) label-slot ∙ at-slot k high)
 
       one-passes : T (oneOk f1)
       one-passes = subst (λ (x : List ℕ). T (oneOk x)) (sym written) (→one (format1 g l) (one-back g l (ok .good)))

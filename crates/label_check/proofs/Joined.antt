@@ -1,0 +1,108 @@
+-- A label tested and taken: what its parts give together. Assumes nothing.
+use Rattle.label_check.specs.declared.Form.the-variants.{Bad, Good}
+use mathlib.Core.Path.{_≡_, refl, sym, ap, ap₂, _∙_, subst}
+use mathlib.Core.Bool.{Bool, true, false}
+use mathlib.Core.List.{List, _++_}
+use Prim.Native.Nat.{ℕ, _≤_, _<_}
+use native.Mathlib.Omega.{arith}
+use lib.ListN.{length, getD}
+use Rattle.model.specs.Model.{Extent, Geometry, Label, oneSlot, overs, slots, slotsOf, tracks}
+use Rattle.model.proofs.Lists.{All, clash}
+use Rattle.model.proofs.Runs.{Once}
+use Rattle.rules.specs.Reading.{chop, readExtents, readLabel, recordAt, slotAt}
+use Rattle.rules.proofs.Valid.{GoodExtent}
+use Rattle.sound.specs.Sound.{LabelOk}
+use Rattle.tracks.specs.Map.{Shows}
+use Rattle.fields.specs.Records.{Bytes, slotBytes}
+use Rattle.fields.proofs.Slots.{chop-slot}
+use Rattle.forms.proofs.Written.{read-length}
+use Rattle.label_check.specs.Label.{formOf}
+use Rattle.label_check.specs.Marks.{AtLabel, Took, TookLabel, TookSlots, labelAt, units}
+use Rattle.label_check.proofs.Meaning.{form-bad, form-good, label-slot, slot3-is}
+
+module _ (g : Geometry) (t : List ℕ) (k : ℕ) (a : AtLabel g t k) (bytes : Bytes t) where
+  abbrev rs : List (List ℕ)
+  rs = chop (slots g) t
+
+  abbrev l : Label
+  l = labelAt g t k
+
+  abbrev f1 : List ℕ
+  f1 = slotBytes t k
+
+  abbrev Good-with : ℕ → Type 0
+  Good-with q = LabelOk g rs l × (l .slot3 ≡ q) × (q < slots g)
+
+  pub good-form : (q : ℕ) → formOf g t k ≡ Good q → Good-with q
+  good-form q e = form-good g (a .limits) t bytes (a .long) k (a .low) (a .high) (a .id) q e
+
+  pub label-bad : (m s : List ℕ) → formOf g t k ≡ Bad → TookLabel g t k m m s s false
+  label-bad m s e =
+      record {
+        longMap = refl;
+        longSlots = refl;
+        good = λ q. clash {b = false} q refl;
+        free = λ q. clash {b = false} q refl;
+        empty = λ q. clash {b = false} q refl;
+        no = λ q hs us h u ok o w. form-bad g (a .limits) t bytes (a .long) k (a .low) (a .high) (a .id) e ok;
+      }
+
+  module _ (q : ℕ) (ok : Good-with q) where
+    slots-are : slotsOf l ≡ oneSlot k ++ oneSlot q
+    slots-are = ap₂ (λ (x y : ℕ). oneSlot x ++ oneSlot y) (label-slot g (a .limits) t bytes (a .long) k (a .low) (a .high) (a .id)) (ok .1)
+
+    pub slots-bad : (m s s′ : List ℕ) → TookSlots k q s s′ false → TookLabel g t k m m s s′ false
+    slots-bad m s s′ x =
+        record {
+          longMap = refl;
+          longSlots = x .long;
+          good = λ e. clash {b = false} e refl;
+          free = λ e. clash {b = false} e refl;
+          empty = λ e. clash {b = false} e refl;
+          no = λ e hs us h u good o w. x .no refl (slots g) (a .high) (ok .2) us u (subst (λ (ks : List ℕ). Once (slots g) (units ks ++ us)) slots-are w);
+        }
+
+    third-is : recordAt rs (slotAt g f1 135) ≡ slotBytes t q
+    third-is = ap (recordAt rs) (sym (slot3-is g (a .limits) t bytes (a .long) k (a .low) (a .high) (a .id)) ∙ ok .1) ∙ chop-slot (slots g) t q (ok .2)
+
+    extents-are : l .extents ≡ readExtents (g .heads) f1 (slotBytes t q) (getD f1 59 0)
+    unfolding readLabel
+    extents-are = ap (λ (x : List ℕ). readExtents (g .heads) f1 x (getD f1 59 0)) third-is
+
+    pub extents-good : All (GoodExtent g) (readExtents (g .heads) f1 (slotBytes t q) (getD f1 59 0))
+    extents-good = subst (All (GoodExtent g)) extents-are (ok .0 .good .extents)
+
+    pub few-extents : getD f1 59 0 ≤ 16
+    few-extents =
+        let m = ok .0 .good .most in
+        let e = ap length extents-are ∙ read-length g f1 (slotBytes t q) (getD f1 59 0) in
+        omega arith
+
+    pub label-taken : (m m′ s s′ : List ℕ) (r : Bool) → TookSlots k q s s′ true → Took (tracks g) (overs (readExtents (g .heads) f1 (slotBytes t q) (getD f1 59 0))) m m′ r
+        → TookLabel g t k m m′ s s′ r
+    label-taken m m′ s s′ r x y =
+        record {
+          longMap = y .long;
+          longSlots = x .long;
+          good = λ e. ok .0;
+          free = λ e hs h. subst (λ (es : List Extent). Shows m′ (tracks g) (overs es ++ hs)) (sym extents-are) (y .yes e hs h);
+          empty = λ e us u. subst (λ (ks : List ℕ). Shows s′ (slots g) (units ks ++ us)) (sym slots-are) (x .yes refl (slots g) us u);
+          no = λ e hs us h u good o w. y .no e hs h (subst (λ (es : List Extent). Once (tracks g) (overs es ++ hs)) extents-are o);
+        }
+
+    -- the same for the records and the count as the code has them
+    module _ (x1 x3 : List ℕ) (n : ℕ) (e1 : x1 ≡ f1) (e3 : x3 ≡ slotBytes t q) (en : n ≡ getD x1 59 0) where
+      count : n ≡ getD f1 59 0
+      count = en ∙ ap (λ (x : List ℕ). getD x 59 0) e1
+
+      same-extents : readExtents (g .heads) x1 x3 n ≡ readExtents (g .heads) f1 (slotBytes t q) (getD f1 59 0)
+      same-extents = λ i. readExtents (g .heads) (e1 i) (e3 i) (count i)
+
+      pub asked-few : n ≤ 16
+      asked-few = let a = few-extents in let b = count in omega arith
+
+      pub asked-good : All (GoodExtent g) (readExtents (g .heads) x1 x3 n)
+      asked-good = subst (All (GoodExtent g)) (sym same-extents) extents-good
+
+      pub taken-so : (m m′ s s′ : List ℕ) (r : Bool) → TookSlots k q s s′ true → Took (tracks g) (overs (readExtents (g .heads) x1 x3 n)) m m′ r → TookLabel g t k m m′ s s′ r
+      taken-so m m′ s s′ r x y = label-taken m m′ s s′ r x (subst (λ (es : List Extent). Took (tracks g) (overs es) m m′ r) same-extents y)
