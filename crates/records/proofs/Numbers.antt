@@ -1,6 +1,6 @@
 -- Numbers of a geometry within its limits: they fit their bytes. Assumes nothing.
-use native.Mathlib.Nat.{div-lt-iff-lt-mul, mod-lt}
-use Prim.Native.Nat.{ℕ, _+_, _/_, _%_, _<_}
+use native.Mathlib.Nat.{div-lt-iff-lt-mul, mod-lt, le-refl, mul-le-mul}
+use Prim.Native.Nat.{ℕ, _+_, _/_, _%_, _<_, _*_, _≤_}
 use native.Mathlib.Omega.{arith}
 use Rattle.model.specs.Model.{Geometry, slots}
 use Rattle.rules.proofs.Valid.{Limits}
@@ -21,3 +21,10 @@ slot-record g x k = let p = x .records in let m = x .recordsMost in let q = mod-
 -- a track in its cylinder
 pub head-small : (g : Geometry) → Limits g → (t : ℕ) → t % g .heads < 256
 head-small g x t = let p = x .heads in let m = x .headsMost in let q = mod-lt t {m = g .heads} (omega arith) in omega arith
+
+-- the number of cylinders
+pub cylinders-small : (g : Geometry) → Limits g → g .cylinders < 65536
+cylinders-small g x =
+    let p : g .cylinders * 1 ≤ g .cylinders * g .heads = mul-le-mul (le-refl (g .cylinders)) (x .heads) in
+    let m = x .tracksMost in
+    omega arith

@@ -131,3 +131,23 @@ set-field k ns fs l h xs e =
     field-length k (n ∷ ns) [] l h = absurd l
     field-length zero (n ∷ ns) (f ∷ fs) l h = l .0
     field-length (suc k) (n ∷ ns) (f ∷ fs) l h = field-length k ns fs (l .1) (omega arith)
+
+pub lengths-set : (k : ℕ) (ns : List ℕ) (fs : List (List ℕ)) (xs : List ℕ) → Lengths ns fs → length xs ≡ getD ns k 0 → Lengths ns (set fs k xs)
+lengths-set k [] [] xs l e = tt
+lengths-set k [] (f ∷ fs) xs l e = absurd l
+lengths-set k (n ∷ ns) [] xs l e = absurd l
+lengths-set zero (n ∷ ns) (f ∷ fs) xs l e = (e, l .1)
+lengths-set (suc k) (n ∷ ns) (f ∷ fs) xs l e = (l .0, lengths-set k ns fs xs (l .1) e)
+
+-- a record made of fields of these lengths, and one of them put
+pub record Built (ns : List ℕ) (fs : List (List ℕ)) (r : List ℕ) : Type 0 where
+  pub bytes : r ≡ whole fs
+  pub long : Lengths ns fs
+
+pub built-next : {ns : List ℕ} {fs : List (List ℕ)} {r : List ℕ} → Built ns fs r → (k : ℕ) → k < length ns → (xs : List ℕ) → length xs ≡ getD ns k 0
+    → Built ns (set fs k xs) (putAt r (startOf k ns) xs)
+built-next {ns} {fs} b k h xs e =
+    record {
+      bytes = ap (λ (x : List ℕ). putAt x (startOf k ns) xs) (b .bytes) ∙ set-field k ns fs (b .long) h xs e;
+      long = lengths-set k ns fs xs (b .long) e;
+    }

@@ -1,2 +1,4 @@
 pub mod Put
-pub mod Geometry
+pub mod Shape
+pub mod Blank
+pub mod Labels

@@ -9,7 +9,7 @@ use Prim.Native.Nat.{_/_, _%_}
 use native.Mathlib.Omega.{arith}
 use mathlib.Core.Path.{refl}
 use Rattle.model.specs.Basics.{be2}
-use Rattle.records.specs.Geometry.{geometryOf}
+use Rattle.records.specs.Shape.{geometryOf}
 use Rattle.records.proofs.Numbers.{head-small}
 use Rattle.records.proofs.Putting.{put-parts}
 

@@ -9,7 +9,7 @@ use mathlib.Core.Path.{_∙_, ap, refl}
 use mathlib.Core.List.{List}
 use Rattle.rules.specs.Layout.{cchh}
 use Rattle.records.specs.Put.{putAt}
-use Rattle.records.specs.Geometry.{geometryOf}
+use Rattle.records.specs.Shape.{geometryOf}
 use Rattle.records.proofs.Putting.{put-behind}
 
 -- src/lib.rt:67:5

@@ -12,7 +12,7 @@ use mathlib.Core.List.{List}
 use native.Mathlib.Omega.{arith}
 use Rattle.rules.specs.Layout.{cchh}
 use Rattle.records.specs.Put.{putAt}
-use Rattle.records.specs.Geometry.{geometryOf}
+use Rattle.records.specs.Shape.{geometryOf}
 use Rattle.records.proofs.Numbers.{slot-record, slot-track}
 use Rattle.records.proofs.Putting.{link-none, link-some, put-next}
 
