@@ -24,21 +24,24 @@ put-is r i xs h =
     ∙ put-left (take (length xs) (drop i r)) (drop (length xs) (drop i r)) 0 xs (omega arith)
     ∙ ap₂ (λ (x y : List ℕ). x ++ y) (put-all (take (length xs) (drop i r)) xs (omega arith)) (drop-drop (length xs) i r))
 
+-- into zeros
+zeros-put : (m : ℕ) (ys : List ℕ) → length ys ≤ m → putAt (zeros m) 0 ys ≡ ys ++ zeros (m - length ys)
+zeros-put m ys h =
+    let e : m ≡ length ys + (m - length ys) = omega arith in
+    let z = length-replicate {A = ℕ} (length ys) 0 in
+    ap (λ (k : ℕ). putAt (zeros k) 0 ys) e
+    ∙ ap (λ (r : List ℕ). putAt r 0 ys) (sym (replicate-append-replicate (length ys) (m - length ys) 0))
+    ∙ put-left (zeros (length ys)) (zeros (m - length ys)) 0 ys (omega arith)
+    ∙ ap (λ (r : List ℕ). r ++ zeros (m - length ys)) (put-all (zeros (length ys)) ys z)
+
 -- A PART MORE, behind what is there
 pub put-fill : (n : ℕ) (xs ys : List ℕ) → length xs + length ys ≤ n → putAt (fill n xs) (length xs) ys ≡ fill n (xs ++ ys)
 put-fill n xs ys h =
-    let m = n - length xs in
-    let l = length-append xs ys in
-    let z = length-replicate {A = ℕ} (length ys) 0 in
-    let e : m ≡ length ys + (m - length ys) = omega arith in
-    let f : m - length ys ≡ n - length (xs ++ ys) = omega arith in
+    let l : length (xs ++ ys) ≡ length xs + length ys = length-append xs ys in
+    let f : n - length xs - length ys ≡ n - length (xs ++ ys) = omega arith in
     ap (λ (r : List ℕ). putAt r (length xs) ys) (fill-split n xs (omega arith))
-    ∙ put-right xs (zeros m) 0 ys (length xs) (omega arith)
-    ∙ ap (λ (r : List ℕ). xs ++ r)
-    (ap (λ (k : ℕ). putAt (zeros k) 0 ys) e
-    ∙ ap (λ (r : List ℕ). putAt r 0 ys) (sym (replicate-append-replicate (length ys) (m - length ys) 0))
-    ∙ put-left (zeros (length ys)) (zeros (m - length ys)) 0 ys (omega arith)
-    ∙ ap₂ (λ (r s : List ℕ). r ++ s) (put-all (zeros (length ys)) ys z) (ap zeros f))
+    ∙ put-right xs (zeros (n - length xs)) 0 ys (length xs) (omega arith)
+    ∙ ap (λ (r : List ℕ). xs ++ r) (zeros-put (n - length xs) ys (omega arith) ∙ ap (λ (k : ℕ). ys ++ zeros k) f)
     ∙ sym (append-assoc xs ys (zeros (n - length (xs ++ ys))))
     ∙ sym (fill-split n (xs ++ ys) (omega arith))
 

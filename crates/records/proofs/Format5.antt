@@ -17,7 +17,8 @@ use Rattle.rules.proofs.LabelBack.{length-link}
 use Rattle.rules.proofs.TableBack.{lengths5, lens5}
 use Rattle.tracks.specs.Map.{NextRun, freeFrom}
 use Rattle.tracks.proofs.Walk.{free-from-end}
-use Rattle.records.specs.Blank.{Fills, blank}
+use Rattle.records.specs.Blank.{blank}
+use Rattle.records.specs.Fives.{Fills}
 use Rattle.records.specs.Put.{putAt}
 use Rattle.records.proofs.Extents.{entry-more}
 use Rattle.records.proofs.Filling.{drop-snoc, take-snoc}

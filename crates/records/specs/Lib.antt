@@ -1,4 +1,4 @@
 pub mod Put
 pub mod Shape
 pub mod Blank
-pub mod Labels
+pub mod Fives

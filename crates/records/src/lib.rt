@@ -1,18 +1,18 @@
-// Label records (DSCBs) built: one writer for each format. A record is an array by value, so that its length is known.
+// Label records (DSCBs) built: bytes put at their places, and formats 4 and 5 whole. A record is an array by value, so that
+// its length is known. The formats of data sets are in the crate labels.
 ghost use mathlib.Core.Path.{_≡_};
 ghost use mathlib.Core.List.{List};
 ghost use Prim.Native.Nat.{ℕ, _+_, _-_, _*_, _≤_, _<_};
 ghost use lib.ListN.{length, replicate};
 ghost use Rattle.model.specs.Basics.{be2, be3};
-ghost use Rattle.model.specs.Model.{Geometry, Label, Run, extent, run, slots};
+ghost use Rattle.model.specs.Model.{Run, extent, run, slots};
 ghost use Rattle.rules.specs.Demand3.{entryPlace};
 ghost use Rattle.rules.specs.Layout.{cchh, entry, extentBytes, format4, format5, link};
-ghost use Rattle.rules.specs.Slots.{withName, withSlots};
 ghost use Rattle.rules.proofs.Valid.{Limits};
 ghost use Rattle.records.specs.Put.{putAt};
 ghost use Rattle.records.specs.Shape.{geometryOf};
-ghost use Rattle.records.specs.Blank.{Fills, blank};
-ghost use Rattle.records.specs.Labels.{Format1, Format3, added, firstExtents, newLabel, withTtr};
+ghost use Rattle.records.specs.Blank.{blank};
+ghost use Rattle.records.specs.Fives.{Fills};
 
 // The geometry of a volume: C cylinders of H tracks, D records a track, a VTOC of V tracks from track S on.
 pub struct Shape {
@@ -33,6 +33,18 @@ pub fn put_two(rec: [u8; 140], at: usize, v: u32) -> [u8; 140]
     let mut r = rec;
     r[at] = (v / 256) as u8;
     r[at + 1] = (v % 256) as u8;
+    r
+}
+
+// Puts a number of three bytes.
+pub fn put_three(rec: [u8; 140], at: usize, v: u32) -> [u8; 140]
+    requires { ⌜ (at + 2 < 140) × (v < 16777216) ⌝ }
+    ensures { λ r. ⌜ r ≡ putAt rec at (be3 v) ⌝ }
+{
+    let mut r = rec;
+    r[at] = (v / 65536) as u8;
+    r[at + 1] = (v / 256 % 256) as u8;
+    r[at + 2] = (v % 256) as u8;
     r
 }
 
@@ -124,20 +136,17 @@ pub fn put_row(rec: [u8; 140], at: usize, s: &[u8]) -> [u8; 140]
     r
 }
 
-// Puts a number of three bytes.
-fn put_three(rec: [u8; 140], at: usize, v: u32) -> [u8; 140]
-    requires { ⌜ (at + 2 < 140) × (v < 16777216) ⌝ }
-    ensures { λ r. ⌜ r ≡ putAt rec at (be3 v) ⌝ }
+// A record as it stands in the table.
+pub fn record_of(s: &[u8]) -> [u8; 140]
+    requires { ⌜ length (now s) ≡ 140 ⌝ }
+    ensures { λ r. ⌜ r ≡ now (s .entry) ⌝ }
 {
-    let mut r = rec;
-    r[at] = (v / 65536) as u8;
-    r[at + 1] = (v / 256 % 256) as u8;
-    r[at + 2] = (v % 256) as u8;
-    r
+    let zeros = [0u8; 140];
+    put_row(zeros, 0, s)
 }
 
 // A record with nothing but its key, n bytes v, and its format's identifier.
-fn blank(n: usize, v: u8, id: u8) -> [u8; 140]
+pub fn blank(n: usize, v: u8, id: u8) -> [u8; 140]
     requires { ⌜ n ≤ 44 ⌝ }
     ensures { λ r. ⌜ r ≡ blank n v id ⌝ }
 {
@@ -212,108 +221,4 @@ pub fn with_next(rec: [u8; 140], g: Shape, k: usize) -> [u8; 140]
     ensures { λ r. ⌜ ((f : List Run) (old : ℕ) → rec ≡ format5 (geometryOf g) f old → r ≡ format5 (geometryOf g) f k) ⌝ }
 {
     put_link(rec, 135, g, k) // DS5PTRDS
-}
-
-// ---- format 1, with its format 3
-
-// The format 1 of a label that has no extent yet.
-pub fn new_label(name: &[u8], attributes: &[u8], unit: u8, secondary: u32) -> [u8; 140]
-    requires { ⌜ (length (now name) ≡ 44) × (length (now attributes) ≡ 52) × (secondary < 16777216) ⌝ }
-    ensures { λ r. ⌜ ((g : Geometry) → Format1 g (newLabel (now (name .entry)) (now (attributes .entry)) unit secondary) r) ⌝ }
-{
-    let zeros = [0u8; 140];
-    let mut r = put_row(zeros, 0, name); // DS1DSNAM
-    r[44] = 0xF1; // DS1FMTID
-    r[94] = unit; // DS1SCALO
-    let scaled = put_three(r, 95, secondary);
-    let first = put_row(scaled, 45, &attributes[0..14]);
-    let second = put_row(first, 60, &attributes[14..48]);
-    put_row(second, 101, &attributes[48..52])
-}
-
-// The format 3 of a label that has no more than three extents.
-pub fn empty_three() -> [u8; 140]
-    ensures { λ r. ⌜ ((g : Geometry) (l : Label) → length (l .extents) ≤ 3 → Format3 g l r) ⌝ }
-{
-    blank(4, 0x03, 0xF3)
-}
-
-// The format 1 of a label with n extents, with one more.
-pub fn add_in_one(rec: [u8; 140], g: Shape, n: usize, kind: u8, start: u32, count: u32) -> [u8; 140]
-    requires { ⌜ (n < 16) × (1 ≤ count) × (start + count ≤ 65535) × Limits (geometryOf g) ⌝ }
-    ensures { λ r. ⌜ ((l : Label) → length (l .extents) ≡ n → Format1 (geometryOf g) l rec → Format1 (geometryOf g) (added (extent kind (run start count)) l) r) ⌝ }
-{
-    let mut r = rec;
-    r[59] = (n + 1) as u8; // DS1NOEPV
-    if n < 3 {
-        return put_extent(r, 105 + 10 * n, g, n, kind, start, count); // DS1EXT1
-    }
-    r
-}
-
-// The format 3 of a label with n extents, three or more, with one more.
-pub fn add_in_three(
-    rec: [u8; 140],
-    g: Shape,
-    n: usize,
-    kind: u8,
-    start: u32,
-    count: u32,
-) -> [u8; 140]
-    requires { ⌜ (3 ≤ n) × (n < 16) × (1 ≤ count) × (start + count ≤ 65535) × Limits (geometryOf g) ⌝ }
-    ensures { λ r. ⌜ ((l : Label) → length (l .extents) ≡ n → Format3 (geometryOf g) l rec → Format3 (geometryOf g) (added (extent kind (run start count)) l) r) ⌝ }
-{
-    if n < 7 {
-        return put_extent(rec, 4 + 10 * (n - 3), g, n, kind, start, count); // DS3EXTNT
-    }
-    put_extent(rec, 45 + 10 * (n - 7), g, n, kind, start, count) // DS3ADEXT
-}
-
-// The format 1 of a label, with its first n extents only.
-pub fn keep_in_one(rec: [u8; 140], n: usize) -> [u8; 140]
-    requires { ⌜ n ≤ 16 ⌝ }
-    ensures { λ r. ⌜ ((g : Geometry) (l : Label) → n ≤ length (l .extents) → Format1 g l rec → Format1 g (firstExtents n l) r) ⌝ }
-{
-    let mut r = rec;
-    r[59] = n as u8;
-    if n < 3 {
-        return put_same(r, 105 + 10 * n, 135, 0);
-    }
-    r
-}
-
-// The format 3 of a label, with its first n extents only, three or more.
-pub fn keep_in_three(rec: [u8; 140], n: usize) -> [u8; 140]
-    requires { ⌜ (3 ≤ n) × (n ≤ 16) ⌝ }
-    ensures { λ r. ⌜ ((g : Geometry) (l : Label) → Format3 g l rec → Format3 g (firstExtents n l) r) ⌝ }
-{
-    if n < 7 {
-        let r = put_same(rec, 4 + 10 * (n - 3), 44, 0);
-        return put_same(r, 45, 135, 0);
-    }
-    put_same(rec, 45 + 10 * (n - 7), 135, 0)
-}
-
-// A format 1 with another last block.
-pub fn set_ttr(rec: [u8; 140], ttr: u32) -> [u8; 140]
-    requires { ⌜ ttr < 16777216 ⌝ }
-    ensures { λ r. ⌜ ((g : Geometry) (l : Label) → Format1 g l rec → Format1 g (withTtr ttr l) r) ⌝ }
-{
-    put_three(rec, 98, ttr) // DS1LSTAR
-}
-
-// A format 1 with another name.
-pub fn set_name(rec: [u8; 140], name: &[u8]) -> [u8; 140]
-    requires { ⌜ length (now name) ≡ 44 ⌝ }
-    ensures { λ r. ⌜ ((g : Geometry) (l : Label) → Format1 g l rec → Format1 g (withName (now (name .entry)) l) r) ⌝ }
-{
-    put_row(rec, 0, name)
-}
-
-// A format 1 whose format 3 is in slot k, 0 for none.
-pub fn set_link3(rec: [u8; 140], g: Shape, k: usize) -> [u8; 140]
-    requires { ⌜ (k < slots (geometryOf g)) × Limits (geometryOf g) ⌝ }
-    ensures { λ r. ⌜ ((l : Label) (slot : ℕ) → Format1 (geometryOf g) l rec → Format1 (geometryOf g) (withSlots slot k l) r) ⌝ }
-{
-    put_link(rec, 135, g, k) // DS1PTRDS
 }

@@ -1,11 +1,11 @@
 use borrow.Author.Needs.{needs}
-use Rattle.records.proofs.new_label.Statement.{statement}
-use Rattle.records.proofs.new_label.Tie as tie
-use Rattle.records.proofs.new_label.Reads as reads
-use Rattle.records.proofs.new_label.Lts as lts
+use Rattle.labels.proofs.new_label.Statement.{statement}
+use Rattle.labels.proofs.new_label.Tie as tie
+use Rattle.labels.proofs.new_label.Reads as reads
+use Rattle.labels.proofs.new_label.Lts as lts
 use Rattle.records.proofs.put_row.Reads as put-row-reads
 use Rattle.records.proofs.put_three.Reads as put-three-reads
-use Rattle.records.proofs.Format1.{new-is}
+use Rattle.labels.proofs.Format1.{new-is}
 
 -- src/lib.rt:225:17
 put-row-requires : tie.Need-put-row-requires

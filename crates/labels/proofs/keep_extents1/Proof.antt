@@ -1,10 +1,10 @@
 use borrow.Author.Needs.{needs}
-use Rattle.records.proofs.keep_in_one.Statement.{statement}
-use Rattle.records.proofs.keep_in_one.Tie as tie
-use Rattle.records.proofs.keep_in_one.Reads as reads
-use Rattle.records.proofs.keep_in_one.Lts as lts
+use Rattle.labels.proofs.keep_extents1.Statement.{statement}
+use Rattle.labels.proofs.keep_extents1.Tie as tie
+use Rattle.labels.proofs.keep_extents1.Reads as reads
+use Rattle.labels.proofs.keep_extents1.Lts as lts
 use Rattle.records.proofs.put_same.Reads as put-same-reads
-use Rattle.records.proofs.Format1.{first-in-one, first-past-one}
+use Rattle.labels.proofs.Format1.{first-in-one, first-past-one}
 
 -- src/lib.rt:271:13
 cast-r : tie.Need-cast-r
@@ -34,7 +34,7 @@ returns c = λ g l k f. rw (c .put-same .ensures) (first-in-one g l (c .before .
 returns-2 : tie.Need-returns-2
 returns-2 c = λ g l k f. first-past-one g l (c .before .args .rec) f (c .before .args .n) k (c .if1 .left)
 
-pub keep-in-one-spec : {M : Type 1} → statement M
-keep-in-one-spec =
+pub keep-extents1-spec : {M : Type 1} → statement M
+keep-extents1-spec =
     tie.close
     (tie.spec cast-r array-write-r mul-put-same add-put-same put-same-requires returns returns-2)

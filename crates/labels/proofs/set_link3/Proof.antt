@@ -1,11 +1,11 @@
 use borrow.Author.Needs.{needs}
-use Rattle.records.proofs.set_link3.Statement.{statement}
-use Rattle.records.proofs.set_link3.Tie as tie
-use Rattle.records.proofs.set_link3.Reads as reads
-use Rattle.records.proofs.set_link3.Lts as lts
+use Rattle.labels.proofs.set_link3.Statement.{statement}
+use Rattle.labels.proofs.set_link3.Tie as tie
+use Rattle.labels.proofs.set_link3.Reads as reads
+use Rattle.labels.proofs.set_link3.Lts as lts
 use Rattle.records.proofs.put_link.Reads as put-link-reads
 use Rattle.records.specs.Shape.{geometryOf}
-use Rattle.records.proofs.Format1.{linked-again}
+use Rattle.labels.proofs.Format1.{linked-again}
 
 -- src/lib.rt:311:5
 put-link-requires : tie.Need-put-link-requires

@@ -1,10 +1,10 @@
 use borrow.Author.Needs.{needs}
-use Rattle.records.proofs.set_ttr.Statement.{statement}
-use Rattle.records.proofs.set_ttr.Tie as tie
-use Rattle.records.proofs.set_ttr.Reads as reads
-use Rattle.records.proofs.set_ttr.Lts as lts
+use Rattle.labels.proofs.set_ttr.Statement.{statement}
+use Rattle.labels.proofs.set_ttr.Tie as tie
+use Rattle.labels.proofs.set_ttr.Reads as reads
+use Rattle.labels.proofs.set_ttr.Lts as lts
 use Rattle.records.proofs.put_three.Reads as put-three-reads
-use Rattle.records.proofs.Format1.{ttr-again}
+use Rattle.labels.proofs.Format1.{ttr-again}
 
 -- src/lib.rt:295:5
 put-three-requires : tie.Need-put-three-requires

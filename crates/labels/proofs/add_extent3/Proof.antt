@@ -1,13 +1,13 @@
 use borrow.Author.Needs.{needs}
-use Rattle.records.proofs.add_in_three.Statement.{statement}
-use Rattle.records.proofs.add_in_three.Tie as tie
-use Rattle.records.proofs.add_in_three.Reads as reads
-use Rattle.records.proofs.add_in_three.Lts as lts
+use Rattle.labels.proofs.add_extent3.Statement.{statement}
+use Rattle.labels.proofs.add_extent3.Tie as tie
+use Rattle.labels.proofs.add_extent3.Reads as reads
+use Rattle.labels.proofs.add_extent3.Lts as lts
 use Rattle.records.proofs.put_extent.Reads as put-extent-reads
 use mathlib.Core.Path.{_∙_}
 use Rattle.model.specs.Model.{extent, run}
 use Rattle.records.specs.Shape.{geometryOf}
-use Rattle.records.proofs.Format3.{more-in-three, more-past-three}
+use Rattle.labels.proofs.Format3.{more-in-three, more-past-three}
 
 -- src/lib.rt:260:42
 sub-put-extent : tie.Need-sub-put-extent
@@ -45,8 +45,8 @@ put-extent-requires-2 c κs = search needs
 returns-2 : tie.Need-returns-2
 returns-2 c = λ l k f. c .put-extent2 .ensures ∙ more-past-three (geometryOf (c .before .before .args .g)) l (c .before .before .args .rec) f (extent (c .before .before .args .kind) (run (c .before .before .args .start) (c .before .before .args .count))) (c .before .before .args .n) k (c .before .if1 .left) (c .before .before .pre .1)
 
-pub add-in-three-spec : {M : Type 1} → statement M
-add-in-three-spec =
+pub add-extent3-spec : {M : Type 1} → statement M
+add-extent3-spec =
     tie.close
     (tie.spec
     sub-put-extent

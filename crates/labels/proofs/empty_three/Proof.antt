@@ -1,11 +1,11 @@
 use borrow.Author.Needs.{needs}
-use Rattle.records.proofs.empty_three.Statement.{statement}
-use Rattle.records.proofs.empty_three.Tie as tie
-use Rattle.records.proofs.empty_three.Reads as reads
-use Rattle.records.proofs.empty_three.Lts as lts
+use Rattle.labels.proofs.empty_three.Statement.{statement}
+use Rattle.labels.proofs.empty_three.Tie as tie
+use Rattle.labels.proofs.empty_three.Reads as reads
+use Rattle.labels.proofs.empty_three.Lts as lts
 use Rattle.records.proofs.blank.Reads as blank-reads
 use mathlib.Core.Path.{_∙_}
-use Rattle.records.proofs.Format3.{three-none}
+use Rattle.labels.proofs.Format3.{three-none}
 
 -- src/lib.rt:238:5
 blank-requires : tie.Need-blank-requires

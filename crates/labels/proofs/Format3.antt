@@ -11,12 +11,12 @@ use Rattle.rules.specs.Layout.{extentBytes, extentsBytes, fields3, format3, who
 use Rattle.rules.specs.Slots.{withExtents}
 use Rattle.rules.proofs.Bytes.{length-fill}
 use Rattle.rules.proofs.LabelBack.{lengths3, lens3}
 use Rattle.records.specs.Blank.{blank}
-use Rattle.records.specs.Labels.{Format3, added, firstExtents}
 use Rattle.records.specs.Put.{putAt}
 use Rattle.records.proofs.Extents.{extent-more, extents-first}
 use Rattle.records.proofs.Filling.{drop-snoc, drop-take, take-snoc, take-swap}
 use Rattle.records.proofs.Putting.{lengths-set, put-field}
+use Rattle.labels.specs.Labels.{Format3, added, firstExtents}
 
 -- NONE: no more than three extents
 pub three-none : (g : Geometry) (l : Label) → length (l .extents) ≤ 3 → Format3 g l (blank 4 0x03 0xF3)

@@ -1,12 +1,12 @@
 use borrow.Author.Needs.{needs}
-use Rattle.records.proofs.add_in_one.Statement.{statement}
-use Rattle.records.proofs.add_in_one.Tie as tie
-use Rattle.records.proofs.add_in_one.Reads as reads
-use Rattle.records.proofs.add_in_one.Lts as lts
+use Rattle.labels.proofs.add_extent1.Statement.{statement}
+use Rattle.labels.proofs.add_extent1.Tie as tie
+use Rattle.labels.proofs.add_extent1.Reads as reads
+use Rattle.labels.proofs.add_extent1.Lts as lts
 use Rattle.records.proofs.put_extent.Reads as put-extent-reads
 use Rattle.model.specs.Model.{extent, run}
 use Rattle.records.specs.Shape.{geometryOf}
-use Rattle.records.proofs.Format1.{more-in-one, more-past-one}
+use Rattle.labels.proofs.Format1.{more-in-one, more-past-one}
 
 -- src/lib.rt:247:14
 add-r : tie.Need-add-r
@@ -40,8 +40,8 @@ returns c = λ l k f. rw (c .put-extent .ensures) (more-in-one (geometryOf (c .b
 returns-2 : tie.Need-returns-2
 returns-2 c = λ l k f. more-past-one (geometryOf (c .before .args .g)) l (c .before .args .rec) f (extent (c .before .args .kind) (run (c .before .args .start) (c .before .args .count))) (c .before .args .n) k (c .if1 .left)
 
-pub add-in-one-spec : {M : Type 1} → statement M
-add-in-one-spec =
+pub add-extent1-spec : {M : Type 1} → statement M
+add-extent1-spec =
     tie.close
     (tie.spec
     add-r

@@ -12,13 +12,13 @@ use Rattle.rules.specs.Slots.{withExtents, withName, withSlots}
 use Rattle.rules.proofs.Bytes.{length-fill}
 use Rattle.rules.proofs.Fields.{Lengths, startOf}
 use Rattle.rules.proofs.LabelBack.{length-link, lengths1}
-use Rattle.records.specs.Labels.{Format1, added, firstExtents, newLabel, withTtr}
 use Rattle.records.specs.Put.{putAt}
 use Rattle.records.proofs.Extents.{extent-more, extents-first}
 use Rattle.records.proofs.Filling.{take-snoc, take-swap}
 use Rattle.records.proofs.Putting.{Built, built-next, lengths-set, put-field, set-field}
+use Rattle.labels.specs.Labels.{Format1, added, firstExtents, newLabel, withTtr}
 
-part-long : (i n : ℕ) (r : List ℕ) → i + n ≤ length r → length (part i n r) ≡ n
+pub part-long : (i n : ℕ) (r : List ℕ) → i + n ≤ length r → length (part i n r) ≡ n
 part-long i n r h = length-take n (drop i r) ∙ omega (arith, length-drop i r)
 
 lens : (g : Geometry) (l : Label) → length (l .name) ≡ 44 → length (l .attributes) ≡ 52 → Lengths lengths1 (fields1 g l)

@@ -1,11 +1,11 @@
 use borrow.Author.Needs.{needs}
-use Rattle.records.proofs.keep_in_three.Statement.{statement}
-use Rattle.records.proofs.keep_in_three.Tie as tie
-use Rattle.records.proofs.keep_in_three.Reads as reads
-use Rattle.records.proofs.keep_in_three.Lts as lts
+use Rattle.labels.proofs.keep_extents3.Statement.{statement}
+use Rattle.labels.proofs.keep_extents3.Tie as tie
+use Rattle.labels.proofs.keep_extents3.Reads as reads
+use Rattle.labels.proofs.keep_extents3.Lts as lts
 use Rattle.records.proofs.put_same.Reads as put-same-reads
 use mathlib.Core.Path.{_∙_}
-use Rattle.records.proofs.Format3.{first-in-three, first-past-three}
+use Rattle.labels.proofs.Format3.{first-in-three, first-past-three}
 
 -- src/lib.rt:284:41
 sub-put-same : tie.Need-sub-put-same
@@ -47,8 +47,8 @@ put-same-requires-3 c κs = search needs
 returns-2 : tie.Need-returns-2
 returns-2 c = λ g l f. c .put-same3 .ensures ∙ first-past-three g l (c .before .before .args .rec) f (c .before .before .args .n) (c .before .if1 .left) (c .before .before .pre .1)
 
-pub keep-in-three-spec : {M : Type 1} → statement M
-keep-in-three-spec =
+pub keep-extents3-spec : {M : Type 1} → statement M
+keep-extents3-spec =
     tie.close
     (tie.spec
     sub-put-same

@@ -1,10 +1,10 @@
 use borrow.Author.Needs.{needs}
-use Rattle.records.proofs.set_name.Statement.{statement}
-use Rattle.records.proofs.set_name.Tie as tie
-use Rattle.records.proofs.set_name.Reads as reads
-use Rattle.records.proofs.set_name.Lts as lts
+use Rattle.labels.proofs.set_name.Statement.{statement}
+use Rattle.labels.proofs.set_name.Tie as tie
+use Rattle.labels.proofs.set_name.Reads as reads
+use Rattle.labels.proofs.set_name.Lts as lts
 use Rattle.records.proofs.put_row.Reads as put-row-reads
-use Rattle.records.proofs.Format1.{named-again}
+use Rattle.labels.proofs.Format1.{named-again}
 
 -- src/lib.rt:303:5
 put-row-requires : tie.Need-put-row-requires
