@@ -65,7 +65,7 @@ loop-less c = search needs
 
 -- src/lib.rt:194:5
 loop-again : tie.Need-loop-again Inv-loop μ-loop
-loop-again c = (omega arith, rw (c .put-entry .ensures, c .before .entry-place .ensures .0) (filling-next (geometryOf (c .before .before .before .before .before .before .before .before .args .g)) (c .before .before .before .before .before .before .before .before .args .map .now) (c .before .before .before .before .before .before .before .before .args .n) (c .before .before .before .before .before .before .before .before .args .at) (c .before .before .before .before .before .loop .j) (c .before .before .before .before .before .loop .t) (c .before .before .before .next-run .result .from) (c .before .before .before .next-run .result .to) (c .before .before .before .before .before .loop .rec) (c .before .before .before .before .loop-test .taken) (c .before .before .before .before .before .loop .inv .1) (c .before .before .before .next-run .ensures) (c .before .before .if1 .left)))
+loop-again c = (omega arith, rw (c .put-entry .ensures, c .before .entry-place .ensures .0) (filling-next (geometryOf (c .before .before .before .before .before .before .before .before .args .g)) (c .before .before .before .before .before .before .before .before .args .map .now) (c .before .before .before .before .before .before .before .before .args .n) (c .before .before .before .before .before .before .before .before .args .at) (c .before .before .before .before .before .loop .j) (c .before .before .before .before .before .loop .t) (c .before .before .before .next-run .result .from) (c .before .before .before .next-run .result .to) (c .before .before .before .before .before .loop .rec) (omega arith) (c .before .before .before .before .before .loop .inv .1) (c .before .before .before .next-run .ensures) (c .before .before .if1 .left)))
 
 -- src/lib.rt:187:1
 returns-2 : tie.Need-returns-2 Inv-loop μ-loop
