@@ -1,0 +1,132 @@
+// Data sets in their records: the format 1 of a label, and its format 3 where there are more than three extents. Each
+// function takes the record of some label to that of another.
+use forms::Geometry;
+ghost use mathlib.Core.Path.{_≡_};
+ghost use Prim.Native.Nat.{ℕ, _+_, _≤_, _<_};
+ghost use lib.ListN.{length};
+ghost use Rattle.model.specs.Model.{Geometry, Label, extent, run, slots};
+ghost use Rattle.rules.specs.Slots.{withName, withSlots};
+ghost use Rattle.rules.proofs.Valid.{Limits};
+ghost use Rattle.forms.specs.Forms.{geometryOf};
+ghost use Rattle.labels.specs.Labels.{Format1, Format3, added, firstExtents, labelIn, newLabel, withTtr};
+
+// The format 1 of a label that has no extent yet.
+pub fn new_label(name: &[u8], attributes: &[u8], unit: u8, secondary: u32) -> [u8; 140]
+    requires { ⌜ (length (now name) ≡ 44) × (length (now attributes) ≡ 52) × (secondary < 16777216) ⌝ }
+    ensures { λ r. ⌜ ((g : Geometry) → Format1 g (newLabel (now (name .entry)) (now (attributes .entry)) unit secondary) r) ⌝ }
+{
+    let zeros = [0u8; 140];
+    let mut r = records::put_row(zeros, 0, name); // DS1DSNAM
+    r[44] = 0xF1; // DS1FMTID
+    r[94] = unit; // DS1SCALO
+    let scaled = records::put_three(r, 95, secondary);
+    let first = records::put_row(scaled, 45, &attributes[0..14]);
+    let second = records::put_row(first, 60, &attributes[14..48]);
+    records::put_row(second, 101, &attributes[48..52])
+}
+
+// The format 1 of the label that a record holds, with no extent and no format 3, whatever the record's identifier,
+// count, extents and pointer are: to be written whole, and compared.
+pub fn bare_label(s: &[u8]) -> [u8; 140]
+    requires { ⌜ length (now s) ≡ 140 ⌝ }
+    ensures { λ r. ⌜ ((g : Geometry) → Format1 g (labelIn (now (s .entry))) r) ⌝ }
+{
+    let mut r = records::record_of(s);
+    r[44] = 0xF1;
+    r[59] = 0;
+    records::put_same(r, 105, 140, 0)
+}
+
+// The format 3 of a label that has no more than three extents.
+pub fn empty_three() -> [u8; 140]
+    ensures { λ r. ⌜ ((g : Geometry) (l : Label) → length (l .extents) ≤ 3 → Format3 g l r) ⌝ }
+{
+    records::blank(4, 0x03, 0xF3)
+}
+
+// The format 1 of a label with n extents, with one more.
+pub fn add_extent1(
+    rec: [u8; 140],
+    g: Geometry,
+    n: usize,
+    kind: u8,
+    start: u32,
+    count: u32,
+) -> [u8; 140]
+    requires { ⌜ (n < 16) × (1 ≤ count) × (start + count ≤ 65535) × Limits (geometryOf g) ⌝ }
+    ensures { λ r. ⌜ ((l : Label) → length (l .extents) ≡ n → Format1 (geometryOf g) l rec → Format1 (geometryOf g) (added (extent kind (run start count)) l) r) ⌝ }
+{
+    let mut r = rec;
+    r[59] = (n + 1) as u8; // DS1NOEPV
+    if n < 3 {
+        return records::put_extent(r, 105 + 10 * n, g, n, kind, start, count); // DS1EXT1
+    }
+    r
+}
+
+// The format 3 of a label with n extents, three or more, with one more.
+pub fn add_extent3(
+    rec: [u8; 140],
+    g: Geometry,
+    n: usize,
+    kind: u8,
+    start: u32,
+    count: u32,
+) -> [u8; 140]
+    requires { ⌜ (3 ≤ n) × (n < 16) × (1 ≤ count) × (start + count ≤ 65535) × Limits (geometryOf g) ⌝ }
+    ensures { λ r. ⌜ ((l : Label) → length (l .extents) ≡ n → Format3 (geometryOf g) l rec → Format3 (geometryOf g) (added (extent kind (run start count)) l) r) ⌝ }
+{
+    if n < 7 {
+        return records::put_extent(rec, 4 + 10 * (n - 3), g, n, kind, start, count); // DS3EXTNT
+    }
+    records::put_extent(rec, 45 + 10 * (n - 7), g, n, kind, start, count) // DS3ADEXT
+}
+
+// The format 1 of a label, with its first n extents only.
+pub fn keep_extents1(rec: [u8; 140], n: usize) -> [u8; 140]
+    requires { ⌜ n ≤ 16 ⌝ }
+    ensures { λ r. ⌜ ((g : Geometry) (l : Label) → n ≤ length (l .extents) → Format1 g l rec → Format1 g (firstExtents n l) r) ⌝ }
+{
+    let mut r = rec;
+    r[59] = n as u8;
+    if n < 3 {
+        return records::put_same(r, 105 + 10 * n, 135, 0);
+    }
+    r
+}
+
+// The format 3 of a label, with its first n extents only, three or more.
+pub fn keep_extents3(rec: [u8; 140], n: usize) -> [u8; 140]
+    requires { ⌜ (3 ≤ n) × (n ≤ 16) ⌝ }
+    ensures { λ r. ⌜ ((g : Geometry) (l : Label) → Format3 g l rec → Format3 g (firstExtents n l) r) ⌝ }
+{
+    if n < 7 {
+        let r = records::put_same(rec, 4 + 10 * (n - 3), 44, 0);
+        return records::put_same(r, 45, 135, 0);
+    }
+    records::put_same(rec, 45 + 10 * (n - 7), 135, 0)
+}
+
+// A format 1 with another last block.
+pub fn set_ttr(rec: [u8; 140], ttr: u32) -> [u8; 140]
+    requires { ⌜ ttr < 16777216 ⌝ }
+    ensures { λ r. ⌜ ((g : Geometry) (l : Label) → Format1 g l rec → Format1 g (withTtr ttr l) r) ⌝ }
+{
+    records::put_three(rec, 98, ttr) // DS1LSTAR
+}
+
+// A format 1 with another name.
+pub fn set_name(rec: [u8; 140], name: &[u8]) -> [u8; 140]
+    requires { ⌜ length (now name) ≡ 44 ⌝ }
+    ensures { λ r. ⌜ ((g : Geometry) (l : Label) → Format1 g l rec → Format1 g (withName (now (name .entry)) l) r) ⌝ }
+{
+    records::put_row(rec, 0, name)
+}
+
+// A format 1 whose format 3 is in slot k, 0 for none.
+pub fn set_link3(rec: [u8; 140], g: Geometry, k: usize) -> [u8; 140]
+    requires { ⌜ (k < slots (geometryOf g)) × Limits (geometryOf g) ⌝ }
+    ensures { λ r. ⌜ ((l : Label) (slot : ℕ) → Format1 (geometryOf g) l rec → Format1 (geometryOf g) (withSlots slot k l) r) ⌝ }
+{
+    records::put_link(rec, 135, g, k) // DS1PTRDS
+}

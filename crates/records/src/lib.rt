@@ -1,0 +1,216 @@
+// Label records (DSCBs) built: bytes put at their places, and formats 4 and 5 whole. A record is an array by value, so that
+// its length is known. The formats of data sets are in the crate labels.
+use forms::Geometry;
+ghost use mathlib.Core.Path.{_≡_};
+ghost use mathlib.Core.List.{List};
+ghost use Prim.Native.Nat.{ℕ, _+_, _-_, _*_, _≤_, _<_};
+ghost use lib.ListN.{length, replicate};
+ghost use Rattle.model.specs.Basics.{be2, be3};
+ghost use Rattle.model.specs.Model.{Run, extent, run, slots};
+ghost use Rattle.rules.specs.Demand3.{entryPlace};
+ghost use Rattle.rules.specs.Layout.{cchh, entry, extentBytes, format4, format5, link};
+ghost use Rattle.rules.proofs.Valid.{Limits};
+ghost use Rattle.records.specs.Put.{putAt};
+ghost use Rattle.forms.specs.Forms.{geometryOf};
+ghost use Rattle.records.specs.Blank.{blank};
+ghost use Rattle.records.specs.Fives.{Fills};
+
+// ---- bytes at a place
+
+// Puts a number of two bytes.
+pub fn put_two(rec: [u8; 140], at: usize, v: u32) -> [u8; 140]
+    requires { ⌜ (at + 1 < 140) × (v < 65536) ⌝ }
+    ensures { λ r. ⌜ r ≡ putAt rec at (be2 v) ⌝ }
+{
+    let mut r = rec;
+    r[at] = (v / 256) as u8;
+    r[at + 1] = (v % 256) as u8;
+    r
+}
+
+// Puts a number of three bytes.
+pub fn put_three(rec: [u8; 140], at: usize, v: u32) -> [u8; 140]
+    requires { ⌜ (at + 2 < 140) × (v < 16777216) ⌝ }
+    ensures { λ r. ⌜ r ≡ putAt rec at (be3 v) ⌝ }
+{
+    let mut r = rec;
+    r[at] = (v / 65536) as u8;
+    r[at + 1] = (v / 256 % 256) as u8;
+    r[at + 2] = (v % 256) as u8;
+    r
+}
+
+// Puts the address CCHH of track t.
+pub fn put_track(rec: [u8; 140], at: usize, g: Geometry, t: u32) -> [u8; 140]
+    requires { ⌜ (at + 3 < 140) × (t < 65536) × Limits (geometryOf g) ⌝ }
+    ensures { λ r. ⌜ r ≡ putAt rec at (cchh (geometryOf g) t) ⌝ }
+{
+    let h = g.heads;
+    let r = put_two(rec, at, t / h);
+    put_two(r, at + 2, t % h)
+}
+
+// Puts the address CCHHR of slot k, or zeros for none, which is slot 0.
+pub fn put_link(rec: [u8; 140], at: usize, g: Geometry, k: usize) -> [u8; 140]
+    requires { ⌜ (at + 4 < 140) × (k < slots (geometryOf g)) × Limits (geometryOf g) ⌝ }
+    ensures { λ r. ⌜ r ≡ putAt rec at (link (geometryOf g) k) ⌝ }
+{
+    if k == 0 {
+        return put_same(rec, at, at + 5, 0);
+    }
+    let q = k as u32;
+    let d = g.records;
+    let t = g.start + q / d;
+    let mut r = put_track(rec, at, g, t);
+    r[at + 4] = (q % d + 1) as u8;
+    r
+}
+
+// Puts an extent: type, number, CCHH of the first track and of the last.
+pub fn put_extent(
+    rec: [u8; 140],
+    at: usize,
+    g: Geometry,
+    number: usize,
+    kind: u8,
+    start: u32,
+    count: u32,
+) -> [u8; 140]
+    requires { ⌜ (at + 9 < 140) × (number < 16) × (1 ≤ count) × (start + count ≤ 65535) × Limits (geometryOf g) ⌝ }
+    ensures { λ r. ⌜ r ≡ putAt rec at (extentBytes (geometryOf g) number (extent kind (run start count))) ⌝ }
+{
+    let mut r = rec;
+    r[at] = kind;
+    r[at + 1] = number as u8;
+    let first = put_track(r, at + 2, g, start);
+    put_track(first, at + 6, g, start + count - 1)
+}
+
+// Puts an entry of a format 5: start track, whole cylinders, odd tracks.
+pub fn put_entry(rec: [u8; 140], at: usize, g: Geometry, start: u32, count: u32) -> [u8; 140]
+    requires { ⌜ (at + 4 < 140) × (start + count ≤ 65535) × Limits (geometryOf g) ⌝ }
+    ensures { λ r. ⌜ r ≡ putAt rec at (entry (geometryOf g) (run start count)) ⌝ }
+{
+    let h = g.heads;
+    let begun = put_two(rec, at, start);
+    let mut r = put_two(begun, at + 2, count / h);
+    r[at + 4] = (count % h) as u8;
+    r
+}
+
+// ---- rows of bytes
+
+// Puts v from place a up to place e.
+pub fn put_same(rec: [u8; 140], a: usize, e: usize, v: u8) -> [u8; 140]
+    requires { ⌜ (a ≤ e) × (e ≤ 140) ⌝ }
+    ensures { λ r. ⌜ r ≡ putAt rec a (replicate (e - a) v) ⌝ }
+{
+    let mut r = rec;
+    let mut i = a;
+    while i < e {
+        r[i] = v;
+        i += 1;
+    }
+    r
+}
+
+// Puts the bytes of s.
+pub fn put_row(rec: [u8; 140], at: usize, s: &[u8]) -> [u8; 140]
+    requires { ⌜ at + length (now s) ≤ 140 ⌝ }
+    ensures { λ r. ⌜ r ≡ putAt rec at (now (s .entry)) ⌝ }
+{
+    let mut r = rec;
+    let mut i = 0;
+    while i < s.len() {
+        r[at + i] = s[i];
+        i += 1;
+    }
+    r
+}
+
+// A record as it stands in the table.
+pub fn record_of(s: &[u8]) -> [u8; 140]
+    requires { ⌜ length (now s) ≡ 140 ⌝ }
+    ensures { λ r. ⌜ r ≡ now (s .entry) ⌝ }
+{
+    let zeros = [0u8; 140];
+    put_row(zeros, 0, s)
+}
+
+// A record with nothing but its key, n bytes v, and its format's identifier.
+pub fn blank(n: usize, v: u8, id: u8) -> [u8; 140]
+    requires { ⌜ n ≤ 44 ⌝ }
+    ensures { λ r. ⌜ r ≡ blank n v id ⌝ }
+{
+    let zeros = [0u8; 140];
+    let mut r = put_same(zeros, 0, n, v);
+    r[44] = id;
+    r
+}
+
+// ---- format 4
+
+// The format 4, slot 0: the highest slot with a format 1, 0 for none, and the number of format 0s.
+pub fn four(g: Geometry, highest: usize, empty: usize) -> [u8; 140]
+    requires { ⌜ (highest < slots (geometryOf g)) × (empty < 65536) × Limits (geometryOf g) ⌝ }
+    ensures { λ r. ⌜ r ≡ format4 (geometryOf g) highest empty ⌝ }
+{
+    let key = blank(44, 0x04, 0xF4);
+    let linked = put_link(key, 45, g, highest); // DS4HPCHR
+    let mut counted = put_two(linked, 50, empty as u32); // DS4DSREC
+    counted[59] = 0x01; // DS4NOEXT
+    let sized = put_two(counted, 62, g.cylinders); // DS4DEVSZ
+    let mut headed = put_two(sized, 64, g.heads);
+    headed[74] = g.records as u8; // DS4DEVDT
+    put_extent(headed, 105, g, 0, 0x01, g.start, g.tracks) // DS4VTOCE
+}
+
+// ---- format 5
+
+// Where entry j stands: 8 from byte 4, 18 from byte 45.
+fn entry_place(j: usize) -> usize
+    requires { ⌜ j < 26 ⌝ }
+    ensures { λ r. ⌜ (r ≡ entryPlace j) × (r + 4 < 140) ⌝ }
+{
+    if j < 8 {
+        return 4 + 5 * j;
+    }
+    45 + 5 * (j - 8)
+}
+
+// A format 5, and the track from which the runs go on that it has no room for.
+pub struct Filled {
+    pub rec: [u8; 140],
+    pub next: usize,
+}
+
+// The format 5 for the first 26 runs of free tracks from track `at` on and below n, with no format 5 after it.
+pub fn five(map: &[u64], n: usize, at: usize, g: Geometry) -> Filled
+    requires { ⌜ (at ≤ n) × (n ≤ 64 * length (now map)) × (n ≤ 65535) × Limits (geometryOf g) ⌝ }
+    ensures { λ r. ⌜ Fills (geometryOf g) (now (map .entry)) n at (r .rec) (r .next) ⌝ }
+{
+    let mut rec = blank(4, 0x05, 0xF5);
+    let mut t = at;
+    let mut j: usize = 0;
+    while j < 26 {
+        let free = tracks::next_run(map, t, n);
+        let from = free.from;
+        let to = free.to;
+        if from >= n {
+            return Filled { rec, next: n };
+        }
+        let more = put_entry(rec, entry_place(j), g, from as u32, (to - from) as u32);
+        rec = more;
+        t = to;
+        j += 1;
+    }
+    Filled { rec, next: t }
+}
+
+// A format 5 with slot k as the next one, 0 for none.
+pub fn with_next(rec: [u8; 140], g: Geometry, k: usize) -> [u8; 140]
+    requires { ⌜ (k < slots (geometryOf g)) × Limits (geometryOf g) ⌝ }
+    ensures { λ r. ⌜ ((f : List Run) (old : ℕ) → rec ≡ format5 (geometryOf g) f old → r ≡ format5 (geometryOf g) f k) ⌝ }
+{
+    put_link(rec, 135, g, k) // DS5PTRDS
+}
