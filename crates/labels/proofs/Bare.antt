@@ -83,8 +83,8 @@ bare-is r l small g =
     let b = part 60 34 r in
     let c = part 101 4 r in
     record {
-      named = part-long 0 44 r (omega arith);
-      attributed = length-append (a ++ b) c ∙ omega (arith, length-append a b);
+      nameLength = part-long 0 44 r (omega arith);
+      attributesLength = length-append (a ++ b) c ∙ omega (arith, length-append a b);
       bytes =
           sym (put-then (set (set r 44 0xF1) 59 0) 105 (zeros 30) (zeros 5) 135 refl) ∙ b10 .bytes
           ∙ (λ k. whole (part 0 44 r ∷ (0xF1 ∷ []) ∷ sym (first-part a b c la lb lc) k ∷ (0 ∷ []) ∷ sym (second-part a b c la lb lc) k

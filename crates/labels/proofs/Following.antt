@@ -19,12 +19,12 @@ use Rattle.labels.specs.Labels.{Format1, added, firstExtents, labelIn}
 -- ---- records and labels
 
 pub good-is : (g : Geometry) (l : Label) (r : List ℕ) → GoodLabel g l → format1 g l ≡ r → Format1 g l r
-good-is g l r x e = record { named = x .nameLength; attributed = x .attributesLength; bytes = sym e }
+good-is g l r x e = record { nameLength = x .nameLength; attributesLength = x .attributesLength; bytes = sym e }
 
 -- the format 1 does not say its own slot, the format 3 says extents only
 pub any-slot : (g : Geometry) (l : Label) (r : List ℕ) (k : ℕ) → Format1 g l r → Format1 g (withSlots k (l .slot3) l) r
 unfolding format1
-any-slot g l r k f = record { named = f .named; attributed = f .attributed; bytes = f .bytes }
+any-slot g l r k f = record { nameLength = f .nameLength; attributesLength = f .attributesLength; bytes = f .bytes }
 
 pub same-extents : (g : Geometry) (l m : Label) → l .extents ≡ m .extents → format3 g l ≡ format3 g m
 unfolding format3

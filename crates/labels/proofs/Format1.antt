@@ -66,7 +66,7 @@ module _ (g : Geometry) (l : Label) (r : List ℕ) (is : Format1 g l r) where
   fs = fields1 g l
 
   ls : Lengths lengths1 fs
-  ls = lens g l (is .named) (is .attributed)
+  ls = lens g l (is .nameLength) (is .attributesLength)
 
   -- A FIELD of the record
   one-field : (k : ℕ) → k < 11 → (xs : List ℕ) → length xs ≡ getD lengths1 k 0 → putAt r (startOf k lengths1) xs ≡ whole (set fs k xs)
@@ -75,15 +75,15 @@ module _ (g : Geometry) (l : Label) (r : List ℕ) (is : Format1 g l r) where
 
   pub named-again : (n : List ℕ) → length n ≡ 44 → Format1 g (withName n l) (putAt r 0 n)
   unfolding format1
-  named-again n e = record { named = e; attributed = is .attributed; bytes = one-field 0 (omega arith) n e }
+  named-again n e = record { nameLength = e; attributesLength = is .attributesLength; bytes = one-field 0 (omega arith) n e }
 
   pub ttr-again : (t : ℕ) → Format1 g (withTtr t l) (putAt r 98 (be3 t))
   unfolding format1
-  ttr-again t = record { named = is .named; attributed = is .attributed; bytes = one-field 7 (omega arith) (be3 t) refl }
+  ttr-again t = record { nameLength = is .nameLength; attributesLength = is .attributesLength; bytes = one-field 7 (omega arith) (be3 t) refl }
 
   pub linked-again : (k s : ℕ) → Format1 g (withSlots s k l) (putAt r 135 (link g k))
   unfolding format1
-  linked-again k s = record { named = is .named; attributed = is .attributed; bytes = one-field 10 (omega arith) (link g k) (length-link g k) }
+  linked-again k s = record { nameLength = is .nameLength; attributesLength = is .attributesLength; bytes = one-field 10 (omega arith) (link g k) (length-link g k) }
 
   -- OTHER EXTENTS: the count, and bytes in the field of the first three
   one-extents : (es : List Extent) (o : ℕ) (xs : List ℕ) → o + length xs ≤ 30
@@ -93,8 +93,8 @@ module _ (g : Geometry) (l : Label) (r : List ℕ) (is : Format1 g l r) where
   one-extents es o xs h e i at =
       let c : List ℕ = length es ∷ [] in
       record {
-        named = is .named;
-        attributed = is .attributed;
+        nameLength = is .nameLength;
+        attributesLength = is .attributesLength;
         bytes =
             ap (λ (x : List ℕ). putAt x i xs) (one-field 3 (omega arith) c refl)
             ∙ put-field 9 lengths1 (set fs 3 c) (lengths-set 3 lengths1 fs c ls refl) (omega arith) o xs h i at
@@ -140,4 +140,4 @@ new-is name at unit secondary n a g =
     let f = built-next e 2 (omega arith) (part 0 14 at) (part-long 0 14 at (omega arith)) in
     let h = built-next f 4 (omega arith) (part 14 34 at) (part-long 14 34 at (omega arith)) in
     let i = built-next h 8 (omega arith) (part 48 4 at) (part-long 48 4 at (omega arith)) in
-    record { named = n; attributed = a; bytes = i .bytes }
+    record { nameLength = n; attributesLength = a; bytes = i .bytes }

@@ -7,12 +7,11 @@ use Rattle.model.specs.Basics.{get3, part}
 use Rattle.model.specs.Model.{Extent, Geometry, Label}
 use Rattle.rules.specs.Layout.{format1, format3}
 use Rattle.rules.specs.Slots.{withExtents}
-use Rattle.rules.specs.Table.{named}
 
 -- r is the format 1 of the label l
 pub record Format1 (g : Geometry) (l : Label) (r : List ℕ) : Type 0 where
-  pub named : length (l .name) ≡ 44
-  pub attributed : length (l .attributes) ≡ 52
+  pub nameLength : length (l .name) ≡ 44
+  pub attributesLength : length (l .attributes) ≡ 52
   pub bytes : r ≡ format1 g l
 
 -- r is its format 3

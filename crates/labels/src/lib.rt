@@ -1,6 +1,5 @@
 // Data sets in their records: the format 1 of a label, and its format 3 where there are more than three extents. Each
 // function takes the record of some label to that of another.
-use forms::Geometry;
 ghost use mathlib.Core.Path.{_≡_};
 ghost use Prim.Native.Nat.{ℕ, _+_, _≤_, _<_};
 ghost use lib.ListN.{length};
@@ -47,7 +46,7 @@ pub fn empty_three() -> [u8; 140]
 // The format 1 of a label with n extents, with one more.
 pub fn add_extent1(
     rec: [u8; 140],
-    g: Geometry,
+    g: forms::Geometry,
     n: usize,
     kind: u8,
     start: u32,
@@ -67,7 +66,7 @@ pub fn add_extent1(
 // The format 3 of a label with n extents, three or more, with one more.
 pub fn add_extent3(
     rec: [u8; 140],
-    g: Geometry,
+    g: forms::Geometry,
     n: usize,
     kind: u8,
     start: u32,
@@ -124,7 +123,7 @@ pub fn set_name(rec: [u8; 140], name: &[u8]) -> [u8; 140]
 }
 
 // A format 1 whose format 3 is in slot k, 0 for none.
-pub fn set_link3(rec: [u8; 140], g: Geometry, k: usize) -> [u8; 140]
+pub fn set_link3(rec: [u8; 140], g: forms::Geometry, k: usize) -> [u8; 140]
     requires { ⌜ (k < slots (geometryOf g)) × Limits (geometryOf g) ⌝ }
     ensures { λ r. ⌜ ((l : Label) (slot : ℕ) → Format1 (geometryOf g) l rec → Format1 (geometryOf g) (withSlots slot k l) r) ⌝ }
 {

@@ -1,4 +1,4 @@
--- The format 4, and the format 1 of a new label: the fields put one after the other. Assumes nothing.
+-- The format 4: its fields put one after the other. Assumes nothing.
 use Prim.Native.Nat.{ℕ, zero, suc}
 use mathlib.Core.Path.{_≡_, refl}
 use lib.ListN.{set}

@@ -8,7 +8,7 @@ use lib.ListN.{length, drop, set, take, length-drop, drop-of-length-le}
 use borrow.Author.Tests.{ltb-true, ltb-false}
 use lib.Dec.{ltb}
 use native.Mathlib.Nat.{le-refl}
-use Rattle.model.specs.Basics.{fill, flat, within}
+use Rattle.model.specs.Basics.{fill, flat}
 use Rattle.model.specs.Model.{Geometry, Run, run}
 use Rattle.model.proofs.Lists.{by}
 use Rattle.rules.specs.Demand3.{entryPlace}
@@ -87,7 +87,7 @@ next-of (y ∷ F) (suc j) x rest e =
 
 -- j entries are in the record, and the runs from track t on are left
 pub record Filling (g : Geometry) (m : List ℕ) (n at j t : ℕ) (r : List ℕ) : Type 0 where
-  pub within : t ≤ n
+  pub upTo : t ≤ n
   pub left : freeFrom m n t ≡ drop j (freeFrom m n at)
   pub bytes : r ≡ format5 g (take j (freeFrom m n at)) 0
 
@@ -96,14 +96,14 @@ module _ (g : Geometry) (m : List ℕ) (n at : ℕ) where
   F = freeFrom m n at
 
   pub filling-none : at ≤ n → (r : List ℕ) → r ≡ blank 4 0x05 0xF5 → Filling g m n at 0 at r
-  filling-none h r e = record { within = h; left = refl; bytes = e ∙ five-none g }
+  filling-none h r e = record { upTo = h; left = refl; bytes = e ∙ five-none g }
 
   pub filling-next : (j t a b : ℕ) (r : List ℕ) → j < 26 → Filling g m n at j t r → NextRun m n t a b → a < n
       → Filling g m n at (j + 1) b (putAt r (entryPlace j) (entry g (run a (b - a))))
   filling-next j t a b r h f x u =
       let s = next-of F j (run a (b - a)) (freeFrom m n b) (sym (f .left) ∙ x .more u .1) in
       record {
-        within = x .high;
+        upTo = x .high;
         left = sym (s .2);
         bytes = five-more g (take j F) (run a (b - a)) 0 r (f .bytes) j (s .0) h ∙ ap (λ (l : List Run). format5 g l 0) (sym (s .1));
       }
@@ -116,7 +116,7 @@ module _ (g : Geometry) (m : List ℕ) (n at : ℕ) where
       record {
         bytes = f .bytes ∙ ap (λ (y : List Run). format5 g y 0) (take-all j F l ∙ sym (take-all 26 F (omega arith)));
         rest = free-from-end m n ∙ sym (drop-of-length-le F {i = 26} (omega arith));
-        within = le-refl n;
+        upTo = le-refl n;
       }
 
   pub filling-full : (j t : ℕ) (r : List ℕ) → j ≡ 26 → Filling g m n at j t r → Fills g m n at r t
@@ -124,5 +124,5 @@ module _ (g : Geometry) (m : List ℕ) (n at : ℕ) where
       record {
         bytes = f .bytes ∙ ap (λ (k : ℕ). format5 g (take k F) 0) e;
         rest = f .left ∙ ap (λ (k : ℕ). drop k F) e;
-        within = f .within;
+        upTo = f .upTo;
       }

@@ -1,8 +1,12 @@
--- Numbers of a geometry within its limits: they fit their bytes. Assumes nothing.
+-- Numbers of a geometry within its limits fit their bytes; addresses of slots. Assumes nothing.
 use native.Mathlib.Nat.{div-lt-iff-lt-mul, mod-lt, le-refl, mul-le-mul}
-use Prim.Native.Nat.{ℕ, _+_, _/_, _%_, _<_, _*_, _≤_}
+use Prim.Native.Nat.{ℕ, _+_, _/_, _%_, _<_, _*_, _≤_, zero, suc, _-_}
 use native.Mathlib.Omega.{arith}
+use mathlib.Core.Path.{_≡_, refl}
+use mathlib.Core.List.{[], _∷_, _++_}
+use lib.ListN.{replicate}
 use Rattle.model.specs.Model.{Geometry, slots}
+use Rattle.rules.specs.Layout.{cchh, link}
 use Rattle.rules.proofs.Valid.{Limits}
 
 -- the track of a slot
@@ -28,3 +32,11 @@ cylinders-small g x =
     let p : g .cylinders * 1 ≤ g .cylinders * g .heads = mul-le-mul (le-refl (g .cylinders)) (x .heads) in
     let m = x .tracksMost in
     omega arith
+
+-- the address of a slot, or of none
+pub link-none : (g : Geometry) (k : ℕ) → k ≡ 0 → (i : ℕ) → replicate (i + 5 - i) 0 ≡ link g k
+link-none g k e i = let n : i + 5 - i ≡ 5 = omega arith in rw (e, n)
+
+pub link-some : (g : Geometry) (k : ℕ) → (k ≡ 0 → ⊥) → cchh g (g .vtocStart + k / g .records) ++ (k % g .records + 1) ∷ [] ≡ link g k
+link-some g zero h = absurd (h refl)
+link-some g (suc k) h = refl

@@ -1,13 +1,12 @@
 -- Bytes put into a record: one part after the other, and into one field of several. Assumes nothing.
-use Prim.Native.Nat.{ℕ, zero, suc, _+_, _≤_, _<_, _-_, _/_, _%_}
+use Prim.Native.Nat.{ℕ, zero, suc, _+_, _≤_, _<_, _-_}
 use mathlib.Core.Path.{_≡_, _∙_, refl, sym, ap}
 use mathlib.Core.List.{List, [], _∷_, _++_}
 use native.Mathlib.Omega.{arith}
 use lib.ListN.{getD, length-set, length, set, length-take, replicate, take, length-replicate, replicate-append-replicate, length-append}
 use lib.Seq.{set-append-left, take-suc}
 use native.Mathlib.Numerals.{add-one}
-use Rattle.model.specs.Model.{Geometry}
-use Rattle.rules.specs.Layout.{cchh, link, whole}
+use Rattle.rules.specs.Layout.{whole}
 use Rattle.rules.proofs.Fields.{Lengths, field, startOf}
 use Rattle.records.specs.Put.{putAt}
 
@@ -17,11 +16,6 @@ pub put-then : (r : List ℕ) (i : ℕ) (xs ys : List ℕ) (j : ℕ) → j ≡ i
 unfolding putAt
 put-then r i [] ys j e = let f : j ≡ i = omega arith in ap (λ (k : ℕ). putAt r k ys) f
 put-then r i (x ∷ xs) ys j e = put-then (set r i x) (i + 1) xs ys j (omega arith)
-
-pub length-put : (r : List ℕ) (i : ℕ) (xs : List ℕ) → length (putAt r i xs) ≡ length r
-unfolding putAt
-length-put r i [] = refl
-length-put r i (x ∷ xs) = length-put (set r i x) (i + 1) xs ∙ length-set r i x
 
 -- one byte more
 pub put-next : (r : List ℕ) (i : ℕ) (xs : List ℕ) (j x : ℕ) → j ≡ i + length xs → set (putAt r i xs) j x ≡ putAt r i (xs ++ x ∷ [])
@@ -61,14 +55,6 @@ pub row-more : (r : List ℕ) (at : ℕ) (s : List ℕ) (i : ℕ) → i < length
 row-more r at s i h =
     let n = length-take i s in
     put-next r at (take i s) (at + i) (getD s i 0) (omega arith) ∙ ap (putAt r at) (sym (take-suc s i 0 h) ∙ ap (λ (k : ℕ). take k s) (sym (add-one i)))
-
--- the address of a slot, or of none
-pub link-none : (g : Geometry) (k : ℕ) → k ≡ 0 → (i : ℕ) → replicate (i + 5 - i) 0 ≡ link g k
-link-none g k e i = let n : i + 5 - i ≡ 5 = omega arith in rw (e, n)
-
-pub link-some : (g : Geometry) (k : ℕ) → (k ≡ 0 → ⊥) → cchh g (g .vtocStart + k / g .records) ++ (k % g .records + 1) ∷ [] ≡ link g k
-link-some g zero h = absurd (h refl)
-link-some g (suc k) h = refl
 
 -- ---- into one of two lists
 

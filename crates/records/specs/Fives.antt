@@ -3,7 +3,6 @@ use Prim.Native.Nat.{ℕ, _≤_}
 use mathlib.Core.Path.{_≡_}
 use mathlib.Core.List.{List}
 use lib.ListN.{take, drop}
-use Rattle.model.specs.Basics.{within}
 use Rattle.model.specs.Model.{Geometry}
 use Rattle.rules.specs.Layout.{format5}
 use Rattle.tracks.specs.Map.{freeFrom}
@@ -12,4 +11,4 @@ use Rattle.tracks.specs.Map.{freeFrom}
 pub record Fills (g : Geometry) (m : List ℕ) (n at : ℕ) (r : List ℕ) (next : ℕ) : Type 0 where
   pub bytes : r ≡ format5 g (take 26 (freeFrom m n at)) 0
   pub rest : freeFrom m n next ≡ drop 26 (freeFrom m n at)
-  pub within : next ≤ n
+  pub upTo : next ≤ n

@@ -1,42 +1,31 @@
 use borrow.Author.Needs.{needs}
 use Rattle.labels.proofs.add_extent1.Statement.{statement}
 use Rattle.labels.proofs.add_extent1.Tie as tie
-use Rattle.labels.proofs.add_extent1.Reads as reads
-use Rattle.labels.proofs.add_extent1.Lts as lts
-use Rattle.records.proofs.put_extent.Reads as put-extent-reads
 use Rattle.model.specs.Model.{extent, run}
 use Rattle.forms.specs.Forms.{geometryOf}
 use Rattle.labels.proofs.Format1.{more-in-one, more-past-one}
 
--- src/lib.rt:247:14
 add-r : tie.Need-add-r
 add-r c = search needs
 
--- src/lib.rt:247:13
 cast-r : tie.Need-cast-r
 cast-r c = search needs
 
--- src/lib.rt:247:5
 array-write-r : tie.Need-array-write-r
 array-write-r c = search needs
 
--- src/lib.rt:249:36
 mul-put-extent : tie.Need-mul-put-extent
 mul-put-extent c = search needs
 
--- src/lib.rt:249:30
 add-put-extent : tie.Need-add-put-extent
 add-put-extent c = search needs
 
--- src/lib.rt:249:9
 put-extent-requires : tie.Need-put-extent-requires
 put-extent-requires c κs = search needs
 
--- src/lib.rt:249:9
 returns : tie.Need-returns
 returns c = λ l k f. rw (c .put-extent .ensures) (more-in-one (geometryOf (c .before .before .args .g)) l (c .before .before .args .rec) f (extent (c .before .before .args .kind) (run (c .before .before .args .start) (c .before .before .args .count))) (c .before .before .args .n) k (c .before .if1 .taken))
 
--- src/lib.rt:242:1
 returns-2 : tie.Need-returns-2
 returns-2 c = λ l k f. more-past-one (geometryOf (c .before .args .g)) l (c .before .args .rec) f (extent (c .before .args .kind) (run (c .before .args .start) (c .before .args .count))) (c .before .args .n) k (c .if1 .left)
 

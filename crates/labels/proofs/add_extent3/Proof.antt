@@ -1,47 +1,35 @@
 use borrow.Author.Needs.{needs}
 use Rattle.labels.proofs.add_extent3.Statement.{statement}
 use Rattle.labels.proofs.add_extent3.Tie as tie
-use Rattle.labels.proofs.add_extent3.Reads as reads
-use Rattle.labels.proofs.add_extent3.Lts as lts
-use Rattle.records.proofs.put_extent.Reads as put-extent-reads
 use mathlib.Core.Path.{_∙_}
 use Rattle.model.specs.Model.{extent, run}
 use Rattle.forms.specs.Forms.{geometryOf}
 use Rattle.labels.proofs.Format3.{more-in-three, more-past-three}
 
--- src/lib.rt:260:42
 sub-put-extent : tie.Need-sub-put-extent
 sub-put-extent c = search needs
 
--- src/lib.rt:260:36
 mul-put-extent : tie.Need-mul-put-extent
 mul-put-extent c = search needs
 
--- src/lib.rt:260:32
 add-put-extent : tie.Need-add-put-extent
 add-put-extent c = search needs
 
--- src/lib.rt:260:9
 put-extent-requires : tie.Need-put-extent-requires
 put-extent-requires c κs = search needs
 
--- src/lib.rt:260:9
 returns : tie.Need-returns
 returns c = λ l k f. c .put-extent .ensures ∙ more-in-three (geometryOf (c .before .before .args .g)) l (c .before .before .args .rec) f (extent (c .before .before .args .kind) (run (c .before .before .args .start) (c .before .before .args .count))) (c .before .before .args .n) k (c .before .before .pre .0) (c .before .if1 .taken)
 
--- src/lib.rt:262:26
 mul-put-extent-2 : tie.Need-mul-put-extent-2
 mul-put-extent-2 c = search needs
 
--- src/lib.rt:262:21
 add-put-extent-2 : tie.Need-add-put-extent-2
 add-put-extent-2 c = search needs
 
--- src/lib.rt:262:5
 put-extent-requires-2 : tie.Need-put-extent-requires-2
 put-extent-requires-2 c κs = search needs
 
--- src/lib.rt:255:1
 returns-2 : tie.Need-returns-2
 returns-2 c = λ l k f. c .put-extent2 .ensures ∙ more-past-three (geometryOf (c .before .before .args .g)) l (c .before .before .args .rec) f (extent (c .before .before .args .kind) (run (c .before .before .args .start) (c .before .before .args .count))) (c .before .before .args .n) k (c .before .if1 .left) (c .before .before .pre .1)
 

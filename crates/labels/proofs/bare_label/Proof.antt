@@ -1,29 +1,20 @@
 use borrow.Author.Needs.{needs}
 use Rattle.labels.proofs.bare_label.Statement.{statement}
 use Rattle.labels.proofs.bare_label.Tie as tie
-use Rattle.labels.proofs.bare_label.Reads as reads
-use Rattle.labels.proofs.bare_label.Lts as lts
-use Rattle.records.proofs.put_same.Reads as put-same-reads
-use Rattle.records.proofs.record_of.Reads as record-of-reads
 use Rattle.labels.proofs.Bare.{bare-is}
 
--- src/lib.rt:249:17
 record-of-requires : tie.Need-record-of-requires
 record-of-requires c κs = search needs
 
--- src/lib.rt:250:5
 array-write-r : tie.Need-array-write-r
 array-write-r c = search needs
 
--- src/lib.rt:251:5
 array-write-r-2 : tie.Need-array-write-r-2
 array-write-r-2 c = search needs
 
--- src/lib.rt:252:5
 put-same-requires : tie.Need-put-same-requires
 put-same-requires c κs = search needs
 
--- src/lib.rt:245:1
 returns : tie.Need-returns
 returns c = λ g. rw (c .put-same .ensures, c .before .record-of .ensures) (bare-is (c .before .before .before .args .s .now) (c .before .before .before .pre) (λ j. c .before .before .shared-slice-known .given j .fits) g)
 

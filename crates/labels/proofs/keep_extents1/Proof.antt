@@ -1,36 +1,26 @@
 use borrow.Author.Needs.{needs}
 use Rattle.labels.proofs.keep_extents1.Statement.{statement}
 use Rattle.labels.proofs.keep_extents1.Tie as tie
-use Rattle.labels.proofs.keep_extents1.Reads as reads
-use Rattle.labels.proofs.keep_extents1.Lts as lts
-use Rattle.records.proofs.put_same.Reads as put-same-reads
 use Rattle.labels.proofs.Format1.{first-in-one, first-past-one}
 
--- src/lib.rt:271:13
 cast-r : tie.Need-cast-r
 cast-r c = search needs
 
--- src/lib.rt:271:5
 array-write-r : tie.Need-array-write-r
 array-write-r c = search needs
 
--- src/lib.rt:273:34
 mul-put-same : tie.Need-mul-put-same
 mul-put-same c = search needs
 
--- src/lib.rt:273:28
 add-put-same : tie.Need-add-put-same
 add-put-same c = search needs
 
--- src/lib.rt:273:9
 put-same-requires : tie.Need-put-same-requires
 put-same-requires c κs = search needs
 
--- src/lib.rt:273:9
 returns : tie.Need-returns
 returns c = λ g l k f. rw (c .put-same .ensures) (first-in-one g l (c .before .before .args .rec) f (c .before .before .args .n) k (c .before .if1 .taken))
 
--- src/lib.rt:266:1
 returns-2 : tie.Need-returns-2
 returns-2 c = λ g l k f. first-past-one g l (c .before .args .rec) f (c .before .args .n) k (c .if1 .left)
 

@@ -1,49 +1,36 @@
 use borrow.Author.Needs.{needs}
 use Rattle.labels.proofs.keep_extents3.Statement.{statement}
 use Rattle.labels.proofs.keep_extents3.Tie as tie
-use Rattle.labels.proofs.keep_extents3.Reads as reads
-use Rattle.labels.proofs.keep_extents3.Lts as lts
-use Rattle.records.proofs.put_same.Reads as put-same-reads
 use mathlib.Core.Path.{_∙_}
 use Rattle.labels.proofs.Format3.{first-in-three, first-past-three}
 
--- src/lib.rt:284:41
 sub-put-same : tie.Need-sub-put-same
 sub-put-same c = search needs
 
--- src/lib.rt:284:35
 mul-put-same : tie.Need-mul-put-same
 mul-put-same c = search needs
 
--- src/lib.rt:284:31
 add-put-same : tie.Need-add-put-same
 add-put-same c = search needs
 
--- src/lib.rt:284:13
 put-same-requires : tie.Need-put-same-requires
 put-same-requires c κs = search needs
 
--- src/lib.rt:285:9
 put-same-requires-2 : tie.Need-put-same-requires-2
 put-same-requires-2 c κs = search needs
 
--- src/lib.rt:285:9
 returns : tie.Need-returns
 returns c = λ g l f. rw (c .put-same2 .ensures, c .before .put-same .ensures) (first-in-three g l (c .before .before .before .args .rec) f (c .before .before .before .args .n) (c .before .before .before .pre .0) (c .before .before .if1 .taken))
 
--- src/lib.rt:287:24
 mul-put-same-2 : tie.Need-mul-put-same-2
 mul-put-same-2 c = search needs
 
--- src/lib.rt:287:19
 add-put-same-2 : tie.Need-add-put-same-2
 add-put-same-2 c = search needs
 
--- src/lib.rt:287:5
 put-same-requires-3 : tie.Need-put-same-requires-3
 put-same-requires-3 c κs = search needs
 
--- src/lib.rt:279:1
 returns-2 : tie.Need-returns-2
 returns-2 c = λ g l f. c .put-same3 .ensures ∙ first-past-three g l (c .before .before .args .rec) f (c .before .before .args .n) (c .before .if1 .left) (c .before .before .pre .1)
 

@@ -1,77 +1,56 @@
 use borrow.Author.Needs.{needs}
 use Rattle.labels.proofs.new_label.Statement.{statement}
 use Rattle.labels.proofs.new_label.Tie as tie
-use Rattle.labels.proofs.new_label.Reads as reads
-use Rattle.labels.proofs.new_label.Lts as lts
-use Rattle.records.proofs.put_row.Reads as put-row-reads
-use Rattle.records.proofs.put_three.Reads as put-three-reads
 use Rattle.labels.proofs.Format1.{new-is}
 
--- src/lib.rt:225:17
 put-row-requires : tie.Need-put-row-requires
 put-row-requires c κs = search needs
 
--- src/lib.rt:226:5
 array-write-r : tie.Need-array-write-r
 array-write-r c = search needs
 
--- src/lib.rt:227:5
 array-write-r-2 : tie.Need-array-write-r-2
 array-write-r-2 c = search needs
 
--- src/lib.rt:228:9
 put-three-requires : tie.Need-put-three-requires
 put-three-requires c κs = search needs
 
--- src/lib.rt:229:37
 sub-put-row : tie.Need-sub-put-row
 sub-put-row c = search needs
 
--- src/lib.rt:229:37
 part-put-row-start : tie.Need-part-put-row-start
 part-put-row-start c = search needs
 
--- src/lib.rt:229:37
 part-put-row-end : tie.Need-part-put-row-end
 part-put-row-end c = search needs
 
--- src/lib.rt:229:9
 put-row-requires-2 : tie.Need-put-row-requires-2
 put-row-requires-2 c κs = search needs
 
--- src/lib.rt:230:37
 sub-put-row-2 : tie.Need-sub-put-row-2
 sub-put-row-2 c = search needs
 
--- src/lib.rt:230:37
 part-put-row-start-2 : tie.Need-part-put-row-start-2
 part-put-row-start-2 c = search needs
 
--- src/lib.rt:230:37
 part-put-row-end-2 : tie.Need-part-put-row-end-2
 part-put-row-end-2 c = search needs
 
--- src/lib.rt:230:9
 put-row-requires-3 : tie.Need-put-row-requires-3
 put-row-requires-3 c κs = search needs
 
--- src/lib.rt:231:26
 sub-put-row-3 : tie.Need-sub-put-row-3
 sub-put-row-3 c = search needs
 
--- src/lib.rt:231:26
 part-put-row-start-3 : tie.Need-part-put-row-start-3
 part-put-row-start-3 c = search needs
 
--- src/lib.rt:231:26
 part-put-row-end-3 : tie.Need-part-put-row-end-3
 part-put-row-end-3 c = search needs
 
--- src/lib.rt:231:5
 put-row-requires-4 : tie.Need-put-row-requires-4
 put-row-requires-4 c κs = search needs
 
--- src/lib.rt:220:1
 returns : tie.Need-returns
 returns c = λ g. rw (c .put-row4 .ensures, c .before .before .put-row3 .ensures, c .before .before .before .before .put-row2 .ensures, c .before .before .before .before .before .before .put-three .ensures, c .before .before .before .before .before .before .before .put-row .ensures) (new-is (c .before .before .before .before .before .before .before .before .before .before .args .name .now) (c .before .before .before .before .before .before .before .before .before .before .args .attributes .now) (c .before .before .before .before .before .before .before .before .before .before .args .unit) (c .before .before .before .before .before .before .before .before .before .before .args .secondary) (c .before .before .before .before .before .before .before .before .before .before .pre .0) (c .before .before .before .before .before .before .before .before .before .before .pre .1) g)
 

@@ -1,17 +1,12 @@
 use borrow.Author.Needs.{needs}
 use Rattle.labels.proofs.set_link3.Statement.{statement}
 use Rattle.labels.proofs.set_link3.Tie as tie
-use Rattle.labels.proofs.set_link3.Reads as reads
-use Rattle.labels.proofs.set_link3.Lts as lts
-use Rattle.records.proofs.put_link.Reads as put-link-reads
 use Rattle.forms.specs.Forms.{geometryOf}
 use Rattle.labels.proofs.Format1.{linked-again}
 
--- src/lib.rt:311:5
 put-link-requires : tie.Need-put-link-requires
 put-link-requires c κs = search needs
 
--- src/lib.rt:307:1
 returns : tie.Need-returns
 returns c = λ l slot f. rw (c .put-link .ensures) (linked-again (geometryOf (c .before .args .g)) l (c .before .args .rec) f (c .before .args .k) slot)
 

@@ -1,16 +1,11 @@
 use borrow.Author.Needs.{needs}
 use Rattle.labels.proofs.set_name.Statement.{statement}
 use Rattle.labels.proofs.set_name.Tie as tie
-use Rattle.labels.proofs.set_name.Reads as reads
-use Rattle.labels.proofs.set_name.Lts as lts
-use Rattle.records.proofs.put_row.Reads as put-row-reads
 use Rattle.labels.proofs.Format1.{named-again}
 
--- src/lib.rt:303:5
 put-row-requires : tie.Need-put-row-requires
 put-row-requires c κs = search needs
 
--- src/lib.rt:299:1
 returns : tie.Need-returns
 returns c = λ g l f. rw (c .put-row .ensures) (named-again g l (c .before .before .args .rec) f (c .before .before .args .name .now) (c .before .before .pre))
 

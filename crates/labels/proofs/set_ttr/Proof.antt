@@ -1,16 +1,11 @@
 use borrow.Author.Needs.{needs}
 use Rattle.labels.proofs.set_ttr.Statement.{statement}
 use Rattle.labels.proofs.set_ttr.Tie as tie
-use Rattle.labels.proofs.set_ttr.Reads as reads
-use Rattle.labels.proofs.set_ttr.Lts as lts
-use Rattle.records.proofs.put_three.Reads as put-three-reads
 use Rattle.labels.proofs.Format1.{ttr-again}
 
--- src/lib.rt:295:5
 put-three-requires : tie.Need-put-three-requires
 put-three-requires c κs = search needs
 
--- src/lib.rt:291:1
 returns : tie.Need-returns
 returns c = λ g l f. rw (c .put-three .ensures) (ttr-again g l (c .before .args .rec) f (c .before .args .ttr))
 

@@ -3,22 +3,16 @@ use native.Mathlib.Omega.{arith}
 use borrow.Author.Needs.{needs}
 use Rattle.records.proofs.blank.Statement.{statement}
 use Rattle.records.proofs.blank.Tie as tie
-use Rattle.records.proofs.blank.Reads as reads
-use Rattle.records.proofs.blank.Lts as lts
-use Rattle.records.proofs.put_same.Reads as put-same-reads
 use mathlib.Core.Path.{_≡_}
 use Rattle.records.specs.Blank.{blank}
 use Rattle.records.specs.Put.{putAt}
 
--- src/lib.rt:145:17
 put-same-requires : tie.Need-put-same-requires
 put-same-requires c κs = search needs
 
--- src/lib.rt:146:5
 array-write-r : tie.Need-array-write-r
 array-write-r c = search needs
 
--- src/lib.rt:140:1
 returns : tie.Need-returns
 unfolding blank putAt
 returns c = let e : c .before .args .n - 0 ≡ c .before .args .n = omega arith in rw (c .put-same .ensures, e)

@@ -3,30 +3,22 @@ use borrow.Author.Tests.{lt-ltb, le-ltb}
 use borrow.Author.Needs.{needs}
 use Rattle.records.proofs.entry_place.Statement.{statement}
 use Rattle.records.proofs.entry_place.Tie as tie
-use Rattle.records.proofs.entry_place.Reads as reads
-use Rattle.records.proofs.entry_place.Lts as lts
 
--- src/lib.rt:175:20
 mul-result : tie.Need-mul-result
 mul-result c = search needs
 
--- src/lib.rt:175:16
 add-result : tie.Need-add-result
 add-result c = search needs
 
--- src/lib.rt:175:9
 returns : tie.Need-returns
 returns c = (rw (lt-ltb _ _ (c .if1 .taken)), omega arith)
 
--- src/lib.rt:177:10
 mul-result-2 : tie.Need-mul-result-2
 mul-result-2 c = search needs
 
--- src/lib.rt:177:5
 add-result-2 : tie.Need-add-result-2
 add-result-2 c = search needs
 
--- src/lib.rt:170:1
 returns-2 : tie.Need-returns-2
 returns-2 c = (rw (le-ltb _ _ (c .if1 .left)), omega arith)
 

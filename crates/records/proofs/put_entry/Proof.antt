@@ -2,9 +2,6 @@ use native.Mathlib.Nat.{div-le-self}
 use borrow.Author.Needs.{needs}
 use Rattle.records.proofs.put_entry.Statement.{statement}
 use Rattle.records.proofs.put_entry.Tie as tie
-use Rattle.records.proofs.put_entry.Reads as reads
-use Rattle.records.proofs.put_entry.Lts as lts
-use Rattle.records.proofs.put_two.Reads as put-two-reads
 use Prim.Native.Nat.{_/_, _%_}
 use native.Mathlib.Omega.{arith}
 use mathlib.Core.Path.{refl}
@@ -13,39 +10,30 @@ use Rattle.forms.specs.Forms.{geometryOf}
 use Rattle.records.proofs.Numbers.{head-small}
 use Rattle.records.proofs.Putting.{put-parts}
 
--- src/lib.rt:79:9
 put-two-requires : tie.Need-put-two-requires
 put-two-requires c κs = search needs
 
--- src/lib.rt:80:32
 add-put-two : tie.Need-add-put-two
 add-put-two c = search needs
 
--- src/lib.rt:80:40
 div-put-two : tie.Need-div-put-two
 div-put-two c = search needs
 
--- src/lib.rt:80:17
 put-two-requires-2 : tie.Need-put-two-requires-2
 put-two-requires-2 c κs = (omega arith, omega (arith, div-le-self (c .before .args .count) (c .before .args .g .heads)))
 
--- src/lib.rt:81:18
 rem-r : tie.Need-rem-r
 rem-r c = search needs
 
--- src/lib.rt:81:17
 cast-r : tie.Need-cast-r
 cast-r c = omega (arith, head-small (geometryOf (c .before .before .args .g)) (c .before .before .pre .2) (c .before .before .args .count))
 
--- src/lib.rt:81:7
 add-r : tie.Need-add-r
 add-r c = search needs
 
--- src/lib.rt:81:5
 array-write-r : tie.Need-array-write-r
 array-write-r c = search needs
 
--- src/lib.rt:74:1
 returns : tie.Need-returns
 returns c = rw (c .put-two2 .ensures, c .before .put-two .ensures) (put-parts (c .before .before .args .rec) (c .before .before .args .at) (be2 (c .before .before .args .start)) (be2 (c .before .before .args .count / c .before .before .args .g .heads)) (c .before .before .args .count % c .before .before .args .g .heads) refl refl)
 

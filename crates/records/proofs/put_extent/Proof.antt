@@ -1,9 +1,6 @@
 use borrow.Author.Needs.{needs}
 use Rattle.records.proofs.put_extent.Statement.{statement}
 use Rattle.records.proofs.put_extent.Tie as tie
-use Rattle.records.proofs.put_extent.Reads as reads
-use Rattle.records.proofs.put_extent.Lts as lts
-use Rattle.records.proofs.put_track.Reads as put-track-reads
 use Prim.Native.Nat.{ℕ, _+_, _-_}
 use mathlib.Core.Path.{_∙_, ap, refl}
 use mathlib.Core.List.{List}
@@ -12,47 +9,36 @@ use Rattle.records.specs.Put.{putAt}
 use Rattle.forms.specs.Forms.{geometryOf}
 use Rattle.records.proofs.Putting.{put-behind}
 
--- src/lib.rt:67:5
 array-write-r : tie.Need-array-write-r
 array-write-r c = search needs
 
--- src/lib.rt:68:17
 cast-r : tie.Need-cast-r
 cast-r c = search needs
 
--- src/lib.rt:68:7
 add-r : tie.Need-add-r
 add-r c = search needs
 
--- src/lib.rt:68:5
 array-write-r-2 : tie.Need-array-write-r-2
 array-write-r-2 c = search needs
 
--- src/lib.rt:69:30
 add-put-track : tie.Need-add-put-track
 add-put-track c = search needs
 
--- src/lib.rt:69:9
 put-track-requires : tie.Need-put-track-requires
 put-track-requires c κs = search needs
 
--- src/lib.rt:70:22
 add-put-track-2 : tie.Need-add-put-track-2
 add-put-track-2 c = search needs
 
--- src/lib.rt:70:33
 add-put-track-3 : tie.Need-add-put-track-3
 add-put-track-3 c = search needs
 
--- src/lib.rt:70:33
 sub-put-track : tie.Need-sub-put-track
 sub-put-track c = search needs
 
--- src/lib.rt:70:5
 put-track-requires-2 : tie.Need-put-track-requires-2
 put-track-requires-2 c κs = search needs
 
--- src/lib.rt:62:1
 returns : tie.Need-returns
 returns c = c .put-track2 .ensures ∙ ap (λ (l : List ℕ). putAt l (c .before .before .args .at + 6) (cchh (geometryOf (c .before .before .args .g)) (c .before .before .args .start + c .before .before .args .count - 1))) (c .before .put-track .ensures) ∙ put-behind (c .before .before .args .rec) (c .before .before .args .at) (c .before .before .args .kind) (c .before .before .args .number) (cchh (geometryOf (c .before .before .args .g)) (c .before .before .args .start)) (cchh (geometryOf (c .before .before .args .g)) (c .before .before .args .start + c .before .before .args .count - 1)) refl
 

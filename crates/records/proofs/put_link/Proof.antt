@@ -3,68 +3,51 @@ use Prim.Native.Nat.{_/_, _%_, ℕ, _+_}
 use borrow.Author.Needs.{needs}
 use Rattle.records.proofs.put_link.Statement.{statement}
 use Rattle.records.proofs.put_link.Tie as tie
-use Rattle.records.proofs.put_link.Reads as reads
-use Rattle.records.proofs.put_link.Lts as lts
-use Rattle.records.proofs.put_same.Reads as put-same-reads
-use Rattle.records.proofs.put_track.Reads as put-track-reads
 use mathlib.Core.Path.{_∙_, ap, refl}
 use mathlib.Core.List.{List}
 use native.Mathlib.Omega.{arith}
 use Rattle.rules.specs.Layout.{cchh}
 use Rattle.records.specs.Put.{putAt}
 use Rattle.forms.specs.Forms.{geometryOf}
-use Rattle.records.proofs.Numbers.{slot-record, slot-track}
-use Rattle.records.proofs.Putting.{link-none, link-some, put-next}
+use Rattle.records.proofs.Numbers.{link-none, link-some, slot-record, slot-track}
+use Rattle.records.proofs.Putting.{put-next}
 
--- src/lib.rt:51:34
 add-put-same : tie.Need-add-put-same
 add-put-same c = search needs
 
--- src/lib.rt:51:9
 put-same-requires : tie.Need-put-same-requires
 put-same-requires c κs = search needs
 
--- src/lib.rt:51:9
 returns : tie.Need-returns
 returns c = c .put-same .ensures ∙ ap (putAt (c .before .before .args .rec) (c .before .before .args .at)) (link-none (geometryOf (c .before .before .args .g)) (c .before .before .args .k) (c .before .if1 .taken) (c .before .before .args .at))
 
--- src/lib.rt:53:13
 cast-q : tie.Need-cast-q
 cast-q c = search needs
 
--- src/lib.rt:55:28
 div-t : tie.Need-div-t
 div-t c = search needs
 
--- src/lib.rt:55:13
 add-t : tie.Need-add-t
 add-t c = omega (arith, slot-track (geometryOf (c .before .before .args .g)) (c .before .before .pre .2) (c .before .before .args .k) (c .before .before .pre .1))
 
--- src/lib.rt:56:17
 put-track-requires : tie.Need-put-track-requires
 put-track-requires c κs = (omega arith, slot-track (geometryOf (c .before .before .args .g)) (c .before .before .pre .2) (c .before .before .args .k) (c .before .before .pre .1), c .before .before .pre .2)
 
--- src/lib.rt:57:18
 rem-r : tie.Need-rem-r
 rem-r c = search needs
 
--- src/lib.rt:57:18
 add-r : tie.Need-add-r
 add-r c = omega (arith, slot-record (geometryOf (c .before .before .before .args .g)) (c .before .before .before .pre .2) (c .before .before .before .args .k))
 
--- src/lib.rt:57:17
 cast-r : tie.Need-cast-r
 cast-r c = omega (arith, slot-record (geometryOf (c .before .before .before .args .g)) (c .before .before .before .pre .2) (c .before .before .before .args .k))
 
--- src/lib.rt:57:7
 add-r-2 : tie.Need-add-r-2
 add-r-2 c = search needs
 
--- src/lib.rt:57:5
 array-write-r : tie.Need-array-write-r
 array-write-r c = search needs
 
--- src/lib.rt:46:1
 returns-2 : tie.Need-returns-2
 returns-2 c =
     let g = geometryOf (c .before .before .before .args .g) in

@@ -7,8 +7,6 @@ use Prim.Native.Nat.{_≤_, _-_, ℕ, _+_}
 use borrow.Author.Needs.{needs}
 use Rattle.records.proofs.put_row.Statement.{statement}
 use Rattle.records.proofs.put_row.Tie as tie
-use Rattle.records.proofs.put_row.Reads as reads
-use Rattle.records.proofs.put_row.Lts as lts
 use mathlib.Core.List.{List}
 use Rattle.records.specs.Put.{putAt}
 use Rattle.records.proofs.Putting.{row-more, row-none}
@@ -19,35 +17,27 @@ Inv-loop at s r₀ i₀ r i = (i ≤ length s) × (r ≡ putAt r₀ at (take i s
 abbrev μ-loop : tie.MeasureT-loop
 μ-loop at s r₀ i₀ r i = length s - i
 
--- src/lib.rt:108:5
 loop-holds : tie.Need-loop-holds Inv-loop μ-loop
 loop-holds c = (omega arith, row-none (c .args .rec) (c .args .at) (c .args .s .now))
 
--- src/lib.rt:109:21
 shared-slice-read-r : tie.Need-shared-slice-read-r Inv-loop μ-loop
 shared-slice-read-r c = search needs
 
--- src/lib.rt:109:11
 add-r : tie.Need-add-r Inv-loop μ-loop
 add-r c = search needs
 
--- src/lib.rt:109:9
 array-write-r : tie.Need-array-write-r Inv-loop μ-loop
 array-write-r c = search needs
 
--- src/lib.rt:110:9
 add-i : tie.Need-add-i Inv-loop μ-loop
 add-i c = search needs
 
--- src/lib.rt:108:5
 loop-less : tie.Need-loop-less Inv-loop μ-loop
 loop-less c = search needs
 
--- src/lib.rt:108:5
 loop-again : tie.Need-loop-again Inv-loop μ-loop
 loop-again c = (omega arith, ap (λ (l : List ℕ). set l (c .before .before .before .args .at + c .before .before .loop .i) (getD (c .before .before .before .args .s .now) (c .before .before .loop .i) 0)) (c .before .before .loop .inv .1) ∙ row-more (c .before .before .before .args .rec) (c .before .before .before .args .at) (c .before .before .before .args .s .now) (c .before .before .loop .i) (c .before .loop-test .taken))
 
--- src/lib.rt:102:1
 returns : tie.Need-returns Inv-loop μ-loop
 returns c = rw (take-all (c .before .loop .i) (c .before .before .args .s .now) (c .loop-test .left)) at (c .before .loop .inv .1)
 

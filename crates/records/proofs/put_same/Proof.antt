@@ -6,8 +6,6 @@ use Prim.Native.Nat.{_≤_, _-_, ℕ}
 use borrow.Author.Needs.{needs}
 use Rattle.records.proofs.put_same.Statement.{statement}
 use Rattle.records.proofs.put_same.Tie as tie
-use Rattle.records.proofs.put_same.Reads as reads
-use Rattle.records.proofs.put_same.Lts as lts
 use mathlib.Core.List.{List}
 use Rattle.records.specs.Put.{putAt}
 use Rattle.records.proofs.Putting.{same-more, same-none}
@@ -18,27 +16,21 @@ Inv-loop a e v r₀ i₀ r i = (i₀ ≤ i) × (i ≤ e) × (r ≡ putAt r₀ i�
 abbrev μ-loop : tie.MeasureT-loop
 μ-loop a e v r₀ i₀ r i = e - i
 
--- src/lib.rt:94:5
 loop-holds : tie.Need-loop-holds Inv-loop μ-loop
 loop-holds c = (omega arith, omega arith, same-none (c .args .rec) (c .args .a) (c .args .v))
 
--- src/lib.rt:95:9
 array-write-r : tie.Need-array-write-r Inv-loop μ-loop
 array-write-r c = search needs
 
--- src/lib.rt:96:9
 add-i : tie.Need-add-i Inv-loop μ-loop
 add-i c = search needs
 
--- src/lib.rt:94:5
 loop-less : tie.Need-loop-less Inv-loop μ-loop
 loop-less c = search needs
 
--- src/lib.rt:94:5
 loop-again : tie.Need-loop-again Inv-loop μ-loop
 loop-again c = (omega arith, omega arith, ap (λ (l : List ℕ). set l (c .before .loop .i) (c .before .before .args .v)) (c .before .loop .inv .2) ∙ same-more (c .before .before .args .rec) (c .before .before .args .a) (c .before .loop .i) (c .before .before .args .v) (omega arith))
 
--- src/lib.rt:88:1
 returns : tie.Need-returns Inv-loop μ-loop
 returns c = let e : c .before .loop .i ≡ c .before .before .args .e = omega arith in rw e at (c .before .loop .inv .2)
 

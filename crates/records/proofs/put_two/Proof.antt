@@ -1,31 +1,23 @@
 use borrow.Author.Needs.{needs}
 use Rattle.records.proofs.put_two.Statement.{statement}
 use Rattle.records.proofs.put_two.Tie as tie
-use Rattle.records.proofs.put_two.Reads as reads
-use Rattle.records.proofs.put_two.Lts as lts
 use Rattle.records.specs.Put.{putAt}
 
--- src/lib.rt:30:13
 cast-r : tie.Need-cast-r
 cast-r c = search needs
 
--- src/lib.rt:30:5
 array-write-r : tie.Need-array-write-r
 array-write-r c = search needs
 
--- src/lib.rt:31:17
 cast-r-2 : tie.Need-cast-r-2
 cast-r-2 c = search needs
 
--- src/lib.rt:31:7
 add-r : tie.Need-add-r
 add-r c = search needs
 
--- src/lib.rt:31:5
 array-write-r-2 : tie.Need-array-write-r-2
 array-write-r-2 c = search needs
 
--- src/lib.rt:25:1
 returns : tie.Need-returns
 unfolding putAt
 returns c = search needs
