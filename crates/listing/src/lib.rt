@@ -3,9 +3,11 @@ ghost use mathlib.Core.Path.{_≡_};
 ghost use Prim.Native.Nat.{_+_, _*_, _%_, _≤_, _<_};
 ghost use mathlib.Core.List.{[], _∷_};
 ghost use lib.ListN.{length};
-ghost use Rattle.model.specs.Model.{run};
+ghost use Rattle.model.specs.Model.{overs, run, total};
+ghost use Rattle.model.proofs.Lists.{All};
 ghost use Rattle.rules.specs.Listing.{decimal, line, freeLine, refusalLine, slotLine};
-ghost use Rattle.listing.specs.Text.{Line, Written, dataText, digit, nameText, volumeText};
+ghost use Rattle.rules.specs.Reading.{readExtent, readExtents};
+ghost use Rattle.listing.specs.Text.{Line, Proper, Written, dataText, digit, nameText, volumeText};
 
 // ---- fields; each function gives back the place behind what it wrote
 
@@ -137,4 +139,32 @@ pub fn refusal_line(out: &mut [u8], n: u32) -> usize
     ensures { λ r. ⌜ Line (refusalLine n) (now (out .entry)) (now (out .exit)) r ⌝ }
 {
     one_number(out, b'E', n)
+}
+
+// ---- what the line of a data set tells
+
+// How many tracks the ten bytes of an extent stand for.
+fn tracks_in(x: &[u8], heads: u32) -> u32
+    requires { ⌜ (length (now x) ≡ 10) × (heads < 65536) × Proper (readExtent heads (now x)) ⌝ }
+    ensures { λ r. ⌜ (r ≡ readExtent heads (now (x .entry)) .over .count) × (r ≤ 65535) ⌝ }
+{
+    let first = fields::track_at(x, 2, heads);
+    let last = fields::track_at(x, 6, heads);
+    last + 1 - first
+}
+
+// How many tracks the first n extents of a format 1 with its format 3 have. A data set without a format 3 has at most 3
+// extents, which are in its format 1: any record serves as the other then, and the reading takes slot 0.
+pub fn tracks_of<'a>(f1: &'a [u8], f3: &'a [u8], n: usize, heads: u32) -> u32
+    requires { ⌜ (length (now f1) ≡ 140) × (length (now f3) ≡ 140) × (n ≤ 16) × (heads < 65536) ⌝ }
+    requires { ⌜ All Proper (readExtents heads (now f1) (now f3) n) ⌝ }
+    ensures { λ r. ⌜ r ≡ total (overs (readExtents heads (now (f1 .entry)) (now (f3 .entry)) n)) ⌝ }
+{
+    let mut sum: u32 = 0;
+    let mut e: usize = 0;
+    while e < n {
+        sum += tracks_in(fields::extent_part(f1, f3, e), heads);
+        e += 1;
+    }
+    sum
 }
