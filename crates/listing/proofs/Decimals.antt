@@ -1,17 +1,15 @@
 -- Writing: one text behind the other, and a number digit by digit. Assumes nothing.
 use mathlib.Core.Path.{_≡_, refl, sym, ap, _∙_, subst}
-use mathlib.Core.Bool.{true, false, cond}
 use mathlib.Core.List.{List, [], _∷_, _++_, append-assoc, append-nil}
-use Prim.Native.Nat.{ℕ, zero, suc, _+_, _/_, _%_, _≤_, _<_}
+use Prim.Native.Nat.{ℕ, _+_, _/_, _%_, _≤_, _<_}
 use native.Mathlib.Omega.{arith}
 use native.Mathlib.Numerals.{add-one}
 use native.Mathlib.Nat.{lt-of-not-le}
 use native.Mathlib.Decide.{decLe}
 use borrow.Author.Tests.{lt-ltb, le-ltb}
-use lib.Dec.{ltb}
 use lib.ListN.{length, take, set, length-set}
 use lib.Seq.{take-suc-set}
-use Rattle.rules.specs.Listing.{decimal, decimalTo}
+use Rattle.rules.specs.Listing.{decimal}
 use Rattle.listing.specs.Text.{Written, digit}
 
 pub write-byte : (out : List ℕ) (i b : ℕ) → i < length out → Written i (b ∷ []) 1 out (set out i b) (i + 1)

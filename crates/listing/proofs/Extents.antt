@@ -1,13 +1,13 @@
 -- The tracks of a data set, extent by extent. Assumes nothing.
 use mathlib.Core.Path.{_≡_, refl, sym, ap, _∙_, subst}
-use mathlib.Core.List.{List, [], _∷_, _++_, map}
+use mathlib.Core.List.{List, [], _∷_, map}
 use Prim.Native.Nat.{ℕ, zero, suc, _+_, _≤_, _<_}
 use native.Mathlib.Omega.{arith}
 use native.Mathlib.Nat.{zero-add}
 use native.Mathlib.Numerals.{add-one}
 use lib.ListN.{length}
 use Rattle.model.specs.Basics.{sumOf, upFrom}
-use Rattle.model.specs.Model.{Extent, Geometry, Label, Volume, free, held, overs, runsOf, total, tracks}
+use Rattle.model.specs.Model.{Extent, Geometry, Label, Volume, overs, runsOf, total}
 use Rattle.model.proofs.Lists.{All, All-map, All-range}
 use Rattle.rules.specs.Layout.{extentPart}
 use Rattle.rules.specs.Reading.{readExtent, readExtents}

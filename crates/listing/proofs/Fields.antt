@@ -1,17 +1,16 @@
 -- Lines made of fields, and names. Assumes nothing.
 use mathlib.Core.Path.{_≡_, refl, sym, ap, _∙_, subst}
-use mathlib.Core.Bool.{true, false, cond, not}
-use mathlib.Core.List.{List, [], _∷_, _++_, append-assoc, append-nil}
-use Prim.Native.Nat.{ℕ, zero, suc, _+_, _/_, _%_, _*_, _≤_, _<_}
+use mathlib.Core.List.{List, [], _∷_, _++_, append-assoc}
+use Prim.Native.Nat.{ℕ, _+_, _≤_, _<_}
 use native.Mathlib.Omega.{arith}
 use native.Mathlib.Numerals.{add-one}
 use borrow.Author.Tests.{eq-eqb, ne-eqb}
 use lib.Dec.{eqb}
-use lib.ListN.{length, take, drop, getD, set, length-set, drop-of-length-le}
+use lib.ListN.{length, take, getD}
 use lib.Seq.{take-suc, take-all}
-use Rattle.model.proofs.Lists.{by}
 use Rattle.model.specs.Basics.{flat}
-use Rattle.rules.specs.Listing.{decimal, line, printable}
+use Rattle.model.proofs.Lists.{by}
+use Rattle.rules.specs.Listing.{line, printable}
 use Rattle.listing.specs.Text.{Line, Written, nameText}
 use Rattle.listing.proofs.Decimals.{then, write-none}
 

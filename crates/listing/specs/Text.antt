@@ -1,6 +1,6 @@
 -- What the functions write into a buffer. Assumes nothing.
 use mathlib.Core.Path.{_≡_}
-use Prim.Native.Nat.{ℕ, _+_, _*_, _/_, _%_, _≤_, _<_}
+use Prim.Native.Nat.{ℕ, _+_, _*_, _/_, _%_, _≤_}
 use mathlib.Core.Bool.{not, cond}
 use mathlib.Core.List.{List, [], _∷_, _++_, map}
 use lib.ListN.{length, take}
@@ -9,7 +9,7 @@ use Rattle.model.specs.Basics.{filter}
 use Rattle.model.specs.Model.{Extent}
 use Rattle.rules.specs.Listing.{decimal, line, printable}
 
--- s was written at place i, behind what stood there, and r, at most `most` places on, is the place behind it
+-- s was written at place i, what stands before it is kept, and r is the place behind it, at most `most` places on
 pub record Written (i : ℕ) (s : List ℕ) (most : ℕ) (out out′ : List ℕ) (r : ℕ) : Type 0 where
   pub long : length out′ ≡ length out
   pub end : r ≤ i + most

@@ -60,7 +60,8 @@ fn put_printed(out: &mut [u8], at: usize, b: u8) -> usize
     if b == 0x40 {
         return at;
     }
-    put_byte(out, at, fields::listing::printable(b))
+    let c = fields::listing::printable(b);
+    put_byte(out, at, c)
 }
 
 // Writes a name of 44 label bytes less its blanks.

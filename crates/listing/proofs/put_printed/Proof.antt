@@ -26,7 +26,7 @@ same-length c = search needs
 
 -- src/lib.rt:54:1
 returns-2 : tie.Need-returns-2
-returns-2 c = rw (name-one _ (c .before .before .before .before .before .if1 .left), ← c .before .before .before .printable .ensures .rule) (c .before .before .put-byte .ensures)
+returns-2 c = rw (name-one _ (c .before .before .before .before .before .if1 .left), ← c .before .before .before .before .printable .ensures .rule) (c .before .before .put-byte .ensures)
 
 pub put-printed-spec : {M : Type 1} → statement M
 put-printed-spec =
