@@ -7,7 +7,7 @@ use native.Mathlib.Numerals.{add-one}
 use borrow.Author.Tests.{eq-eqb, ne-eqb}
 use lib.Dec.{eqb}
 use lib.ListN.{length, take, getD}
-use lib.Seq.{take-suc, take-all}
+use lib.Seq.{length-take-le, take-suc, take-all}
 use Rattle.model.specs.Basics.{flat}
 use Rattle.model.proofs.Lists.{by}
 use Rattle.rules.specs.Listing.{line, printable}
@@ -18,6 +18,10 @@ use Rattle.listing.proofs.Decimals.{then, write-none}
 
 pub ends : {s out out′ : List ℕ} {m r : ℕ} (t : List ℕ) → s ≡ t → m ≤ 64 → Written 0 s m out out′ r → Line t out out′ r
 ends t e h w = record { long = w .long; end = let x = w .end in omega arith; text = w .text ∙ e }
+
+-- the result is the line's length
+pub line-length : (s out out′ : List ℕ) (r : ℕ) → 64 ≤ length out → Line s out out′ r → length s ≡ r
+line-length s out out′ r h l = let a = l .long in let b = l .end in ap length (sym (l .text)) ∙ length-take-le r out′ (omega arith)
 
 -- fields with a blank before each, and s behind them
 abbrev pub fieldsThen : List (List ℕ) → List ℕ → List ℕ

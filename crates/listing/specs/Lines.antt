@@ -7,7 +7,7 @@ use native.Mathlib.Omega.{arith}
 use lib.ListN.{length, getD, length-append, length-map, List·getD-append}
 use lib.Seq.{getD-append-add, getD-append-seam}
 use Rattle.model.specs.Basics.{flat}
-use Rattle.model.specs.Model.{Label, Run, Volume, extent, format0s, free}
+use Rattle.model.specs.Model.{Label, Run, Volume, format0s, free}
 use Rattle.model.proofs.Lists.{by}
 use Rattle.rules.specs.Listing.{dataLine, freeLine, listing, listingOf, refusalLine, slotLine, volumeLine}
 use Rattle.rules.specs.Reading.{read}
@@ -67,7 +67,7 @@ pub record LinesAt (v : Volume) : Type 0 where
   pub many : length (linesOf v) ≡ 2 + length (v .labels) + length (free (v .geometry) (v .labels))
   pub first : getD (linesOf v) 0 [] ≡ volumeLine (v .geometry)
   pub label : (d : Label) (i : ℕ) → i < length (v .labels) → getD (linesOf v) (1 + i) [] ≡ dataLine (getD (v .labels) i d)
-  pub extent : (d : Run) (i : ℕ) → i < length (free (v .geometry) (v .labels)) → getD (linesOf v) (1 + length (v .labels) + i) [] ≡ freeLine (getD (free (v .geometry) (v .labels)) i d)
+  pub freeExtent : (d : Run) (i : ℕ) → i < length (free (v .geometry) (v .labels)) → getD (linesOf v) (1 + length (v .labels) + i) [] ≡ freeLine (getD (free (v .geometry) (v .labels)) i d)
   pub last : getD (linesOf v) (1 + length (v .labels) + length (free (v .geometry) (v .labels))) [] ≡ slotLine (length (format0s v))
 
 getD-map : {A : Type 0} (f : A → List ℕ) (xs : List A) (d : A) (i : ℕ) → i < length xs → getD (map f xs) i [] ≡ f (getD xs i d)
@@ -128,6 +128,6 @@ line-at v =
       many = length-all (volumeLine (v .geometry)) dataLine (v .labels) freeLine fs s;
       first = refl;
       label = at-first (volumeLine (v .geometry)) dataLine (v .labels) freeLine fs s;
-      extent = at-second (volumeLine (v .geometry)) dataLine (v .labels) freeLine fs s;
+      freeExtent = at-second (volumeLine (v .geometry)) dataLine (v .labels) freeLine fs s;
       last = at-last (volumeLine (v .geometry)) dataLine (v .labels) freeLine fs s;
     }
