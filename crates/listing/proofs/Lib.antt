@@ -1,0 +1,4 @@
+pub mod Decimals
+pub mod Fields
+pub mod Extents
+pub mod Volumes

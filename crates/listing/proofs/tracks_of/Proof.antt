@@ -1,0 +1,78 @@
+use Prim.Native.Nat.{ℕ, _*_, _-_, _≤_}
+use mathlib.Core.Path.{_≡_, sym, _∙_, ap}
+use native.Mathlib.Omega.{arith}
+use Rattle.model.specs.Model.{overs, total}
+use Rattle.rules.specs.Reading.{readExtents}
+use Rattle.listing.proofs.Extents.{total-none, ten-bytes, proper-ten, sum-next}
+use borrow.Author.Needs.{needs}
+use Rattle.listing.proofs.tracks_of.Statement.{statement}
+use Rattle.listing.proofs.tracks_of.Tie as tie
+use Rattle.listing.proofs.tracks_of.Reads as reads
+use Rattle.listing.proofs.tracks_of.Lts as lts
+use Rattle.fields.proofs.extent_part.Reads as extent-part-reads
+use Rattle.listing.proofs.tracks_in.Reads as tracks-in-reads
+
+abbrev Inv-loop : tie.InvT-loop
+Inv-loop f1 f3 n heads sum₀ e₀ sum e = (e ≤ n) × (sum ≡ total (overs (readExtents heads f1 f3 e))) × (sum ≤ 65535 * e)
+
+abbrev μ-loop : tie.MeasureT-loop
+μ-loop f1 f3 n heads sum₀ e₀ sum e = n - e
+
+-- src/lib.rt:165:5
+loop-holds : tie.Need-loop-holds Inv-loop μ-loop
+loop-holds c = (search needs, sym (total-none (c .before .before .args .heads) (c .before .before .args .f1 .now) (c .before .before .args .f3 .now)), search needs)
+
+-- src/lib.rt:166:26
+extent-part-requires : tie.Need-extent-part-requires Inv-loop μ-loop
+extent-part-requires c κs = search needs
+
+-- src/lib.rt:166:16
+tracks-in-requires : tie.Need-tracks-in-requires Inv-loop μ-loop
+tracks-in-requires c κs =
+    let x = c .extent-part .result .now in
+    let e = c .before .before .loop .e in (
+      ten-bytes (c .before .before .before .before .before .args .heads) (c .before .before .before .before .before .args .f1 .now) (c .before .before .before .before .before .args .f3 .now) x e (c .extent-part .ensures) (c .before .before .before .before .before .args .n) (c .before .before .before .before .before .pre .0 .0) (c .before .before .before .before .before .pre .0 .1) (c .before .before .before .before .before .pre .0 .2) (c .before .loop-test .taken),
+      c .before .before .before .before .before .pre .0 .3,
+      proper-ten (c .before .before .before .before .before .args .heads) (c .before .before .before .before .before .args .f1 .now) (c .before .before .before .before .before .args .f3 .now) x e (c .extent-part .ensures) (c .before .before .before .before .before .args .n) (c .before .before .before .before .before .pre .1) (c .before .loop-test .taken),
+    )
+
+-- src/lib.rt:166:9
+add-sum : tie.Need-add-sum Inv-loop μ-loop
+add-sum c = search needs
+
+-- src/lib.rt:167:9
+add-e : tie.Need-add-e Inv-loop μ-loop
+add-e c = search needs
+
+-- src/lib.rt:165:5
+loop-less : tie.Need-loop-less Inv-loop μ-loop
+loop-less c = search needs
+
+-- src/lib.rt:165:5
+loop-again : tie.Need-loop-again Inv-loop μ-loop
+loop-again c = (
+  omega arith,
+  sum-next (c .before .before .before .before .before .before .args .heads) (c .before .before .before .before .before .before .args .f1 .now) (c .before .before .before .before .before .before .args .f3 .now) (c .before .extent-part .result .now) (c .before .before .before .loop .e) (c .before .extent-part .ensures) (c .before .before .before .loop .sum) (c .tracks-in .result) (c .before .before .before .loop .inv .1) (c .tracks-in .ensures .0),
+  omega (arith, c .tracks-in .ensures .1),
+)
+
+-- src/lib.rt:158:1
+returns : tie.Need-returns Inv-loop μ-loop
+returns c =
+    let q : c .before .loop .e ≡ c .before .before .before .before .args .n = omega arith in
+    c .before .loop .inv .1 ∙ ap (λ (k : ℕ). total (overs (readExtents (c .before .before .before .before .args .heads) (c .before .before .before .before .args .f1 .now) (c .before .before .before .before .args .f3 .now) k))) q
+
+pub tracks-of-spec : {M : Type 1} → statement M
+tracks-of-spec =
+    tie.close
+    (tie.spec
+    Inv-loop
+    μ-loop
+    loop-holds
+    extent-part-requires
+    tracks-in-requires
+    add-sum
+    add-e
+    loop-less
+    loop-again
+    returns)
