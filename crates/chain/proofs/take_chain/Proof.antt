@@ -1,0 +1,81 @@
+use Prim.Native.Nat.{ℕ, _≤_, _<_}
+use mathlib.Core.Path.{_≡_, refl, sym, ap, _∙_, subst}
+use mathlib.Core.Bool.{Bool, true, false}
+use mathlib.Core.List.{List}
+use native.Mathlib.Omega.{arith}
+use lib.ListN.{length}
+use Rattle.model.specs.Model.{slots, tracks}
+use Rattle.forms.specs.Forms.{geometryOf}
+use Rattle.tracks.specs.Map.{freeFrom}
+use Rattle.chain.specs.Chain.{ChainGone}
+use Rattle.chain.proofs.Laws.{fewer, go-on, gone-bad, gone-last}
+use borrow.Author.Needs.{needs}
+use Rattle.chain.proofs.take_chain.Statement.{statement}
+use Rattle.chain.proofs.take_chain.Tie as tie
+use Rattle.chain.proofs.take_chain.Reads as reads
+use Rattle.chain.proofs.take_chain.Lts as lts
+use Rattle.chain.proofs.take_member.Reads as take-member-reads
+
+abbrev Inv-loop : tie.InvT-loop
+Inv-loop table g map empty₀ k₀ at₀ empty k at =
+    (k < slots (geometryOf g)) × (at ≤ tracks (geometryOf g)) × (length empty ≡ length empty₀)
+    × ((s : List ℕ) (r : Bool) → ChainGone (geometryOf g) table (freeFrom map (tracks (geometryOf g)) at) k empty s r → ChainGone (geometryOf g) table (freeFrom map (tracks (geometryOf g)) 0) 1 empty₀ s r)
+
+abbrev μ-loop : tie.MeasureT-loop
+μ-loop table g map empty₀ k₀ at₀ empty k at = length (freeFrom map (tracks (geometryOf g)) at)
+
+-- src/lib.rt:54:5
+loop-holds : tie.Need-loop-holds Inv-loop μ-loop
+loop-holds c = (omega (arith, c .before .before .before .pre .0 .least), omega arith, refl, λ s r x. x)
+
+-- src/lib.rt:55:13
+take-member-requires : tie.Need-take-member-requires Inv-loop μ-loop
+take-member-requires c κs =
+    let l = c .before .loop .inv in
+    (c .before .before .before .before .before .pre .0, c .before .before .before .before .before .pre .1, l .0, l .1, c .before .before .before .before .before .pre .2, l .2 ∙ c .before .before .before .before .before .pre .3)
+
+-- src/lib.rt:57:13
+same-length : tie.Need-same-length Inv-loop μ-loop
+same-length c = search needs
+
+-- src/lib.rt:57:13
+returns : tie.Need-returns Inv-loop μ-loop
+returns c =
+    let l = c .before .before .before .before .before .loop .inv in
+    l .3 _ false (gone-bad (geometryOf (c .before .before .before .before .before .before .before .before .before .args .g)) (c .before .before .before .before .before .before .before .before .before .args .table .now) (c .before .before .before .before .before .before .before .before .before .args .map .now) _ (c .before .before .before .before .before .loop .k) (l .0) (c .before .before .before .before .before .loop .empty) _ (c .before .before .before .take-member .result) (c .before .before .before .take-member .ensures) (c .if1 .left))
+
+-- src/lib.rt:60:13
+same-length-2 : tie.Need-same-length-2 Inv-loop μ-loop
+same-length-2 c = search needs
+
+-- src/lib.rt:60:13
+returns-2 : tie.Need-returns-2 Inv-loop μ-loop
+returns-2 c =
+    let l = c .before .before .before .before .before .before .loop .inv in
+    l .3 _ true (gone-last (geometryOf (c .before .before .before .before .before .before .before .before .before .before .args .g)) (c .before .before .before .before .before .before .before .before .before .before .args .table .now) (c .before .before .before .before .before .before .before .before .before .before .args .map .now) _ (c .before .before .before .before .before .before .loop .k) (l .0) (c .before .before .before .before .before .before .loop .empty) _ (c .before .before .before .before .take-member .result) (c .before .before .before .before .take-member .ensures) (c .before .if1 .taken) (c .if2 .taken))
+
+-- src/lib.rt:54:5
+loop-less : tie.Need-loop-less Inv-loop μ-loop
+loop-less c = fewer (geometryOf (c .before .before .before .before .before .before .before .before .before .before .args .g)) (c .before .before .before .before .before .before .before .before .before .before .args .table .now) (c .before .before .before .before .before .before .before .before .before .before .args .map .now) _ (c .before .before .before .before .before .before .loop .k) (c .before .before .before .before .before .before .loop .empty) _ (c .before .before .before .before .take-member .result) (c .before .before .before .before .take-member .ensures) (c .before .if1 .taken) (c .if2 .left)
+
+-- src/lib.rt:54:5
+loop-again : tie.Need-loop-again Inv-loop μ-loop
+loop-again c =
+    let l = c .before .before .before .before .before .before .loop .inv in
+    (c .before .before .before .before .take-member .ensures .inside (c .before .if1 .taken), c .before .before .before .before .take-member .ensures .upTo (c .before .if1 .taken), c .before .before .before .before .take-member .ensures .long ∙ l .2,
+    λ s r x. l .3 s r (go-on (geometryOf (c .before .before .before .before .before .before .before .before .before .before .args .g)) (c .before .before .before .before .before .before .before .before .before .before .args .table .now) (c .before .before .before .before .before .before .before .before .before .before .args .map .now) _ (c .before .before .before .before .before .before .loop .k) (l .0) (c .before .before .before .before .before .before .loop .empty) _ (c .before .before .before .before .take-member .result) (c .before .before .before .before .take-member .ensures) (c .before .if1 .taken) (c .if2 .left) s r x))
+
+pub take-chain-spec : {M : Type 1} → statement M
+take-chain-spec =
+    tie.close
+    (tie.spec
+    Inv-loop
+    μ-loop
+    loop-holds
+    take-member-requires
+    same-length
+    returns
+    same-length-2
+    returns-2
+    loop-less
+    loop-again)
