@@ -68,7 +68,7 @@ module _ (g : Geometry) (t : List ℕ) (f : List Run) (k : ℕ) where
       let q : fivesFor (length f) ≡ suc (fivesFor (length (drop 26 f))) = omega arith in
       ap (λ (n : ℕ). follow g (chop (slots g) t) n k) q
       ∙ ap (λ (j : ℕ). k ∷ follow g (chop (slots g) t) (fivesFor (length (drop 26 f))) j)
-        (ap (λ (r : List ℕ). slotAt g r 135) (chop-slot (slots g) t k u) ∙ sym (next-some g (drop 26 f) (slotBytes t k) e))
+      (ap (λ (r : List ℕ). slotAt g r 135) (chop-slot (slots g) t k u) ∙ sym (next-some g (drop 26 f) (slotBytes t k) e))
 
 pub chain-head : (g : Geometry) (t : List ℕ) (f : List Run) (k : ℕ) → headOr0 (chainFrom g t f k) ≡ k
 unfolding chainFrom

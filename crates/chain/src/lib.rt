@@ -20,12 +20,24 @@ pub struct Member {
 
 // Takes slot k out of the map of free slots. It must hold the free extents from track `at` on, as far as it has room,
 // and name the next slot where there are more.
-fn take_member(table: &[u8], k: usize, g: Geometry, map: &[u64], at: usize, empty: &mut [u64]) -> Member
+fn take_member(
+    table: &[u8],
+    k: usize,
+    g: Geometry,
+    map: &[u64],
+    at: usize,
+    empty: &mut [u64],
+) -> Member
     requires { ⌜ Limits (geometryOf g) × (length (now table) ≡ 140 * slots (geometryOf g)) × (k < slots (geometryOf g)) × (at ≤ tracks (geometryOf g)) × (tracks (geometryOf g) ≤ 64 * length (now map)) × (length (now empty) ≡ 8) ⌝ }
     ensures { λ r. ⌜ Held (geometryOf g) (now (table .entry)) (now (map .entry)) (freeFrom (now (map .entry)) (tracks (geometryOf g)) at) k (now (empty .entry)) (now (empty .exit)) r ⌝ }
 {
     if tracks::take_range(empty, k, k + 1) {} else {
-        return Member { ok: false, last: false, slot: 0, at: 0 };
+        return Member {
+            ok: false,
+            last: false,
+            slot: 0,
+            at: 0,
+        };
     }
     let t = (g.cylinders * g.heads) as usize;
     let filled = records::five(map, t, at, g);
@@ -35,13 +47,23 @@ fn take_member(table: &[u8], k: usize, g: Geometry, map: &[u64], at: usize, empt
     let free = tracks::next_run(map, behind, t);
     if free.from >= t {
         let ok = fields::same(&made, rec);
-        return Member { ok, last: true, slot: 0, at: behind };
+        return Member {
+            ok,
+            last: true,
+            slot: 0,
+            at: behind,
+        };
     }
     let n = (g.tracks * g.records) as usize;
     let slot = fields::slot_of(&rec[135..140], g.heads, g.records, g.start, n);
     let linked = records::with_next(made, g, slot);
     let ok = fields::same(&linked, rec);
-    Member { ok, last: false, slot, at: behind }
+    Member {
+        ok,
+        last: false,
+        slot,
+        at: behind,
+    }
 }
 
 // Whether the chain from slot 1 on holds the free extents that the map shows. Its slots leave the map of free slots.

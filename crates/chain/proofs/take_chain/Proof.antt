@@ -61,9 +61,12 @@ loop-less c = fewer (geometryOf (c .before .before .before .before .before .befo
 -- src/lib.rt:54:5
 loop-again : tie.Need-loop-again Inv-loop μ-loop
 loop-again c =
-    let l = c .before .before .before .before .before .before .loop .inv in
-    (c .before .before .before .before .take-member .ensures .inside (c .before .if1 .taken), c .before .before .before .before .take-member .ensures .upTo (c .before .if1 .taken), c .before .before .before .before .take-member .ensures .long ∙ l .2,
-    λ s r x. l .3 s r (go-on (geometryOf (c .before .before .before .before .before .before .before .before .before .before .args .g)) (c .before .before .before .before .before .before .before .before .before .before .args .table .now) (c .before .before .before .before .before .before .before .before .before .before .args .map .now) _ (c .before .before .before .before .before .before .loop .k) (l .0) (c .before .before .before .before .before .before .loop .empty) _ (c .before .before .before .before .take-member .result) (c .before .before .before .before .take-member .ensures) (c .before .if1 .taken) (c .if2 .left) s r x))
+    let l = c .before .before .before .before .before .before .loop .inv in (
+      c .before .before .before .before .take-member .ensures .inside (c .before .if1 .taken),
+      c .before .before .before .before .take-member .ensures .upTo (c .before .if1 .taken),
+      c .before .before .before .before .take-member .ensures .long ∙ l .2,
+      λ s r x. l .3 s r (go-on (geometryOf (c .before .before .before .before .before .before .before .before .before .before .args .g)) (c .before .before .before .before .before .before .before .before .before .before .args .table .now) (c .before .before .before .before .before .before .before .before .before .before .args .map .now) _ (c .before .before .before .before .before .before .loop .k) (l .0) (c .before .before .before .before .before .before .loop .empty) _ (c .before .before .before .before .take-member .result) (c .before .before .before .before .take-member .ensures) (c .before .if1 .taken) (c .if2 .left) s r x),
+    )
 
 pub take-chain-spec : {M : Type 1} → statement M
 take-chain-spec =
