@@ -1,0 +1,75 @@
+use borrow.Author.Needs.{needs}
+use Rattle.spare.proofs.spare.Statement.{statement}
+use Rattle.spare.proofs.spare.Tie as tie
+use Rattle.spare.proofs.spare.Reads as reads
+use Rattle.spare.proofs.spare.Lts as lts
+use Rattle.fields.proofs.part_is.Reads as part-is-reads
+use Rattle.tracks.proofs.next_run.Reads as next-run-reads
+
+abbrev Inv-loop : tie.InvT-loop
+Inv-loop table n empty count₀ at₀ count at = ?
+
+abbrev μ-loop : tie.MeasureT-loop
+μ-loop table n empty count₀ at₀ count at = ?
+
+-- src/lib.rt:22:5
+loop-holds : tie.Need-loop-holds Inv-loop μ-loop
+loop-holds c = search needs
+
+-- src/lib.rt:23:13
+next-run-requires : tie.Need-next-run-requires Inv-loop μ-loop
+next-run-requires c κs = search needs
+
+-- src/lib.rt:24:17
+sub-c : tie.Need-sub-c Inv-loop μ-loop
+sub-c c = search needs
+
+-- src/lib.rt:25:35
+mul-part-is : tie.Need-mul-part-is Inv-loop μ-loop
+mul-part-is c = search needs
+
+-- src/lib.rt:25:52
+mul-part-is-2 : tie.Need-mul-part-is-2 Inv-loop μ-loop
+mul-part-is-2 c = search needs
+
+-- src/lib.rt:25:12
+part-is-requires : tie.Need-part-is-requires Inv-loop μ-loop
+part-is-requires c κs = search needs
+
+-- src/lib.rt:26:13
+add-count : tie.Need-add-count Inv-loop μ-loop
+add-count c = search needs
+
+-- src/lib.rt:22:5
+loop-less : tie.Need-loop-less Inv-loop μ-loop
+loop-less c = search needs
+
+-- src/lib.rt:22:5
+loop-again : tie.Need-loop-again Inv-loop μ-loop
+loop-again c = search needs
+
+-- src/lib.rt:29:13
+returns : tie.Need-returns Inv-loop μ-loop
+returns c = search needs
+
+-- src/lib.rt:16:1
+returns-2 : tie.Need-returns-2 Inv-loop μ-loop
+returns-2 c = search needs
+
+pub spare-spec : {M : Type 1} → statement M
+spare-spec =
+    tie.close
+    (tie.spec
+    Inv-loop
+    μ-loop
+    loop-holds
+    next-run-requires
+    sub-c
+    mul-part-is
+    mul-part-is-2
+    part-is-requires
+    add-count
+    loop-less
+    loop-again
+    returns
+    returns-2)
