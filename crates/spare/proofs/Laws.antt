@@ -4,7 +4,7 @@ use mathlib.Core.Bool.{Bool, true, false, cond, _&&_}
 use mathlib.Core.Logic.{⊎-elim}
 use mathlib.Core.List.{List, [], _∷_, _++_}
 use Prim.Native.Nat.{ℕ, zero, suc, _+_, _-_, _*_, _≤_, _<_}
-use native.Mathlib.Nat.{le-refl, lt-of-not-le}
+use native.Mathlib.Nat.{le-refl}
 use native.Mathlib.Decide.{ℕ-discrete}
 use native.Mathlib.Omega.{arith}
 use lib.Dec.{T, eqb}
@@ -12,9 +12,9 @@ use lib.ListN.{length, getD, drop, take, replicate}
 use lib.Seq.{drop-drop, take-add}
 use borrow.Author.Tests.{eq-eqb, ne-eqb}
 use Rattle.model.specs.Basics.{bit, filter, part, sumOf, upFrom, zeros}
-use Rattle.model.specs.Model.{Run, Separate, covers, run, runs, tally, times, total, unused}
+use Rattle.model.specs.Model.{Separate, covers, run, tally, times, total, unused}
 use Rattle.model.proofs.Lists.{and-l, and-r, both, by, clash, is-true, true-is}
-use Rattle.model.proofs.Runs.{below, bit-zero, hit-above, hit-below, hit-in, runs-separate, runs-times, runs-total, sum-same}
+use Rattle.model.proofs.Runs.{below, bit-zero, hit-below, hit-in, runs-separate, runs-times, runs-total, sum-same}
 use Rattle.tracks.specs.Map.{NextRun, freeBit, freeFrom, isFree}
 use Rattle.tracks.proofs.Bits.{le-or-lt}
 use Rattle.tracks.proofs.Counting.{bit-of}

@@ -26,7 +26,10 @@ pub fn spare(table: &[u8], n: usize, empty: &[u64]) -> Spares
             count += c;
             at = free.to;
         } else {
-            return Spares { clear: false, count };
+            return Spares {
+                clear: false,
+                count,
+            };
         }
     }
     Spares { clear: true, count }

@@ -1,5 +1,5 @@
 use mathlib.Core.Path.{_≡_, refl, sym, _∙_}
-use Prim.Native.Nat.{ℕ, suc, _≤_, _-_}
+use Prim.Native.Nat.{_≤_, _-_}
 use native.Mathlib.Nat.{le-refl}
 use native.Mathlib.Omega.{arith}
 use Rattle.spare.specs.Spare.{highestSlot}
@@ -7,9 +7,6 @@ use Rattle.spare.proofs.Laws.{highest-hit, highest-miss, highest-none}
 use borrow.Author.Needs.{needs}
 use Rattle.spare.proofs.highest.Statement.{statement}
 use Rattle.spare.proofs.highest.Tie as tie
-use Rattle.spare.proofs.highest.Reads as reads
-use Rattle.spare.proofs.highest.Lts as lts
-use Rattle.fields.proofs.record_at.Reads as record-at-reads
 
 abbrev Inv-loop : tie.InvT-loop
 Inv-loop table n k₀ k = (k ≤ n) × (highestSlot table n ≡ highestSlot table k)

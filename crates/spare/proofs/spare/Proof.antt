@@ -1,5 +1,5 @@
-use mathlib.Core.Path.{_≡_, refl, sym, _∙_}
-use Prim.Native.Nat.{ℕ, _+_, _-_, _≤_}
+use mathlib.Core.Path.{_≡_, sym, _∙_}
+use Prim.Native.Nat.{_+_, _-_, _≤_}
 use native.Mathlib.Omega.{arith}
 use Rattle.model.specs.Model.{total}
 use Rattle.tracks.specs.Map.{freeFrom}
@@ -9,10 +9,6 @@ use Rattle.spare.proofs.Laws.{run-total, zero-next, zero-not, spared-al
 use borrow.Author.Needs.{needs}
 use Rattle.spare.proofs.spare.Statement.{statement}
 use Rattle.spare.proofs.spare.Tie as tie
-use Rattle.spare.proofs.spare.Reads as reads
-use Rattle.spare.proofs.spare.Lts as lts
-use Rattle.fields.proofs.part_is.Reads as part-is-reads
-use Rattle.tracks.proofs.next_run.Reads as next-run-reads
 
 abbrev Inv-loop : tie.InvT-loop
 Inv-loop table n empty count₀ at₀ count at = (at ≤ n) × (count ≤ at) × (count + total (freeFrom empty n at) ≡ total (freeFrom empty n 0)) × ZeroBelow table at empty
