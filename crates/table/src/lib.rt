@@ -24,7 +24,7 @@ fn look(table: &[u8], k: usize, g: Geometry, map: &mut [u64], empty: &mut [u64])
 }
 
 // Tests all labels and takes them out of the maps. Slot 0 has none.
-fn take_labels(table: &[u8], g: Geometry, map: &mut [u64], empty: &mut [u64]) -> bool
+pub fn take_labels(table: &[u8], g: Geometry, map: &mut [u64], empty: &mut [u64]) -> bool
     requires { ⌜ Limits (geometryOf g) × (length (now table) ≡ 140 * slots (geometryOf g)) × (isLabel (slotBytes (now table) 0) ≡ false) × (tracks (geometryOf g) ≤ 64 * length (now map)) × (length (now empty) ≡ 8) ⌝ }
     ensures { λ r. ⌜ LabelsTaken (geometryOf g) (now (table .entry)) (slots (geometryOf g)) (now (map .entry)) (now (map .exit)) (now (empty .entry)) (now (empty .exit)) r ⌝ }
 {

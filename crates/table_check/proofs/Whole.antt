@@ -1,0 +1,160 @@
+-- The maps as they begin, the rest, and the whole: each result of the check is `taken`. Assumes nothing.
+use mathlib.Core.Path.{_≡_, refl, sym, ap, _∙_, subst}
+use mathlib.Core.Bool.{Bool, true, false}
+use mathlib.Core.List.{List, [], _∷_}
+use Prim.Native.Nat.{ℕ, _+_, _*_, _/_, _%_, _≤_, _<_}
+use native.Mathlib.Omega.{arith}
+use lib.Dec.{T}
+use lib.ListN.{getD, length}
+use Rattle.model.specs.Basics.{bit, same}
+use Rattle.model.specs.Model.{Geometry, Volume, held, run, slots, tally, total, tracks, unused}
+use Rattle.model.proofs.Lists.{by, clash, is-true, same-refl, same→eq, true-is}
+use Rattle.model.proofs.Runs.{hit-below}
+use Rattle.rules.specs.Layout.{encode, format4, highest}
+use Rattle.rules.specs.Reading.{chop, read, readGeometry, readRecords, recordAt}
+use Rattle.rules.specs.Table.{limits, taken}
+use Rattle.rules.proofs.Taken.{length-encode, taken-is}
+use Rattle.rules.proofs.Valid.{Limits, limits→}
+use Rattle.sound.specs.Sound.{Sound}
+use Rattle.sound.proofs.Meaning.{recordsOf, sound-taken, taken-sound}
+use Rattle.tracks.specs.Map.{AllFree, Begun, Shows, Taken, freeBit}
+use Rattle.tracks.proofs.Held.{shows-begin, shows-take, taken-true}
+use Rattle.fields.specs.Records.{slotBytes}
+use Rattle.fields.proofs.Slots.{chop-slot}
+use Rattle.label_check.specs.Marks.{units}
+use Rattle.table.proofs.Scan.{unit-tally}
+use Rattle.spare.specs.Spare.{Spared, highestSlot}
+use Rattle.spare.proofs.Laws.{count-unused}
+use Rattle.table_check.specs.Check.{Checked, Contents, MapsBegun, Rest, RestTold, Shown, volumeAt}
+use Rattle.table_check.proofs.Read.{records-are, volume-is}
+
+-- ---- the maps
+
+-- slot 0, or the first track, of a map in which nothing is held
+first-taken : (m m₁ m₂ : List ℕ) (n : ℕ) (r : Bool) → 1 ≤ n → n ≤ 64 * length m → Begun m m₁ n → Taken m₁ m₂ 0 1 r → Shows m₂ n (run 0 1 ∷ [])
+first-taken m m₁ m₂ n r pos fits b x =
+    let h = shows-begin m m₁ n fits b in
+    let a : AllFree m₁ 0 1 = λ t u w. let z = h t (omega arith) in omega arith in
+    let e = taken-true m₁ m₂ 0 1 r a x in
+    shows-take m₁ m₂ n 0 1 [] h a (x .made e)
+
+module _ (g : Geometry) (limit : Limits g) (m m₁ m₂ m₃ : List ℕ) (r₁ r₂ : Bool) (fits : tracks g ≤ 64 * length m) (b : Begun m m₁ (tracks g))
+    (x : Taken m₁ m₂ (g .vtocStart) (g .vtocStart + g .vtocTracks) r₁) (y : Taken m₂ m₃ 0 1 r₂) where
+  pub tracks-begun : Shows m₃ (tracks g) (held g [])
+  unfolding held
+  tracks-begun =
+      let h = shows-begin m m₁ (tracks g) fits b in
+      let n = limit .ends in
+      let f : AllFree m₁ (g .vtocStart) (g .vtocStart + g .vtocTracks) = λ t u w. let z = h t (omega arith) in omega arith in
+      let e = taken-true m₁ m₂ (g .vtocStart) (g .vtocStart + g .vtocTracks) r₁ f x in
+      let k = shows-take m₁ m₂ (tracks g) (g .vtocStart) (g .vtocTracks) [] h f (x .made e) in
+      let s = limit .start in
+      let p : AllFree m₂ 0 1 = λ t u w.
+          let z = k t (omega arith) in
+          let c = hit-below (run (g .vtocStart) (g .vtocTracks)) t (omega arith) in
+          omega arith
+      in
+      let q = taken-true m₂ m₃ 0 1 r₂ p y in
+      shows-take m₂ m₃ (tracks g) 0 1 (run (g .vtocStart) (g .vtocTracks) ∷ []) k p (y .made q)
+
+  pub maps-begun : (s s₁ s₂ : List ℕ) (r₃ : Bool) → slots g ≤ 64 * length s → Begun s s₁ (slots g) → Taken s₁ s₂ 0 1 r₃ → MapsBegun g m m₃ s s₂
+  maps-begun s s₁ s₂ r₃ room c z =
+      record {
+        longMap = y .long ∙ x .long ∙ b .long;
+        longSlots = z .long ∙ c .long;
+        freeTracks = tracks-begun;
+        freeSlots = first-taken s s₁ s₂ (slots g) r₃ (omega (arith, limit .least)) room c z;
+      }
+
+-- ---- the rest
+
+module _ (g : Geometry) (t s : List ℕ) (clear : Bool) (count : ℕ) (x : Spared t (slots g) s clear count) where
+  pub rest-unclear : clear ≡ false → RestTold g t s false
+  rest-unclear e =
+      record {
+        yes = λ q. clash {b = false} q refl;
+        no = λ q us h y. x .wrong e (λ k u f. y .zero k u (let a = h k u in let c = unit-tally k us in omega arith));
+      }
+
+  module _ (e : clear ≡ true) (made rec : List ℕ) (h : ℕ) (r : Bool) (high : h ≡ highestSlot t (slots g)) (four : made ≡ format4 g h count) (first : rec ≡ slotBytes t 0) (o : r ≡ same made rec) where
+    made-is : (us : List ℕ) → Shows s (slots g) (units us) → made ≡ format4 g (highestSlot t (slots g)) (length (unused (slots g) us))
+    made-is us w =
+        let n : count ≡ length (unused (slots g) us) =
+            x .many e ∙ count-unused s (slots g) us (λ k u. let a = w k u in let c = unit-tally k us in omega arith)
+        in
+        four ∙ ap (λ (k : ℕ). format4 g k count) high ∙ ap (format4 g (highestSlot t (slots g))) n
+
+    pub rest-told : RestTold g t s r
+    rest-told =
+        record {
+          yes = λ q us w.
+              record {
+                zero = λ k u z. x .zero e k u (let a = w k u in let c = unit-tally k us in omega arith);
+                four = sym (made-is us w) ∙ same→eq made rec (true-is (sym o ∙ q)) ∙ first;
+              };
+          no = λ q us w y.
+              let i : made ≡ rec = made-is us w ∙ y .four ∙ sym first in
+              clash (ap (same made) (sym i) ∙ is-true (same-refl made)) (sym o ∙ q);
+        }
+
+-- ---- refused at once
+
+refused : (t : List ℕ) → (T (taken t) → ⊥) → false ≡ taken t
+refused t f = by (taken t) (λ e. absurd (f (true-is e))) (λ e. sym e)
+
+no-maps : (t m s : List ℕ) → (T (taken t) → ⊥) → Checked t m m s s false
+no-maps t m s f = record { longMap = refl; longSlots = refl; told = refused t f; shown = λ q. clash {b = false} q refl }
+
+taken-long : (t : List ℕ) → T (taken t) → length t ≡ slots (read t .geometry) * 140
+taken-long t x = let p = taken-is t x in ap length (sym (p .1)) ∙ length-encode (read t) (p .0)
+
+geometry-read : (t : List ℕ) → 140 ≤ length t → read t .geometry ≡ readGeometry (slotBytes t 0)
+unfolding read readRecords
+geometry-read t u = ap readGeometry (chop-slot (length t / 140) t 0 (omega arith))
+
+four-id : (g : Geometry) (a b : ℕ) → getD (format4 g a b) 44 0 ≡ 0xF4
+unfolding format4
+four-id g a b = refl
+
+pub too-short : (t m s : List ℕ) → length t < 140 → Checked t m m s s false
+too-short t m s u = no-maps t m s (λ x. let l = taken-long t x in let n = taken-sound t x .limits .least in omega arith)
+
+pub no-four : (t m s rec : List ℕ) → 140 ≤ length t → rec ≡ slotBytes t 0 → (getD rec 44 0 ≡ 0xF4 → ⊥) → Checked t m m s s false
+no-four t m s rec u e f =
+    no-maps t m s (λ x.
+    let y = taken-sound t x in
+    f (ap (λ (r : List ℕ). getD r 44 0) (e ∙ sym (chop-slot (length t / 140) t 0 (omega arith)) ∙ sym (y .four)) ∙ four-id (read t .geometry) _ _))
+
+pub out-of-limits : (t m s : List ℕ) (g : Geometry) → 140 ≤ length t → g ≡ readGeometry (slotBytes t 0) → limits g ≡ false → Checked t m m s s false
+out-of-limits t m s g u e f =
+    no-maps t m s (λ x.
+    let q : read t .geometry ≡ g = geometry-read t u ∙ sym e in
+    clash (is-true (taken-is t x .0 .limit)) (ap limits q ∙ f))
+
+pub wrong-length : (t m s : List ℕ) (g : Geometry) → 140 ≤ length t → g ≡ readGeometry (slotBytes t 0) → (length t ≡ 140 * slots g → ⊥) → Checked t m m s s false
+wrong-length t m s g u e f =
+    no-maps t m s (λ x.
+    let q : slots (read t .geometry) ≡ slots g = ap slots (geometry-read t u ∙ sym e) in
+    let l = taken-long t x in
+    f (omega arith))
+
+-- ---- the contents decide
+
+pub contents-decide : (t m m′ s s′ : List ℕ) (g : Geometry) (r : Bool) → Limits g → g ≡ readGeometry (slotBytes t 0) → length t ≡ 140 * slots g → Contents g t m m′ s s′ r
+    → Checked t m m′ s s′ r
+contents-decide t m m′ s s′ g r limit e len x =
+    let n = limit .least in
+    let v : read t ≡ volumeAt g t = volume-is g t len (omega arith) e in
+    let c : recordsOf t ≡ chop (slots g) t = records-are g t len in
+    record {
+      longMap = x .longMap;
+      longSlots = x .longSlots;
+      told =
+          by r
+          (λ q. q ∙ sym (is-true (sound-taken t (let z : length t % 140 ≡ 0 = omega arith in z) (rw (v, c) (x .yes q)))))
+          (λ q. q ∙ refused t (λ y. x .no q (let z = taken-sound t y in rw (v, c) at z)));
+      shown = λ q. subst (λ (w : Volume). Shown w m′ s′) (sym v) (x .shown q);
+    }
+
+pub no-label : (t rec : List ℕ) → rec ≡ slotBytes t 0 → getD rec 44 0 ≡ 0xF4 → Rattle.names.specs.Find.isLabel (slotBytes t 0) ≡ false
+no-label t rec e q = ap (λ (r : List ℕ). Rattle.names.specs.Find.isLabel r) (sym e) ∙ ap (λ (b : ℕ). lib.Dec.eqb b 0xF1) q

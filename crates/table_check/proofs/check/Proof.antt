@@ -1,0 +1,101 @@
+use Rattle.table_check.proofs.Whole.{contents-decide, no-four, no-label, out-of-limits, too-short, wrong-length}
+use Rattle.forms.specs.Forms.{geometryOf}
+use Rattle.rules.proofs.Valid.{limits→}
+use Rattle.rules.specs.Reading.{readGeometry}
+use Rattle.model.proofs.Lists.{true-is}
+use native.Mathlib.Omega.{arith}
+use mathlib.Core.Path.{_≡_, refl, sym, ap, _∙_, subst}
+use borrow.Author.Needs.{needs}
+use Rattle.table_check.proofs.check.Statement.{statement}
+use Rattle.table_check.proofs.check.Tie as tie
+use Rattle.table_check.proofs.check.Reads as reads
+use Rattle.table_check.proofs.check.Lts as lts
+use Rattle.fields.proofs.record_at.Reads as record-at-reads
+use Rattle.forms.proofs.geometry_of.Reads as geometry-of-reads
+use Rattle.forms.proofs.limits.Reads as limits-reads
+use Rattle.table_check.proofs.contents_ok.Reads as contents-ok-reads
+
+-- src/lib.rt:67:9
+returns : tie.Need-returns
+returns c = too-short (c .before .before .before .before .args .table .now) (c .before .before .before .before .args .map .now) (c .before .before .before .before .args .empty .now) (c .if1 .taken)
+
+-- src/lib.rt:69:9
+record-at-requires : tie.Need-record-at-requires
+record-at-requires c κs = search needs
+
+-- src/lib.rt:70:8
+shared-slice-read-if2 : tie.Need-shared-slice-read-if2
+shared-slice-read-if2 c = search needs
+
+-- src/lib.rt:71:9
+returns-2 : tie.Need-returns-2
+returns-2 c = no-four (c .before .before .before .before .before .before .before .args .table .now) (c .before .before .before .before .before .before .before .args .map .now) (c .before .before .before .before .before .before .before .args .empty .now) (c .before .before .record-at .result .now) (omega (arith, c .before .before .before .if1 .left)) (c .before .before .record-at .ensures .0) (c .if2 .taken)
+
+-- src/lib.rt:73:9
+geometry-of-requires : tie.Need-geometry-of-requires
+geometry-of-requires c κs = search needs
+
+-- src/lib.rt:74:8
+limits-requires : tie.Need-limits-requires
+limits-requires c κs = search needs
+
+-- src/lib.rt:75:9
+returns-3 : tie.Need-returns-3
+returns-3 c =
+    out-of-limits (c .before .before .before .before .before .before .before .before .before .before .args .table .now) (c .before .before .before .before .before .before .before .before .before .before .args .map .now) (c .before .before .before .before .before .before .before .before .before .before .args .empty .now) (geometryOf (c .before .before .geometry-of .result)) (omega (arith, c .before .before .before .before .before .before .if1 .left)) (c .before .before .geometry-of .ensures ∙ ap readGeometry (c .before .before .before .before .before .record-at .ensures .0)) (sym (c .before .limits .ensures) ∙ c .if3 .left)
+
+-- src/lib.rt:77:30
+mul-if4 : tie.Need-mul-if4
+mul-if4 c = omega (arith, limits→ (geometryOf (c .before .before .before .geometry-of .result)) (true-is (sym (c .before .before .limits .ensures) ∙ c .before .if3 .taken)) .most)
+
+-- src/lib.rt:77:29
+cast-if4 : tie.Need-cast-if4
+cast-if4 c = omega (arith, limits→ (geometryOf (c .before .before .before .geometry-of .result)) (true-is (sym (c .before .before .limits .ensures) ∙ c .before .if3 .taken)) .most)
+
+-- src/lib.rt:77:23
+mul-if4-2 : tie.Need-mul-if4-2
+mul-if4-2 c = omega (arith, limits→ (geometryOf (c .before .before .before .geometry-of .result)) (true-is (sym (c .before .before .limits .ensures) ∙ c .before .if3 .taken)) .most)
+
+-- src/lib.rt:78:9
+returns-4 : tie.Need-returns-4
+returns-4 c =
+    wrong-length (c .before .before .before .before .before .before .before .before .before .before .before .before .args .table .now) (c .before .before .before .before .before .before .before .before .before .before .before .before .args .map .now) (c .before .before .before .before .before .before .before .before .before .before .before .before .args .empty .now) (geometryOf (c .before .before .before .before .geometry-of .result)) (omega (arith, c .before .before .before .before .before .before .before .before .if1 .left)) (c .before .before .before .before .geometry-of .ensures ∙ ap readGeometry (c .before .before .before .before .before .before .before .record-at .ensures .0)) (c .if4 .taken)
+
+-- src/lib.rt:80:5
+contents-ok-requires : tie.Need-contents-ok-requires
+contents-ok-requires c κs =
+    (limits→ (geometryOf (c .before .before .before .before .before .before .geometry-of .result)) (true-is (sym (c .before .before .before .before .before .limits .ensures) ∙ c .before .before .before .before .if3 .taken)), c .before .before .if4 .left, no-label (c .before .before .before .before .before .before .before .before .before .before .before .before .before .before .args .table .now) (c .before .before .before .before .before .before .before .before .before .record-at .result .now) (c .before .before .before .before .before .before .before .before .before .record-at .ensures .0) (c .before .before .before .before .before .before .before .if2 .left), c .before .before .before .before .before .before .before .before .before .before .before .before .before .before .pre .0, c .before .before .before .before .before .before .before .before .before .before .before .before .before .before .pre .1)
+
+-- src/lib.rt:62:1
+same-length : tie.Need-same-length
+same-length c = search needs
+
+-- src/lib.rt:62:1
+same-length-2 : tie.Need-same-length-2
+same-length-2 c = search needs
+
+-- src/lib.rt:62:1
+returns-5 : tie.Need-returns-5
+returns-5 c =
+    contents-decide (c .before .before .before .before .before .before .before .before .before .before .before .before .before .before .before .before .before .before .before .args .table .now) (c .before .before .before .before .before .before .before .before .before .before .before .before .before .before .before .before .before .before .before .args .map .now) _ (c .before .before .before .before .before .before .before .before .before .before .before .before .before .before .before .before .before .before .before .args .empty .now) _ (geometryOf (c .before .before .before .before .before .before .before .before .before .before .before .geometry-of .result)) (c .before .before .before .before .contents-ok .result) (limits→ (geometryOf (c .before .before .before .before .before .before .before .before .before .before .before .geometry-of .result)) (true-is (sym (c .before .before .before .before .before .before .before .before .before .before .limits .ensures) ∙ c .before .before .before .before .before .before .before .before .before .if3 .taken)))
+    (c .before .before .before .before .before .before .before .before .before .before .before .geometry-of .ensures ∙ ap readGeometry (c .before .before .before .before .before .before .before .before .before .before .before .before .before .before .record-at .ensures .0)) (c .before .before .before .before .before .before .before .if4 .left) (c .before .before .before .before .contents-ok .ensures)
+
+pub check-spec : {M : Type 1} → statement M
+check-spec =
+    tie.close
+    (tie.spec
+    returns
+    record-at-requires
+    shared-slice-read-if2
+    returns-2
+    geometry-of-requires
+    limits-requires
+    returns-3
+    mul-if4
+    cast-if4
+    mul-if4-2
+    returns-4
+    contents-ok-requires
+    same-length
+    same-length-2
+    returns-5)

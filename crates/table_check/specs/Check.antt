@@ -1,0 +1,59 @@
+-- What the check of a table answers, piece by piece, and of the maps of free tracks and slots that it makes. Assumes nothing.
+use mathlib.Core.Path.{_≡_}
+use Prim.Native.Nat.{ℕ, _<_}
+use mathlib.Core.Bool.{Bool, true, false}
+use mathlib.Core.List.{List, [], _∷_}
+use lib.ListN.{length}
+use Rattle.model.specs.Basics.{zeros}
+use Rattle.model.specs.Model.{Geometry, Volume, free, held, slots, tally, tracks, unused, used}
+use Rattle.rules.specs.Layout.{format4}
+use Rattle.rules.specs.Reading.{chop, read}
+use Rattle.rules.specs.Table.{taken}
+use Rattle.sound.specs.Sound.{Sound}
+use Rattle.tracks.specs.Map.{Shows}
+use Rattle.fields.specs.Records.{slotBytes}
+use Rattle.label_check.specs.Marks.{units}
+use Rattle.table.specs.Labels.{labelsBelow}
+use Rattle.chain.specs.Chain.{chainFrom}
+use Rattle.spare.specs.Spare.{highestSlot}
+
+-- the volume that a table of this geometry is read as
+abbrev pub volumeAt : Geometry → List ℕ → Volume
+volumeAt g t =
+    record { geometry = g; labels = labelsBelow g t (slots g); chain = chainFrom g t (free g (labelsBelow g t (slots g))) 1 }
+
+-- all tracks are free but the label track and the VTOC, all slots but slot 0
+pub record MapsBegun (g : Geometry) (m m′ s s′ : List ℕ) : Type 0 where
+  pub longMap : length m′ ≡ length m
+  pub longSlots : length s′ ≡ length s
+  pub freeTracks : Shows m′ (tracks g) (held g [])
+  pub freeSlots : Shows s′ (slots g) (units (0 ∷ []))
+
+-- where the slots us have a use: the others are zero, and the format 4 tells how many they are and which label is the highest
+pub record Rest (g : Geometry) (t us : List ℕ) : Type 0 where
+  pub zero : (k : ℕ) → k < slots g → tally k us ≡ 0 → slotBytes t k ≡ zeros 140
+  pub four : format4 g (highestSlot t (slots g)) (length (unused (slots g) us)) ≡ slotBytes t 0
+
+pub record RestTold (g : Geometry) (t s : List ℕ) (r : Bool) : Type 0 where
+  pub yes : r ≡ true → (us : List ℕ) → Shows s (slots g) (units us) → Rest g t us
+  pub no : r ≡ false → (us : List ℕ) → Shows s (slots g) (units us) → Rest g t us → ⊥
+
+-- the maps show what the volume holds
+pub record Shown (v : Volume) (m s : List ℕ) : Type 0 where
+  pub freeTracks : Shows m (tracks (v .geometry)) (held (v .geometry) (v .labels))
+  pub freeSlots : Shows s (slots (v .geometry)) (units (used (v .labels) (v .chain)))
+
+-- a table of this geometry is sound, and the maps show what it holds; or it is not
+pub record Contents (g : Geometry) (t m m′ s s′ : List ℕ) (r : Bool) : Type 0 where
+  pub longMap : length m′ ≡ length m
+  pub longSlots : length s′ ≡ length s
+  pub yes : r ≡ true → Sound (chop (slots g) t) (volumeAt g t)
+  pub shown : r ≡ true → Shown (volumeAt g t) m′ s′
+  pub no : r ≡ false → Sound (chop (slots g) t) (volumeAt g t) → ⊥
+
+-- THE CHECK: whether the table is taken, and what is free then
+pub record Checked (t m m′ s s′ : List ℕ) (r : Bool) : Type 0 where
+  pub longMap : length m′ ≡ length m
+  pub longSlots : length s′ ≡ length s
+  pub told : r ≡ taken t
+  pub shown : r ≡ true → Shown (read t) m′ s′
