@@ -42,11 +42,13 @@ below-none n k (x ∷ xs) a u = let i = below-none n k xs (a .1) u in let b = ap
 
 none-below : (n : ℕ) (xs : List ℕ) → ((k : ℕ) → n ≤ k → tally k xs ≡ 0) → All (λ j. j < n) xs
 none-below n [] h = tt
-none-below n (x ∷ xs) h =
-    (elim (decLe n x) [
-      | yes u ↦ absurd (let a = h x u in let b = ap bit (eq-eqb x x refl) in omega arith)
-      | no u ↦ lt-of-not-le u
-    ], none-below n xs (λ k u. let a = h k u in omega arith))
+none-below n (x ∷ xs) h = (
+  elim (decLe n x) [
+    | yes u ↦ absurd (let a = h x u in let b = ap bit (eq-eqb x x refl) in omega arith)
+    | no u ↦ lt-of-not-le u
+  ],
+  none-below n xs (λ k u. let a = h k u in omega arith),
+)
 
 -- a slot whose record has 140 bytes is in the table
 in-table : (rs : List (List ℕ)) (k : ℕ) → length (recordAt rs k) ≡ 140 → k < length rs

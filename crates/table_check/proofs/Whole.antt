@@ -50,9 +50,9 @@ module _ (g : Geometry) (limit : Limits g) (m m₁ m₂ m₃ : List ℕ) (r₁ r
       let k = shows-take m₁ m₂ (tracks g) (g .vtocStart) (g .vtocTracks) [] h f (x .made e) in
       let s = limit .start in
       let p : AllFree m₂ 0 1 = λ t u w.
-          let z = k t (omega arith) in
-          let c = hit-below (run (g .vtocStart) (g .vtocTracks)) t (omega arith) in
-          omega arith
+      let z = k t (omega arith) in
+      let c = hit-below (run (g .vtocStart) (g .vtocTracks)) t (omega arith) in
+      omega arith
       in
       let q = taken-true m₂ m₃ 0 1 r₂ p y in
       shows-take m₂ m₃ (tracks g) 0 1 (run (g .vtocStart) (g .vtocTracks) ∷ []) k p (y .made q)
@@ -80,7 +80,7 @@ module _ (g : Geometry) (t s : List ℕ) (clear : Bool) (count : ℕ) (x : Spare
     made-is : (us : List ℕ) → Shows s (slots g) (units us) → made ≡ format4 g (highestSlot t (slots g)) (length (unused (slots g) us))
     made-is us w =
         let n : count ≡ length (unused (slots g) us) =
-            x .many e ∙ count-unused s (slots g) us (λ k u. let a = w k u in let c = unit-tally k us in omega arith)
+        x .many e ∙ count-unused s (slots g) us (λ k u. let a = w k u in let c = unit-tally k us in omega arith)
         in
         four ∙ ap (λ (k : ℕ). format4 g k count) high ∙ ap (format4 g (highestSlot t (slots g))) n
 

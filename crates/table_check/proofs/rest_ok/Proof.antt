@@ -38,9 +38,11 @@ highest-requires c κs = search needs
 
 -- src/lib.rt:39:16
 four-requires : tie.Need-four-requires
-four-requires c κs =
-    (subst (λ (x : ℕ). x < slots (geometryOf (c .before .before .before .before .before .before .args .g))) (sym (c .highest .ensures)) (highest-below (c .before .before .before .before .before .before .args .table .now) (slots (geometryOf (c .before .before .before .before .before .before .args .g))) (omega (arith, c .before .before .before .before .before .before .pre .0 .least))),
-    omega (arith, c .before .before .spare .ensures .most, c .before .before .before .before .before .before .pre .0 .most), c .before .before .before .before .before .before .pre .0)
+four-requires c κs = (
+  subst (λ (x : ℕ). x < slots (geometryOf (c .before .before .before .before .before .before .args .g))) (sym (c .highest .ensures)) (highest-below (c .before .before .before .before .before .before .args .table .now) (slots (geometryOf (c .before .before .before .before .before .before .args .g))) (omega (arith, c .before .before .before .before .before .before .pre .0 .least))),
+  omega (arith, c .before .before .spare .ensures .most, c .before .before .before .before .before .before .pre .0 .most),
+  c .before .before .before .before .before .before .pre .0,
+)
 
 -- src/lib.rt:40:18
 slice-aggregate-same : tie.Need-slice-aggregate-same
