@@ -16,7 +16,7 @@ use Rattle.rules.specs.Reading.{readGeometry, trackAt}
 use Rattle.rules.specs.Table.{goodName, goodUnit, limits}
 use Rattle.rules.proofs.Valid.{Limits, limits→, →limits}
 use Rattle.fields.specs.Tests.{allAre, goodTen}
-use Rattle.forms.specs.Forms.{extentOk, fourOk, oneOk, threeOk}
+use Rattle.forms.specs.Forms.{extentOk, oneOk, threeOk}
 
 -- a test that implies what is not so is false
 pub refuted : {A : Type 0} (b : Bool) → (T b → A) → (A → ⊥) → false ≡ b
@@ -81,56 +81,6 @@ track-part h i n j r u =
     rw (a, b, c, d, e1, e2, e3)
 
 -- ---- the formats
-
-pub record FourOk (h t : ℕ) (r : List ℕ) : Type 0 where
-  pub id : getD r 44 0 ≡ 0xF4
-  pub count : getD r 59 0 ≡ 0x01
-  pub typed : getD r 105 0 ≡ 0x01
-  pub key : T (allAre 0x04 (part 0 44 r))
-  pub zeros52 : T (allAre 0 (part 52 7 r))
-  pub zeros60 : T (allAre 0 (part 60 2 r))
-  pub zeros66 : T (allAre 0 (part 66 8 r))
-  pub zeros75 : T (allAre 0 (part 75 30 r))
-  pub zeros115 : T (allAre 0 (part 115 25 r))
-  pub vtoc : T (goodTen h t 0 (part 105 10 r))
-
-pub four→ : (h t : ℕ) (r : List ℕ) → T (fourOk h t r) → FourOk h t r
-unfolding fourOk
-four→ h t r p =
-    let p1 = and-r (eqb (getD r 44 0) 0xF4) _ p in
-    let p2 = and-r (eqb (getD r 59 0) 0x01) _ p1 in
-    let p3 = and-r (eqb (getD r 105 0) 0x01) _ p2 in
-    let p4 = and-r (allAre 0x04 (part 0 44 r)) _ p3 in
-    let p5 = and-r (allAre 0 (part 52 7 r)) _ p4 in
-    let p6 = and-r (allAre 0 (part 60 2 r)) _ p5 in
-    let p7 = and-r (allAre 0 (part 66 8 r)) _ p6 in
-    let p8 = and-r (allAre 0 (part 75 30 r)) _ p7 in
-    record {
-      id = eqb-true _ _ (is-true (and-l (eqb (getD r 44 0) 0xF4) _ p));
-      count = eqb-true _ _ (is-true (and-l (eqb (getD r 59 0) 0x01) _ p1));
-      typed = eqb-true _ _ (is-true (and-l (eqb (getD r 105 0) 0x01) _ p2));
-      key = and-l (allAre 0x04 (part 0 44 r)) _ p3;
-      zeros52 = and-l (allAre 0 (part 52 7 r)) _ p4;
-      zeros60 = and-l (allAre 0 (part 60 2 r)) _ p5;
-      zeros66 = and-l (allAre 0 (part 66 8 r)) _ p6;
-      zeros75 = and-l (allAre 0 (part 75 30 r)) _ p7;
-      zeros115 = and-l (allAre 0 (part 115 25 r)) _ p8;
-      vtoc = and-r (allAre 0 (part 115 25 r)) _ p8;
-    }
-
--- all but the last
-pub four-last : (h t : ℕ) (r : List ℕ) → getD r 44 0 ≡ 0xF4 → getD r 59 0 ≡ 0x01 → getD r 105 0 ≡ 0x01 → allAre 0x04 (part 0 44 r) ≡ true
-    → allAre 0 (part 52 7 r) ≡ true → allAre 0 (part 60 2 r) ≡ true → allAre 0 (part 66 8 r) ≡ true → allAre 0 (part 75 30 r) ≡ true
-    → allAre 0 (part 115 25 r) ≡ true → goodTen h t 0 (part 105 10 r) ≡ fourOk h t r
-unfolding fourOk
-four-last h t r a b c d e f i j k =
-    rw (eq-eqb (getD r 44 0) 0xF4 a, eq-eqb (getD r 59 0) 0x01 b, eq-eqb (getD r 105 0) 0x01 c, d, e, f, i, j, k)
-
-pub →four : (h t : ℕ) (r : List ℕ) → FourOk h t r → T (fourOk h t r)
-→four h t r x =
-    subst T
-    (four-last h t r (x .id) (x .count) (x .typed) (is-true (x .key)) (is-true (x .zeros52)) (is-true (x .zeros60)) (is-true (x .zeros66)) (is-true (x .zeros75)) (is-true (x .zeros115)))
-    (x .vtoc)
 
 pub record OneOk (r : List ℕ) : Type 0 where
   pub least : 1 ≤ getD r 59 0

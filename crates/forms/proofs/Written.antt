@@ -1,6 +1,6 @@
 -- A record that passes its tests is what the layout writes for what is read from it, and what is written passes the tests.
 -- Assumes nothing.
-use mathlib.Core.Path.{_≡_, refl, sym, ap, ap₂, _∙_, subst}
+use mathlib.Core.Path.{_≡_, sym, ap, ap₂, _∙_, subst}
 use mathlib.Core.List.{List, [], _∷_, _++_, append-assoc}
 use Prim.Native.Nat.{ℕ, suc, _+_, _-_, _*_, _≤_, _<_}
 use native.Mathlib.Nat.{lt-of-not-le, zero-add}
@@ -10,17 +10,17 @@ use borrow.Author.Tests.{le-ltb, lt-ltb, ltb-false, ltb-true}
 use lib.Dec.{T, ltb}
 use lib.ListN.{length, getD, take, drop, length-append, length-map}
 use lib.Seq.{drop-at, take-all, take-at}
-use Rattle.model.specs.Basics.{be2, fill, get2, get3, part, upFrom, zeros}
-use Rattle.model.specs.Model.{Extent, Geometry, Label, extent, run, tracks}
+use Rattle.model.specs.Basics.{fill, get3, part, upFrom, zeros}
+use Rattle.model.specs.Model.{Extent, Geometry, Label, tracks}
 use Rattle.model.proofs.Lists.{All, All-at, by, length-upFrom}
-use Rattle.rules.specs.Layout.{extentBytes, extentPart, extentsBytes, fields1, fields3, fields4, format1, format3, format4, link, whole}
-use Rattle.rules.specs.Reading.{readExtent, readExtents, readGeometry, readLabel, recordAt, slotAt}
+use Rattle.rules.specs.Layout.{extentBytes, extentPart, extentsBytes, fields1, fields3, format1, format3, link, whole}
+use Rattle.rules.specs.Reading.{readExtent, readExtents, readLabel, recordAt, slotAt}
 use Rattle.rules.specs.Table.{goodName, goodUnit}
-use Rattle.rules.proofs.Bytes.{be2-back, be3-back}
-use Rattle.rules.proofs.Fields.{Lengths, byte-at, field-at, length-whole}
+use Rattle.rules.proofs.Bytes.{be3-back}
+use Rattle.rules.proofs.Fields.{Lengths, byte-at, field-at}
 use Rattle.rules.proofs.Keyed.{getD-map-range}
-use Rattle.rules.proofs.LabelBack.{extent-back, length-1, length-3, length-link, lengths1, lengths3, lens1, lens3}
-use Rattle.rules.proofs.Valid.{GoodExtent, GoodLabel, Limits}
+use Rattle.rules.proofs.LabelBack.{length-1, length-3, lengths1, lengths3, lens1, lens3}
+use Rattle.rules.proofs.Valid.{GoodExtent, GoodLabel}
 use Rattle.fields.specs.Records.{Bytes}
 use Rattle.fields.specs.Tests.{allAre, goodTen}
 use Rattle.fields.proofs.Bytes10.{ten-good, ten-passes, ten-written, ten→}
@@ -29,8 +29,8 @@ use Rattle.fields.proofs.Slots.{length-part}
 use Rattle.fields.proofs.Tens.{extent-length, in-format1, in-format3, in-rest3}
 use Rattle.forms.specs.Forms.{extentOk}
 use Rattle.forms.proofs.Blocks.{Stand, gather1, gather3, gather7, noExtent, spread1, spread3, spread7, tenFor}
-use Rattle.forms.proofs.Cutting.{alike-at, alike-is, be2-at, be3-at, bytes-part, one-at, whole-cut}
-use Rattle.forms.proofs.Sound.{FourOk, OneOk, ThreeOk, byte-part, in-use, not-in-use}
+use Rattle.forms.proofs.Cutting.{alike-at, alike-is, be3-at, bytes-part, one-at, whole-cut}
+use Rattle.forms.proofs.Sound.{OneOk, ThreeOk, in-use, not-in-use}
 
 -- ---- extents: tested, they stand as they are written; written, they pass
 
@@ -274,84 +274,3 @@ module _ (g : Geometry) (l : Label) (h : GoodLabel g l) where
         key = alike-is 0x03 4 (part 0 4 (whole w)) (field-at 0 lengths3 w (lens3 g l) (omega arith));
         tail = alike-is 0 5 (part 135 5 (whole w)) (field-at 4 lengths3 w (lens3 g l) (omega arith));
       }
-
--- ---- format 4
-
-abbrev lengths4 : List ℕ
-lengths4 = 44 ∷ 1 ∷ 5 ∷ 2 ∷ 7 ∷ 1 ∷ 2 ∷ 2 ∷ 2 ∷ 8 ∷ 1 ∷ 30 ∷ 10 ∷ 25 ∷ []
-
-lens4 : (g : Geometry) (k n : ℕ) → Lengths lengths4 (fields4 g k n)
-lens4 g k n = (refl, (refl, (length-link g k, (refl, (refl, (refl, (refl, (refl, (refl, (refl, (refl, (refl, (refl, (refl, tt))))))))))))))
-
-pub length-4 : (g : Geometry) (k n : ℕ) → length (format4 g k n) ≡ 140
-unfolding format4
-length-4 g k n = length-whole lengths4 (fields4 g k n) (lens4 g k n)
-
--- FORMAT 4: the geometry read is written as the record, with what stands at 45 to 51
-pub written4 : (r : List ℕ) → length r ≡ 140 → Bytes r → FourOk (readGeometry r .heads) (tracks (readGeometry r)) r
-    → (k n : ℕ) → link (readGeometry r) k ≡ part 45 5 r → get2 r 50 ≡ n → format4 (readGeometry r) k n ≡ r
-unfolding format4 readGeometry
-written4 r len bytes ok k n linked counted =
-    let g = readGeometry r in
-    let y = part 105 10 r in
-    let p0 = alike-at 0x04 0 44 r (omega arith) (ok .key) in
-    let p1 : 0xF4 ∷ [] ≡ part 44 1 r = ap (λ (z : ℕ). z ∷ []) (sym (ok .id)) ∙ one-at r 44 (omega arith) in
-    let p3 : be2 n ≡ part 50 2 r = ap be2 (sym counted) ∙ be2-at r 50 (omega arith) bytes in
-    let p4 = alike-at 0 52 7 r (omega arith) (ok .zeros52) in
-    let p5 : 0x01 ∷ [] ≡ part 59 1 r = ap (λ (z : ℕ). z ∷ []) (sym (ok .count)) ∙ one-at r 59 (omega arith) in
-    let p6 = alike-at 0 60 2 r (omega arith) (ok .zeros60) in
-    let p7 = be2-at r 62 (omega arith) bytes in
-    let p8 = be2-at r 64 (omega arith) bytes in
-    let p9 = alike-at 0 66 8 r (omega arith) (ok .zeros66) in
-    let pa = one-at r 74 (omega arith) in
-    let pb = alike-at 0 75 30 r (omega arith) (ok .zeros75) in
-    let t : getD y 0 0 ≡ 0x01 = byte-part 105 10 0 r (omega arith) ∙ ok .typed in
-    let w = ten-written g 0 y (length-part 105 10 r (omega arith)) (bytes-part 105 10 r bytes) (ten→ (g .heads) (tracks g) 0 y (ok .vtoc)) in
-    let pc : extentBytes g 0 (extent 0x01 (run (g .vtocStart) (g .vtocTracks))) ≡ y
-    = ap (λ (z : ℕ). extentBytes g 0 (extent z (run (g .vtocStart) (g .vtocTracks)))) (sym t) ∙ w in
-    let pd = alike-at 0 115 25 r (omega arith) (ok .zeros115) in
-    ap whole (λ i. p0 i ∷ p1 i ∷ linked i ∷ p3 i ∷ p4 i ∷ p5 i ∷ p6 i ∷ p7 i ∷ p8 i ∷ p9 i ∷ pa i ∷ pb i ∷ pc i ∷ pd i ∷ []) ∙ whole-cut lengths4 0 r len
-
-module _ (g : Geometry) (lim : Limits g) (k n : ℕ) where
-  abbrev w : List (List ℕ)
-  w = fields4 g k n
-
-  abbrev l4 : Lengths lengths4 w
-  l4 = lens4 g k n
-
-  pub link4-back : part 45 5 (format4 g k n) ≡ link g k
-  unfolding format4
-  link4-back = field-at 2 lengths4 w l4 (omega arith)
-
-  pub empty-back : get2 (format4 g k n) 50 ≡ n
-  unfolding format4
-  empty-back = rw (byte-at lengths4 w l4 50, byte-at lengths4 w l4 51) (be2-back n)
-
-  vtoc-good : GoodExtent g (extent 0x01 (run (g .vtocStart) (g .vtocTracks)))
-  vtoc-good = record { typed = tt; full = lim .vtoc; ends = lim .ends }
-
-  pub four-back : FourOk (g .heads) (tracks g) (format4 g k n)
-  unfolding format4
-  four-back =
-      record {
-        id = byte-at lengths4 w l4 44;
-        count = byte-at lengths4 w l4 59;
-        typed = byte-at lengths4 w l4 105;
-        key = alike-is 0x04 44 (part 0 44 (whole w)) (field-at 0 lengths4 w l4 (omega arith));
-        zeros52 = alike-is 0 7 (part 52 7 (whole w)) (field-at 4 lengths4 w l4 (omega arith));
-        zeros60 = alike-is 0 2 (part 60 2 (whole w)) (field-at 6 lengths4 w l4 (omega arith));
-        zeros66 = alike-is 0 8 (part 66 8 (whole w)) (field-at 9 lengths4 w l4 (omega arith));
-        zeros75 = alike-is 0 30 (part 75 30 (whole w)) (field-at 11 lengths4 w l4 (omega arith));
-        zeros115 = alike-is 0 25 (part 115 25 (whole w)) (field-at 13 lengths4 w l4 (omega arith));
-        vtoc = subst (λ (y : List ℕ). T (goodTen (g .heads) (tracks g) 0 y)) (sym (field-at 12 lengths4 w l4 (omega arith)))
-            (ten-passes g (lim .heads) 0 (extent 0x01 (run (g .vtocStart) (g .vtocTracks))) vtoc-good);
-      }
-
-  pub geometry-back : readGeometry (format4 g k n) ≡ g
-  unfolding readGeometry format4
-  geometry-back =
-      let c : get2 (whole w) 62 ≡ g .cylinders = rw (byte-at lengths4 w l4 62, byte-at lengths4 w l4 63) (be2-back (g .cylinders)) in
-      let h : get2 (whole w) 64 ≡ g .heads = rw (byte-at lengths4 w l4 64, byte-at lengths4 w l4 65) (be2-back (g .heads)) in
-      let x : readExtent (get2 (whole w) 64) (part 105 10 (whole w)) ≡ extent 0x01 (run (g .vtocStart) (g .vtocTracks))
-      = ap₂ readExtent h (field-at 12 lengths4 w l4 (omega arith)) ∙ extent-back g 0 (extent 0x01 (run (g .vtocStart) (g .vtocTracks))) (lim .vtoc) in
-      λ i. record { cylinders = c i; heads = h i; records = byte-at lengths4 w l4 74 i; vtocStart = x i .over .start; vtocTracks = x i .over .count }

@@ -15,20 +15,6 @@ abbrev pub geometryOf : Numbers → Geometry
 geometryOf n =
     record { cylinders = n .cylinders; heads = n .heads; records = n .records; vtocStart = n .start; vtocTracks = n .tracks }
 
--- format 4 but for bytes 45 to 51
-unfoldable pub fourOk : ℕ → ℕ → List ℕ → Bool
-fourOk h t r =
-    eqb (getD r 44 0) 0xF4
-    && (eqb (getD r 59 0) 0x01
-    && (eqb (getD r 105 0) 0x01
-    && (allAre 0x04 (part 0 44 r)
-    && (allAre 0 (part 52 7 r)
-    && (allAre 0 (part 60 2 r)
-    && (allAre 0 (part 66 8 r)
-    && (allAre 0 (part 75 30 r)
-    && (allAre 0 (part 115 25 r)
-    && goodTen h t 0 (part 105 10 r)))))))))
-
 -- format 1 but for its id, its extents and its link
 unfoldable pub oneOk : List ℕ → Bool
 oneOk r = within 1 16 (getD r 59 0) && (goodUnit (getD r 94 0) (get3 r 95) && goodName (part 0 44 r))

@@ -4,7 +4,7 @@ ghost use Prim.Native.Nat.{_+_, _-_, _*_, _≤_, _<_};
 ghost use lib.ListN.{length};
 ghost use Rattle.rules.specs.Reading.{readGeometry};
 ghost use Rattle.rules.specs.Table.{goodUnit, limits};
-ghost use Rattle.forms.specs.Forms.{extentOk, fourOk, geometryOf, oneOk, threeOk};
+ghost use Rattle.forms.specs.Forms.{extentOk, geometryOf, oneOk, threeOk};
 
 // ---- the geometry
 
@@ -91,43 +91,6 @@ pub fn limits(g: Geometry) -> bool
         return false;
     }
     n <= 468
-}
-
-// ---- format 4
-
-// Whether a format 4 holds what it must, all but bytes 45 to 51: t tracks, h to a cylinder.
-pub fn four_ok(rec: &[u8], h: u32, t: u32) -> bool
-    requires { ⌜ (length (now rec) ≡ 140) × (h < 65536) ⌝ }
-    ensures { λ r. ⌜ r ≡ fourOk h t (now (rec .entry)) ⌝ }
-{
-    if rec[44] != 0xF4 {
-        return false;
-    }
-    if rec[59] != 0x01 {
-        return false;
-    }
-    if rec[105] != 0x01 {
-        return false;
-    }
-    if fields::part_is(rec, 0, 44, 0x04) {} else {
-        return false;
-    }
-    if fields::part_is(rec, 52, 7, 0) {} else {
-        return false;
-    }
-    if fields::part_is(rec, 60, 2, 0) {} else {
-        return false;
-    }
-    if fields::part_is(rec, 66, 8, 0) {} else {
-        return false;
-    }
-    if fields::part_is(rec, 75, 30, 0) {} else {
-        return false;
-    }
-    if fields::part_is(rec, 115, 25, 0) {} else {
-        return false;
-    }
-    fields::good_ten(&rec[105..115], 0, h, t)
 }
 
 // ---- format 1
