@@ -1,6 +1,7 @@
+-- `probe::vtoc_probe_check` meets its contract: each return gives the number that the tests before it leave. Assumes nothing.
 use mathlib.Core.Path.{sym, _∙_}
-use Rattle.probe.proofs.Numbers.{few, many, odd, sound, unsound}
 use borrow.Author.Needs.{needs}
+use Rattle.probe.proofs.Numbers.{few, many, odd, sound, unsound}
 use Rattle.probe.proofs.vtoc_probe_check.Statement.{statement}
 use Rattle.probe.proofs.vtoc_probe_check.Tie as tie
 
