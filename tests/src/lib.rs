@@ -8,5 +8,8 @@ pub mod coverage;
 pub mod desk;
 pub mod generate;
 pub mod ledger;
+#[cfg(feature = "proved")]
+pub mod proved;
 pub mod reference;
+pub mod timing;
 pub mod volumes;

@@ -1,29 +1,14 @@
 //! How long the reference takes per call, on a small, a medium and two large volumes.
 
 use std::hint::black_box;
-use std::time::Instant;
 
 use vtoc_tests::reference::{
     allocate, extend, listing, lspace, obtain, release, rename, scratch, taken,
 };
+use vtoc_tests::timing::time;
 use vtoc_tests::volumes::{
     many_extents, many_names, medium, name, set_name, small, ANSWER, ATTRIBUTES,
 };
-
-/// Microseconds of one run of `work`: the best of 60 batches, each of some 3 ms, for a
-/// shared machine is often slow and never too fast.
-fn time(mut work: impl FnMut()) -> f64 {
-    let start = Instant::now();
-    work();
-    let once = start.elapsed().as_secs_f64();
-    let runs = ((0.003 / once.max(1e-8)) as u32).clamp(1, 100_000);
-    let mut batch = || {
-        let start = Instant::now();
-        (0..runs).for_each(|_| work());
-        start.elapsed().as_secs_f64() / f64::from(runs)
-    };
-    (0..60).map(|_| batch()).fold(f64::MAX, f64::min) * 1e6
-}
 
 fn accepted(result: u32) {
     assert_eq!(black_box(result), 0);

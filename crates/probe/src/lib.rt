@@ -1,0 +1,27 @@
+// The check of a table for programs in C or Rust that test it: the caller lends the table and nothing else.
+ghost use mathlib.Core.Path.{_≡_};
+ghost use Rattle.probe.specs.Number.{checkNumber};
+
+// 0 where the table is taken, 2 where its length is not 140 times 3 to 468, else 3.
+#[no_mangle]
+pub extern "C" fn vtoc_probe_check(table: &[u8]) -> u32
+    ensures { λ r. ⌜ r ≡ checkNumber (now (table .entry)) ⌝ }
+{
+    let len = table.len();
+    if len % 140 != 0 {
+        return 2;
+    }
+    let n = len / 140;
+    if n < 3 {
+        return 2;
+    }
+    if n > 468 {
+        return 2;
+    }
+    let mut map = [0u64; 1024];
+    let mut empty = [0u64; 8];
+    if table_check::check(table, &mut map, &mut empty) {
+        return 0;
+    }
+    3
+}

@@ -1,0 +1,34 @@
+//! Times of short work on a shared machine, which is often slow and never too fast.
+
+use std::time::Instant;
+
+const BATCHES: usize = 60;
+
+/// Microseconds of one run of `work`: the best of 60 batches, each of some 3 ms.
+pub fn time(mut work: impl FnMut()) -> f64 {
+    let runs = runs_in_batch(&mut work);
+    (0..BATCHES).map(|_| batch(&mut work, runs)).fold(f64::MAX, f64::min)
+}
+
+/// The same for two works whose batches take turns, so that both meet the same machine.
+pub fn time_both(mut one: impl FnMut(), mut other: impl FnMut()) -> [f64; 2] {
+    let (one_runs, other_runs) = (runs_in_batch(&mut one), runs_in_batch(&mut other));
+    let mut best = [f64::MAX; 2];
+    for _ in 0..BATCHES {
+        best[0] = best[0].min(batch(&mut one, one_runs));
+        best[1] = best[1].min(batch(&mut other, other_runs));
+    }
+    best
+}
+
+fn runs_in_batch(work: &mut impl FnMut()) -> u32 {
+    let once = batch(work, 1) * 1e-6;
+    ((0.003 / once.max(1e-8)) as u32).clamp(1, 100_000)
+}
+
+/// Microseconds of one of `runs` runs.
+fn batch(work: &mut impl FnMut(), runs: u32) -> f64 {
+    let start = Instant::now();
+    (0..runs).for_each(|_| work());
+    start.elapsed().as_secs_f64() * 1e6 / f64::from(runs)
+}
