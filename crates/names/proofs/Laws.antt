@@ -168,7 +168,7 @@ pub tag-end : (tags : List ℕ) (x i : ℕ) (b : Bool) → length tags ≤ i →
 unfolding hasTag
 tag-end tags x i b h = rw (drop-of-length-le tags {i = i} h) (or-false b)
 
-pub tag-turn : (name : List ℕ) (i : ℕ) → i < length name → tagFrom (i + 1) (drop i name) ≡ getD name i 0 * ((i + 1) * 40503 % 65536) + tagFrom (i + 1 + 1) (drop (i + 1) name)
+pub tag-turn : (name : List ℕ) (i : ℕ) → i < length name → tagFrom (i + 1) (drop i name) ≡ getD name i 0 * ((i + 1) * 27245 % 65521) + tagFrom (i + 1 + 1) (drop (i + 1) name)
 unfolding tagFrom
 tag-turn name i h = let e : i + 1 + 1 ≡ suc (i + 1) = omega arith in rw (e, drop-cons name i 0 h, add-one)
 

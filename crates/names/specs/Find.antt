@@ -55,7 +55,7 @@ distinct t n = distinctFrom t 0 n
 
 unfoldable pub tagFrom : ℕ → List ℕ → ℕ
 tagFrom i [] = 0
-tagFrom i (b ∷ bs) = b * (i * 40503 % 65536) + tagFrom (suc i) bs
+tagFrom i (b ∷ bs) = b * (i * 27245 % 65521) + tagFrom (suc i) bs
 
 unfoldable pub tagOf : List ℕ → ℕ
 tagOf name = tagFrom 1 name % 65536

@@ -40,9 +40,9 @@ pub fn find(table: &[u8], n: usize, name: &[u8]) -> Found
 // What character number i adds to a name's tag.
 fn weighed(b: u8, i: u32) -> u32
     requires { ⌜ i < 100 ⌝ }
-    ensures { λ r. ⌜ (r ≡ b * (i * 40503 % 65536)) × (r ≤ 16711425) ⌝ }
+    ensures { λ r. ⌜ (r ≡ b * (i * 27245 % 65521)) × (r ≤ 16711425) ⌝ }
 {
-    fields::wide(b) * (i * 40503 % 65536)
+    fields::wide(b) * (i * 27245 % 65521)
 }
 
 // A number made of a name, so that most names that differ are told apart by one comparison.

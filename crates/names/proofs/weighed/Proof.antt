@@ -21,15 +21,15 @@ mul-result c = search needs
 mul-result-2 : tie.Need-mul-result-2
 mul-result-2 c =
     let w : c .wide .result ≤ 255 = omega arith in
-    let r : c .before .args .i * 40503 % 65536 ≤ 65535 = omega arith in
+    let r : c .before .args .i * 27245 % 65521 ≤ 65535 = omega arith in
     omega (arith, mul-le-mul w r)
 
 -- src/lib.rt:43:1
 returns : tie.Need-returns
 returns c =
     let w : c .wide .result ≤ 255 = omega arith in
-    let r : c .before .args .i * 40503 % 65536 ≤ 65535 = omega arith in
-    (ap (λ (x : ℕ). x * (c .before .args .i * 40503 % 65536)) (c .wide .ensures .0), omega (arith, mul-le-mul w r))
+    let r : c .before .args .i * 27245 % 65521 ≤ 65535 = omega arith in
+    (ap (λ (x : ℕ). x * (c .before .args .i * 27245 % 65521)) (c .wide .ensures .0), omega (arith, mul-le-mul w r))
 
 pub weighed-spec : {M : Type 1} → statement M
 weighed-spec = tie.close (tie.spec wide-requires mul-result mul-result-2 returns)
