@@ -24,7 +24,7 @@ use Rattle.table.proofs.Scan.{below-next}
 use Rattle.listing.specs.Text.{Line, Written}
 use Rattle.listing.proofs.Decimals.{then, write-none}
 use Rattle.listing.proofs.Fields.{line-length}
-use Rattle.vtlist.specs.Whole.{spanLine}
+use Rattle.table_list.specs.Whole.{spanLine}
 
 -- ---- a line, written behind what is there
 

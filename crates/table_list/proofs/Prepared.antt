@@ -34,8 +34,8 @@ use Rattle.listing.specs.Text.{Line, Written, volumeText}
 use Rattle.listing.proofs.Decimals.{then}
 use Rattle.listing.proofs.Extents.{good-proper, tracks-most}
 use Rattle.listing.proofs.Volumes.{volume-text}
-use Rattle.vtlist.specs.Whole.{Listable, Ready}
-use Rattle.vtlist.proofs.Laws.{reads, widen}
+use Rattle.table_list.specs.Whole.{Listable, Ready}
+use Rattle.table_list.proofs.Laws.{reads, widen}
 
 -- ---- a taken table
 

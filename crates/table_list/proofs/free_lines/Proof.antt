@@ -1,15 +1,15 @@
-use Rattle.vtlist.proofs.Laws.{FreeSoFar, free-done, free-next, free-start, run-on}
+use Rattle.table_list.proofs.Laws.{FreeSoFar, free-done, free-next, free-start, run-on}
 use lib.ListN.{length}
 use native.Mathlib.Omega.{arith}
 use Prim.Native.Nat.{ℕ, _+_, _-_, _*_, _≤_}
 use mathlib.Core.Path.{_≡_, refl, sym, ap, _∙_}
 use borrow.Author.Needs.{needs}
-use Rattle.vtlist.proofs.free_lines.Statement.{statement}
-use Rattle.vtlist.proofs.free_lines.Tie as tie
-use Rattle.vtlist.proofs.free_lines.Reads as reads
-use Rattle.vtlist.proofs.free_lines.Lts as lts
+use Rattle.table_list.proofs.free_lines.Statement.{statement}
+use Rattle.table_list.proofs.free_lines.Tie as tie
+use Rattle.table_list.proofs.free_lines.Reads as reads
+use Rattle.table_list.proofs.free_lines.Lts as lts
 use Rattle.tracks.proofs.next_run.Reads as next-run-reads
-use Rattle.vtlist.proofs.put_free.Reads as put-free-reads
+use Rattle.table_list.proofs.put_free.Reads as put-free-reads
 
 abbrev Inv-loop : tie.InvT-loop
 Inv-loop map n out₀ at p₀ t₀ out p t = (t ≤ n) × (length out ≡ length out₀) × FreeSoFar map n at out₀ out p t

@@ -1,14 +1,14 @@
 use native.Mathlib.Omega.{arith}
 use Rattle.forms.specs.Forms.{geometryOf}
-use Rattle.vtlist.proofs.Labelled.{product-fits, product-most, distance-most, third-so}
+use Rattle.table_list.proofs.Labelled.{product-fits, product-most, distance-most, third-so}
 use borrow.Author.Needs.{needs}
-use Rattle.vtlist.proofs.third.Statement.{statement}
-use Rattle.vtlist.proofs.third.Tie as tie
-use Rattle.vtlist.proofs.third.Reads as reads
-use Rattle.vtlist.proofs.third.Lts as lts
+use Rattle.table_list.proofs.third.Statement.{statement}
+use Rattle.table_list.proofs.third.Tie as tie
+use Rattle.table_list.proofs.third.Reads as reads
+use Rattle.table_list.proofs.third.Lts as lts
 use Rattle.fields.proofs.track_at.Reads as track-at-reads
 use Rattle.fields.proofs.wide.Reads as wide-reads
-use Rattle.vtlist.proofs.less.Reads as less-reads
+use Rattle.table_list.proofs.less.Reads as less-reads
 
 -- src/lib.rt:67:9
 track-at-requires : tie.Need-track-at-requires

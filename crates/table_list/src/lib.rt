@@ -15,7 +15,7 @@ ghost use Rattle.forms.specs.Forms.{geometryOf};
 ghost use Rattle.listing.specs.Text.{Written, dataText};
 ghost use Rattle.label_check.specs.Marks.{labelAt};
 ghost use Rattle.table.specs.Labels.{atSlot, labelsBelow};
-ghost use Rattle.vtlist.specs.Whole.{Listable, Ready, spanLine};
+ghost use Rattle.table_list.specs.Whole.{Listable, Ready, spanLine};
 
 // ---- free extents
 
@@ -159,7 +159,7 @@ fn good_length(table: &[u8]) -> bool
 // Writes the listing of any table, taken or not, and gives back its length. The maps are room to work in.
 pub fn list(table: &[u8], map: &mut [u64], empty: &mut [u64], out: &mut [u8]) -> usize
     requires { ⌜ (length (now map) ≡ 1024) × (length (now empty) ≡ 8) × (1000000 ≤ length (now out)) ⌝ }
-    ensures { λ r. ⌜ (length (now (out .exit)) ≡ length (now (out .entry))) × (take r (now (out .exit)) ≡ listing (now (table .entry))) ⌝ }
+    ensures { λ r. ⌜ (length (now (out .exit)) ≡ length (now (out .entry))) × (take r (now (out .exit)) ≡ listing (now (table .entry))) × (r ≤ 1000000) ⌝ }
 {
     if good_length(table) {} else {
         return listing::refusal_line(out, 2);

@@ -16,7 +16,7 @@ use Rattle.fields.proofs.Slots.{chop-slot}
 use Rattle.label_check.specs.Marks.{labelAt}
 use Rattle.listing.specs.Text.{Proper, dataText}
 use Rattle.listing.proofs.Volumes.{data-text}
-use Rattle.vtlist.specs.Whole.{Listable}
+use Rattle.table_list.specs.Whole.{Listable}
 
 -- a slot's number, before 1 is taken off
 pub product-most : (a r b : ℕ) → a ≤ 65535 * 255 + 65535 → r ≤ 255 → b ≤ 255 → a * r + b < 4294967296

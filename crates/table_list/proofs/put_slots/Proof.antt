@@ -1,10 +1,10 @@
 use Rattle.rules.specs.Listing.{slotLine}
-use Rattle.vtlist.proofs.Laws.{placed-64}
+use Rattle.table_list.proofs.Laws.{placed-64}
 use borrow.Author.Needs.{needs}
-use Rattle.vtlist.proofs.put_slots.Statement.{statement}
-use Rattle.vtlist.proofs.put_slots.Tie as tie
-use Rattle.vtlist.proofs.put_slots.Reads as reads
-use Rattle.vtlist.proofs.put_slots.Lts as lts
+use Rattle.table_list.proofs.put_slots.Statement.{statement}
+use Rattle.table_list.proofs.put_slots.Tie as tie
+use Rattle.table_list.proofs.put_slots.Reads as reads
+use Rattle.table_list.proofs.put_slots.Lts as lts
 use Rattle.listing.proofs.slot_line.Reads as slot-line-reads
 
 -- src/lib.rt:115:32

@@ -2,12 +2,12 @@ use lib.Seq.{length-take-le}
 use lib.ListN.{take, length-take}
 use native.Mathlib.Omega.{arith}
 use Rattle.listing.specs.Text.{dataText}
-use Rattle.vtlist.proofs.Laws.{placed-64}
+use Rattle.table_list.proofs.Laws.{placed-64}
 use borrow.Author.Needs.{needs}
-use Rattle.vtlist.proofs.put_data.Statement.{statement}
-use Rattle.vtlist.proofs.put_data.Tie as tie
-use Rattle.vtlist.proofs.put_data.Reads as reads
-use Rattle.vtlist.proofs.put_data.Lts as lts
+use Rattle.table_list.proofs.put_data.Statement.{statement}
+use Rattle.table_list.proofs.put_data.Tie as tie
+use Rattle.table_list.proofs.put_data.Reads as reads
+use Rattle.table_list.proofs.put_data.Lts as lts
 
 slice-aggregate-name : tie.Need-slice-aggregate-name
 slice-aggregate-name c = let l = c .before .before .before .pre .0 in simp length-take (omega arith)

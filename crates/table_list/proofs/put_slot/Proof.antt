@@ -1,14 +1,14 @@
 use native.Mathlib.Omega.{arith}
 use Rattle.forms.specs.Forms.{geometryOf}
-use Rattle.vtlist.specs.Whole.{Listable}
-use Rattle.vtlist.proofs.Laws.{is-label, label-of, none-at, not-label, one-at}
+use Rattle.table_list.specs.Whole.{Listable}
+use Rattle.table_list.proofs.Laws.{is-label, label-of, none-at, not-label, one-at}
 use borrow.Author.Needs.{needs}
-use Rattle.vtlist.proofs.put_slot.Statement.{statement}
-use Rattle.vtlist.proofs.put_slot.Tie as tie
-use Rattle.vtlist.proofs.put_slot.Reads as reads
-use Rattle.vtlist.proofs.put_slot.Lts as lts
+use Rattle.table_list.proofs.put_slot.Statement.{statement}
+use Rattle.table_list.proofs.put_slot.Tie as tie
+use Rattle.table_list.proofs.put_slot.Reads as reads
+use Rattle.table_list.proofs.put_slot.Lts as lts
 use Rattle.fields.proofs.record_at.Reads as record-at-reads
-use Rattle.vtlist.proofs.put_label.Reads as put-label-reads
+use Rattle.table_list.proofs.put_label.Reads as put-label-reads
 
 -- src/lib.rt:86:9
 record-at-requires : tie.Need-record-at-requires

@@ -3,18 +3,18 @@ use native.Mathlib.Omega.{arith}
 use Rattle.forms.specs.Forms.{geometryOf}
 use Rattle.model.proofs.Lists.{true-is}
 use Rattle.rules.specs.Reading.{readGeometry}
-use Rattle.vtlist.proofs.Prepared.{good-long, is-taken, not-taken, ready, wrong-length}
+use Rattle.table_list.proofs.Prepared.{good-long, is-taken, not-taken, ready, wrong-length}
 use borrow.Author.Needs.{needs}
-use Rattle.vtlist.proofs.list.Statement.{statement}
-use Rattle.vtlist.proofs.list.Tie as tie
-use Rattle.vtlist.proofs.list.Reads as reads
-use Rattle.vtlist.proofs.list.Lts as lts
+use Rattle.table_list.proofs.list.Statement.{statement}
+use Rattle.table_list.proofs.list.Tie as tie
+use Rattle.table_list.proofs.list.Reads as reads
+use Rattle.table_list.proofs.list.Lts as lts
 use Rattle.fields.proofs.record_at.Reads as record-at-reads
 use Rattle.forms.proofs.geometry_of.Reads as geometry-of-reads
 use Rattle.listing.proofs.refusal_line.Reads as refusal-line-reads
 use Rattle.table_check.proofs.check.Reads as check-reads
-use Rattle.vtlist.proofs.good_length.Reads as good-length-reads
-use Rattle.vtlist.proofs.list_taken.Reads as list-taken-reads
+use Rattle.table_list.proofs.good_length.Reads as good-length-reads
+use Rattle.table_list.proofs.list_taken.Reads as list-taken-reads
 
 -- src/lib.rt:156:8
 good-length-requires : tie.Need-good-length-requires
@@ -30,7 +30,7 @@ same-length c = search needs
 
 -- src/lib.rt:157:9
 returns : tie.Need-returns
-returns c = (c .before .before .refusal-line .ensures .long, c .before .before .refusal-line .ensures .text ∙ wrong-length (c .before .before .before .before .before .before .before .before .before .before .args .table .now) (sym (c .before .before .before .before .before .good-length .ensures) ∙ c .before .before .before .before .if1 .left))
+returns c = (c .before .before .refusal-line .ensures .long, c .before .before .refusal-line .ensures .text ∙ wrong-length (c .before .before .before .before .before .before .before .before .before .before .args .table .now) (sym (c .before .before .before .before .before .good-length .ensures) ∙ c .before .before .before .before .if1 .left), omega (arith, c .before .before .refusal-line .ensures .end))
 
 -- src/lib.rt:159:8
 check-requires : tie.Need-check-requires
@@ -54,7 +54,7 @@ same-length-4 c = search needs
 
 -- src/lib.rt:160:9
 returns-2 : tie.Need-returns-2
-returns-2 c = (c .before .before .refusal-line2 .ensures .long, c .before .before .refusal-line2 .ensures .text ∙ not-taken (c .before .before .before .before .before .before .before .before .before .before .before .before .before .before .before .before .before .before .args .table .now) (sym (c .before .before .before .before .before .before .before .before .before .before .before .before .before .good-length .ensures) ∙ c .before .before .before .before .before .before .before .before .before .before .before .before .if1 .taken) (sym (c .before .before .before .before .before .before .before .before .before .check .ensures .told) ∙ c .before .before .before .before .if2 .left))
+returns-2 c = (c .before .before .refusal-line2 .ensures .long, c .before .before .refusal-line2 .ensures .text ∙ not-taken (c .before .before .before .before .before .before .before .before .before .before .before .before .before .before .before .before .before .before .args .table .now) (sym (c .before .before .before .before .before .before .before .before .before .before .before .before .before .good-length .ensures) ∙ c .before .before .before .before .before .before .before .before .before .before .before .before .if1 .taken) (sym (c .before .before .before .before .before .before .before .before .before .check .ensures .told) ∙ c .before .before .before .before .if2 .left), omega (arith, c .before .before .refusal-line2 .ensures .end))
 
 -- src/lib.rt:162:32
 record-at-requires : tie.Need-record-at-requires
@@ -82,7 +82,7 @@ same-length-7 c = search needs
 
 -- src/lib.rt:152:1
 returns-3 : tie.Need-returns-3
-returns-3 c = (c .before .before .list-taken .ensures .long, c .before .before .list-taken .ensures .text ∙ is-taken (c .before .before .before .before .before .before .before .before .before .before .before .before .before .before .before .before .before .before .before .before .before .before .args .table .now) (sym (c .before .before .before .before .before .before .before .before .before .before .before .before .before .before .before .before .before .good-length .ensures) ∙ c .before .before .before .before .before .before .before .before .before .before .before .before .before .before .before .before .if1 .taken) (sym (c .before .before .before .before .before .before .before .before .before .before .before .before .before .check .ensures .told) ∙ c .before .before .before .before .before .before .before .before .if2 .taken))
+returns-3 c = (c .before .before .list-taken .ensures .long, c .before .before .list-taken .ensures .text ∙ is-taken (c .before .before .before .before .before .before .before .before .before .before .before .before .before .before .before .before .before .before .before .before .before .before .args .table .now) (sym (c .before .before .before .before .before .before .before .before .before .before .before .before .before .before .before .before .before .good-length .ensures) ∙ c .before .before .before .before .before .before .before .before .before .before .before .before .before .before .before .before .if1 .taken) (sym (c .before .before .before .before .before .before .before .before .before .before .before .before .before .check .ensures .told) ∙ c .before .before .before .before .before .before .before .before .if2 .taken), omega (arith, c .before .before .list-taken .ensures .end))
 
 pub list-spec : {M : Type 1} → statement M
 list-spec =

@@ -1,5 +1,5 @@
-use Rattle.vtlist.proofs.Laws.{data-done, data-next, data-start, slot-labels}
-use Rattle.vtlist.specs.Whole.{Listable}
+use Rattle.table_list.proofs.Laws.{data-done, data-next, data-start, slot-labels}
+use Rattle.table_list.specs.Whole.{Listable}
 use Rattle.model.specs.Basics.{flat}
 use Rattle.model.specs.Model.{slots}
 use Rattle.rules.specs.Listing.{dataLine}
@@ -11,11 +11,11 @@ use native.Mathlib.Omega.{arith}
 use Prim.Native.Nat.{ℕ, _+_, _-_, _*_, _≤_}
 use mathlib.Core.Path.{_≡_, refl, sym, ap, _∙_}
 use borrow.Author.Needs.{needs}
-use Rattle.vtlist.proofs.data_lines.Statement.{statement}
-use Rattle.vtlist.proofs.data_lines.Tie as tie
-use Rattle.vtlist.proofs.data_lines.Reads as reads
-use Rattle.vtlist.proofs.data_lines.Lts as lts
-use Rattle.vtlist.proofs.put_slot.Reads as put-slot-reads
+use Rattle.table_list.proofs.data_lines.Statement.{statement}
+use Rattle.table_list.proofs.data_lines.Tie as tie
+use Rattle.table_list.proofs.data_lines.Reads as reads
+use Rattle.table_list.proofs.data_lines.Lts as lts
+use Rattle.table_list.proofs.put_slot.Reads as put-slot-reads
 
 abbrev Inv-loop : tie.InvT-loop
 Inv-loop table g out₀ at n p₀ k₀ out p k = (k ≤ n) × (n ≡ slots (geometryOf g)) × (length out ≡ length out₀) × Written at (flat dataLine (labelsBelow (geometryOf g) table k)) (64 * k) out₀ out p

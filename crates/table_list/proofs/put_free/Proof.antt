@@ -1,10 +1,10 @@
 use native.Mathlib.Omega.{arith}
-use Rattle.vtlist.proofs.Laws.{no-span, one-span}
+use Rattle.table_list.proofs.Laws.{no-span, one-span}
 use borrow.Author.Needs.{needs}
-use Rattle.vtlist.proofs.put_free.Statement.{statement}
-use Rattle.vtlist.proofs.put_free.Tie as tie
-use Rattle.vtlist.proofs.put_free.Reads as reads
-use Rattle.vtlist.proofs.put_free.Lts as lts
+use Rattle.table_list.proofs.put_free.Statement.{statement}
+use Rattle.table_list.proofs.put_free.Tie as tie
+use Rattle.table_list.proofs.put_free.Reads as reads
+use Rattle.table_list.proofs.put_free.Lts as lts
 use Rattle.listing.proofs.free_line.Reads as free-line-reads
 
 -- src/lib.rt:29:9

@@ -2,13 +2,13 @@ use native.Mathlib.Omega.{arith}
 use Rattle.forms.specs.Forms.{geometryOf}
 use Rattle.label_check.specs.Marks.{labelAt}
 use Rattle.rules.specs.Listing.{dataLine}
-use Rattle.vtlist.proofs.Laws as laws
-use Rattle.vtlist.proofs.Labelled.{all-proper, few, many-small, text-is, third-in}
+use Rattle.table_list.proofs.Laws as laws
+use Rattle.table_list.proofs.Labelled.{all-proper, few, many-small, text-is, third-in}
 use borrow.Author.Needs.{needs}
-use Rattle.vtlist.proofs.put_label.Statement.{statement}
-use Rattle.vtlist.proofs.put_label.Tie as tie
-use Rattle.vtlist.proofs.put_label.Reads as reads
-use Rattle.vtlist.proofs.put_label.Lts as lts
+use Rattle.table_list.proofs.put_label.Statement.{statement}
+use Rattle.table_list.proofs.put_label.Tie as tie
+use Rattle.table_list.proofs.put_label.Reads as reads
+use Rattle.table_list.proofs.put_label.Lts as lts
 
 record-at-requires : tie.Need-record-at-requires
 record-at-requires c κs = search needs

@@ -1,18 +1,18 @@
 use native.Mathlib.Omega.{arith}
 use Rattle.forms.specs.Forms.{geometryOf}
 use Rattle.listing.proofs.Volumes.{small-volume}
-use Rattle.vtlist.proofs.Prepared.{whole-written}
-use Rattle.vtlist.proofs.Laws.{first-line}
+use Rattle.table_list.proofs.Prepared.{whole-written}
+use Rattle.table_list.proofs.Laws.{first-line}
 use borrow.Author.Needs.{needs}
-use Rattle.vtlist.proofs.list_taken.Statement.{statement}
-use Rattle.vtlist.proofs.list_taken.Tie as tie
-use Rattle.vtlist.proofs.list_taken.Reads as reads
-use Rattle.vtlist.proofs.list_taken.Lts as lts
+use Rattle.table_list.proofs.list_taken.Statement.{statement}
+use Rattle.table_list.proofs.list_taken.Tie as tie
+use Rattle.table_list.proofs.list_taken.Reads as reads
+use Rattle.table_list.proofs.list_taken.Lts as lts
 use Rattle.listing.proofs.volume_line.Reads as volume-line-reads
 use Rattle.spare.proofs.spare.Reads as spare-reads
-use Rattle.vtlist.proofs.data_lines.Reads as data-lines-reads
-use Rattle.vtlist.proofs.free_lines.Reads as free-lines-reads
-use Rattle.vtlist.proofs.put_slots.Reads as put-slots-reads
+use Rattle.table_list.proofs.data_lines.Reads as data-lines-reads
+use Rattle.table_list.proofs.free_lines.Reads as free-lines-reads
+use Rattle.table_list.proofs.put_slots.Reads as put-slots-reads
 
 -- src/lib.rt:130:9
 volume-line-requires : tie.Need-volume-line-requires
