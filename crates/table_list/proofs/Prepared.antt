@@ -1,0 +1,170 @@
+-- A taken table is ready to be listed, and its parts make the listing. Assumes nothing.
+use mathlib.Core.Path.{_≡_, refl, sym, ap, ap₂, _∙_, subst}
+use mathlib.Core.Bool.{Bool, true, false}
+use mathlib.Core.List.{List, [], _∷_, _++_}
+use Prim.Native.Nat.{ℕ, _+_, _*_, _/_, _%_, _≤_, _<_}
+use native.Mathlib.Omega.{arith}
+use native.Mathlib.Decide.{decLe, ℕ-discrete}
+use borrow.Author.Tests.{eq-eqb, ne-eqb, le-leb, lt-leb}
+use native.Mathlib.Nat.{lt-of-not-le}
+use lib.Dec.{T, leb}
+use lib.ListN.{List·getD-eq-default, length, take}
+use Rattle.model.specs.Basics.{flat, within}
+use Rattle.model.specs.Model.{Geometry, Label, Volume, format0s, free, gaps, held, runsOf, slots, tally, total, tracks, unused, used}
+use Rattle.model.proofs.Lists.{All, by, clash, true-is}
+use Rattle.rules.specs.Listing.{dataLine, freeLine, listing, listingOf, refusalLine, slotLine, volumeLine}
+use Rattle.rules.specs.Reading.{chop, read, readGeometry, readRecords, recordAt}
+use Rattle.rules.specs.Table.{goodLength, taken}
+use Rattle.rules.proofs.LabelBack.{length-3}
+use Rattle.rules.proofs.Taken.{length-encode, taken-is}
+use Rattle.rules.proofs.Valid.{Limits, Valid}
+use Rattle.sound.specs.Sound.{LabelOk, Sound}
+use Rattle.sound.proofs.Meaning.{recordsOf, taken-sound}
+use Rattle.tracks.specs.Map.{freeFrom}
+use Rattle.tracks.proofs.Held.{free-gaps}
+use Rattle.fields.specs.Records.{slotBytes}
+use Rattle.fields.proofs.Slots.{chop-slot, length-chop}
+use Rattle.table.specs.Labels.{labelsBelow}
+use Rattle.table.proofs.Scan.{unit-tally}
+use Rattle.spare.specs.Spare.{Spared, ZeroBelow}
+use Rattle.spare.proofs.Laws.{count-unused}
+use Rattle.table_check.specs.Check.{Shown, volumeAt}
+use Rattle.table_check.proofs.Read.{records-are, volume-is}
+use Rattle.listing.specs.Text.{Line, Written, volumeText}
+use Rattle.listing.proofs.Decimals.{then}
+use Rattle.listing.proofs.Extents.{good-proper, tracks-most}
+use Rattle.listing.proofs.Volumes.{volume-text}
+use Rattle.table_list.specs.Whole.{Listable, Ready}
+use Rattle.table_list.proofs.Laws.{reads, widen}
+
+-- ---- a taken table
+
+all-two : {A : Type 0} (P Q R : A → Type 0) → ((x : A) → P x → Q x → R x) → (xs : List A) → All P xs → All Q xs → All R xs
+all-two P Q R f [] a b = tt
+all-two P Q R f (x ∷ xs) a b = (f x (a .0) (b .0), all-two P Q R f xs (a .1) (b .1))
+
+in-table : (rs : List (List ℕ)) (k : ℕ) → length (recordAt rs k) ≡ 140 → k < length rs
+in-table rs k e =
+    elim (decLe (length rs) k) [
+      | yes u ↦ absurd (let q = ap length (List·getD-eq-default rs [] {n = k} u) in omega arith)
+      | no u ↦ lt-of-not-le u
+    ]
+
+third-below : (g : Geometry) (rs : List (List ℕ)) (l : Label) → 1 ≤ length rs → LabelOk g rs l → l .slot3 < length rs
+third-below g rs l pos x =
+    elim (decLe 1 (l .slot3)) [
+      | yes u ↦ in-table rs (l .slot3) (ap length (sym (x .three u)) ∙ length-3 g l)
+      | no u ↦ omega arith
+    ]
+
+geometry-read : (t : List ℕ) → 140 ≤ length t → read t .geometry ≡ readGeometry (slotBytes t 0)
+unfolding read readRecords
+geometry-read t u = ap readGeometry (chop-slot (length t / 140) t 0 (omega arith))
+
+free-is : (g : Geometry) (t m s : List ℕ) → Shown (volumeAt g t) m s → freeFrom m (tracks g) 0 ≡ free g (labelsBelow g t (slots g))
+unfolding free
+free-is g t m s x = free-gaps m (tracks g) (held g (labelsBelow g t (slots g))) (x .freeTracks)
+
+spare-are : (g : Geometry) (t m s : List ℕ) → Shown (volumeAt g t) m s → total (freeFrom s (slots g) 0) ≡ length (format0s (volumeAt g t))
+unfolding format0s
+spare-are g t m s x =
+    let us = used (volumeAt g t .labels) (volumeAt g t .chain) in
+    count-unused s (slots g) us (λ k u. let a = x .freeSlots k u in let c = unit-tally k us in omega arith)
+
+module _ (g : Geometry) (t m s : List ℕ) (len : length t ≡ 140 * slots g) (v : read t ≡ volumeAt g t) (valid : Valid (volumeAt g t)) (sound : Sound (recordsOf t) (volumeAt g t)) (shown : Shown (volumeAt g t) m s) where
+  pub ready-so : Ready g t m s
+  ready-so =
+      let us = used (volumeAt g t .labels) (volumeAt g t .chain) in
+      let rs = recordsOf t in
+      record {
+        limits = sound .limits;
+        long = len;
+        volume = v;
+        labels =
+            all-two (LabelOk g rs) (λ l. total (runsOf l) ≤ 65535) (Listable g)
+            (λ l x y.
+            record {
+              most = x .good .most;
+              proper = good-proper g (sound .limits) l (x .good);
+              tracks = y;
+              third = let p = sound .many in let z = sound .limits .least in let w = third-below g rs l (omega arith) x in omega arith;
+            })
+            (labelsBelow g t (slots g)) (sound .labels) (tracks-most (volumeAt g t) valid);
+        freeTracks = free-is g t m s shown;
+        zero = λ k u f.
+            let a = shown .freeSlots k u in
+            let c = unit-tally k us in
+            sym (chop-slot (slots g) t k u) ∙ ap (λ (x : List (List ℕ)). recordAt x k) (sym (records-are g t len)) ∙ sound .rest k u (omega arith);
+        freeSlots = spare-are g t m s shown;
+      }
+
+pub ready : (t m s : List ℕ) (g : Geometry) → T (taken t) → Shown (read t) m s → g ≡ readGeometry (slotBytes t 0) → Ready g t m s
+ready t m s g x w e =
+    let p = taken-is t x in
+    let y = taken-sound t x in
+    let l : length t ≡ slots (read t .geometry) * 140 = ap length (sym (p .1)) ∙ length-encode (read t) (p .0) in
+    let n = y .limits .least in
+    let q : read t .geometry ≡ g = geometry-read t (omega arith) ∙ sym e in
+    let z : slots (read t .geometry) ≡ slots g = ap slots q in
+    let len : length t ≡ 140 * slots g = omega arith in
+    let v : read t ≡ volumeAt g t = volume-is g t len (omega arith) e in
+    ready-so g t m s len v (subst Valid v (p .0)) (subst (Sound (recordsOf t)) v y) (subst (λ (u : Volume). Shown u m s) v w)
+
+-- ---- its listing
+
+clear-so : (t : List ℕ) (n : ℕ) (s : List ℕ) (b : Bool) (count : ℕ) → Spared t n s b count → ZeroBelow t n s → count ≡ total (freeFrom s n 0)
+clear-so t n s b count x z = by b (λ e. x .many e) (λ e. absurd (x .wrong e z))
+
+module _ (g : Geometry) (t m s : List ℕ) (h : Ready g t m s) where
+  pub whole-written : {a b d r count : ℕ} {o o₁ o₂ o₃ o₄ : List ℕ} (clear : Bool)
+      → Written 0 (volumeText (g .cylinders) (g .heads)) 64 o o₁ a
+      → Written a (flat dataLine (labelsBelow g t (slots g))) 29952 o₁ o₂ b
+      → Written b (flat freeLine (freeFrom m (tracks g) 0)) (14 * tracks g) o₂ o₃ d
+      → Spared t (slots g) s clear count
+      → Written d (slotLine count) 64 o₃ o₄ r → Written 0 (listingOf (read t)) 1000000 o o₄ r
+  whole-written clear v w x c y =
+      let n = clear-so t (slots g) s clear _ c (h .zero) ∙ h .freeSlots in
+      let top = h .limits .tracksMost in
+      reads (listingOf (read t)) (ap listingOf (sym (h .volume)))
+      (widen 1000000 (omega arith)
+      (then (then (then (reads (volumeLine g) (volume-text g) v) w) (reads (flat freeLine (free g (labelsBelow g t (slots g)))) (ap (flat freeLine) (h .freeTracks)) x))
+      (reads (slotLine (length (format0s (volumeAt g t)))) (ap slotLine n) y)))
+
+-- ---- refused or not
+
+pub wrong-length : (t : List ℕ) → goodLength t ≡ false → refusalLine 2 ≡ listing t
+unfolding listing
+wrong-length t h = rw h
+
+pub not-taken : (t : List ℕ) → goodLength t ≡ true → taken t ≡ false → refusalLine 3 ≡ listing t
+unfolding listing
+not-taken t h k = rw (h, k)
+
+pub is-taken : (t : List ℕ) → goodLength t ≡ true → taken t ≡ true → listingOf (read t) ≡ listing t
+unfolding listing
+is-taken t h k = rw (h, k)
+
+-- ---- lengths
+
+pub odd-length : (t : List ℕ) → (length t % 140 ≡ 0 → ⊥) → false ≡ goodLength t
+unfolding goodLength
+odd-length t f = rw (ne-eqb (length t % 140) 0 f)
+
+pub few-records : (t : List ℕ) → length t % 140 ≡ 0 → length t / 140 < 3 → false ≡ goodLength t
+unfolding goodLength
+few-records t e u = rw (eq-eqb (length t % 140) 0 e, lt-leb 3 (length t / 140) u)
+
+pub some-records : (t : List ℕ) → length t % 140 ≡ 0 → 3 ≤ length t / 140 → leb (length t / 140) 468 ≡ goodLength t
+unfolding goodLength
+some-records t e u = rw (eq-eqb (length t % 140) 0 e, le-leb 3 (length t / 140) u)
+
+pub good-long : (t : List ℕ) → goodLength t ≡ true → 140 ≤ length t
+good-long t h =
+    elim (decLe 140 (length t)) [
+      | yes u ↦ u
+      | no u ↦
+          elim (ℕ-discrete (length t % 140) 0) [
+            | yes e ↦ clash h (sym (few-records t e (let w = lt-of-not-le u in omega arith)))
+            | no e ↦ clash h (sym (odd-length t e))
+          ]
+    ]

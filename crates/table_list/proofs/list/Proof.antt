@@ -1,0 +1,107 @@
+use mathlib.Core.Path.{_≡_, refl, sym, ap, _∙_}
+use native.Mathlib.Omega.{arith}
+use Rattle.forms.specs.Forms.{geometryOf}
+use Rattle.model.proofs.Lists.{true-is}
+use Rattle.rules.specs.Reading.{readGeometry}
+use Rattle.table_list.proofs.Prepared.{good-long, is-taken, not-taken, ready, wrong-length}
+use borrow.Author.Needs.{needs}
+use Rattle.table_list.proofs.list.Statement.{statement}
+use Rattle.table_list.proofs.list.Tie as tie
+use Rattle.table_list.proofs.list.Reads as reads
+use Rattle.table_list.proofs.list.Lts as lts
+use Rattle.fields.proofs.record_at.Reads as record-at-reads
+use Rattle.forms.proofs.geometry_of.Reads as geometry-of-reads
+use Rattle.listing.proofs.refusal_line.Reads as refusal-line-reads
+use Rattle.table_check.proofs.check.Reads as check-reads
+use Rattle.table_list.proofs.good_length.Reads as good-length-reads
+use Rattle.table_list.proofs.list_taken.Reads as list-taken-reads
+
+-- src/lib.rt:156:8
+good-length-requires : tie.Need-good-length-requires
+good-length-requires c κs = search needs
+
+-- src/lib.rt:157:9
+refusal-line-requires : tie.Need-refusal-line-requires
+refusal-line-requires c κs = search needs
+
+-- src/lib.rt:157:9
+same-length : tie.Need-same-length
+same-length c = search needs
+
+-- src/lib.rt:157:9
+returns : tie.Need-returns
+returns c = (c .before .before .refusal-line .ensures .long, c .before .before .refusal-line .ensures .text ∙ wrong-length (c .before .before .before .before .before .before .before .before .before .before .args .table .now) (sym (c .before .before .before .before .before .good-length .ensures) ∙ c .before .before .before .before .if1 .left), omega (arith, c .before .before .refusal-line .ensures .end))
+
+-- src/lib.rt:159:8
+check-requires : tie.Need-check-requires
+check-requires c κs = search needs
+
+-- src/lib.rt:160:9
+refusal-line-requires-2 : tie.Need-refusal-line-requires-2
+refusal-line-requires-2 c κs = search needs
+
+-- src/lib.rt:160:9
+same-length-2 : tie.Need-same-length-2
+same-length-2 c = search needs
+
+-- src/lib.rt:160:9
+same-length-3 : tie.Need-same-length-3
+same-length-3 c = search needs
+
+-- src/lib.rt:160:9
+same-length-4 : tie.Need-same-length-4
+same-length-4 c = search needs
+
+-- src/lib.rt:160:9
+returns-2 : tie.Need-returns-2
+returns-2 c = (c .before .before .refusal-line2 .ensures .long, c .before .before .refusal-line2 .ensures .text ∙ not-taken (c .before .before .before .before .before .before .before .before .before .before .before .before .before .before .before .before .before .before .args .table .now) (sym (c .before .before .before .before .before .before .before .before .before .before .before .before .before .good-length .ensures) ∙ c .before .before .before .before .before .before .before .before .before .before .before .before .if1 .taken) (sym (c .before .before .before .before .before .before .before .before .before .check .ensures .told) ∙ c .before .before .before .before .if2 .left), omega (arith, c .before .before .refusal-line2 .ensures .end))
+
+-- src/lib.rt:162:32
+record-at-requires : tie.Need-record-at-requires
+record-at-requires c κs = omega (arith, good-long (c .before .before .before .before .before .before .before .before .before .before .before .before .before .before .args .table .now) (sym (c .before .before .before .before .before .before .before .before .before .good-length .ensures) ∙ c .before .before .before .before .before .before .before .before .if1 .taken))
+
+-- src/lib.rt:162:9
+geometry-of-requires : tie.Need-geometry-of-requires
+geometry-of-requires c κs = search needs
+
+-- src/lib.rt:163:5
+list-taken-requires : tie.Need-list-taken-requires
+list-taken-requires c κs = (ready (c .before .before .before .before .before .before .before .before .before .before .before .before .before .before .before .before .before .before .before .args .table .now) _ _ (geometryOf (c .before .before .before .geometry-of .result)) (true-is (sym (c .before .before .before .before .before .before .before .before .before .before .check .ensures .told) ∙ c .before .before .before .before .before .if2 .taken)) (c .before .before .before .before .before .before .before .before .before .before .check .ensures .shown (c .before .before .before .before .before .if2 .taken)) (c .before .before .before .geometry-of .ensures ∙ ap readGeometry (c .before .before .before .before .record-at .ensures .0)), c .before .before .before .before .before .before .before .before .before .before .check .ensures .longMap ∙ c .before .before .before .before .before .before .before .before .before .before .before .before .before .before .before .before .before .before .before .pre .0, c .before .before .before .before .before .before .before .before .before .before .check .ensures .longSlots ∙ c .before .before .before .before .before .before .before .before .before .before .before .before .before .before .before .before .before .before .before .pre .1, c .before .before .before .before .before .before .before .before .before .before .before .before .before .before .before .before .before .before .before .pre .2)
+
+-- src/lib.rt:152:1
+same-length-5 : tie.Need-same-length-5
+same-length-5 c = search needs
+
+-- src/lib.rt:152:1
+same-length-6 : tie.Need-same-length-6
+same-length-6 c = search needs
+
+-- src/lib.rt:152:1
+same-length-7 : tie.Need-same-length-7
+same-length-7 c = search needs
+
+-- src/lib.rt:152:1
+returns-3 : tie.Need-returns-3
+returns-3 c = (c .before .before .list-taken .ensures .long, c .before .before .list-taken .ensures .text ∙ is-taken (c .before .before .before .before .before .before .before .before .before .before .before .before .before .before .before .before .before .before .before .before .before .before .args .table .now) (sym (c .before .before .before .before .before .before .before .before .before .before .before .before .before .before .before .before .before .good-length .ensures) ∙ c .before .before .before .before .before .before .before .before .before .before .before .before .before .before .before .before .if1 .taken) (sym (c .before .before .before .before .before .before .before .before .before .before .before .before .before .check .ensures .told) ∙ c .before .before .before .before .before .before .before .before .if2 .taken), omega (arith, c .before .before .list-taken .ensures .end))
+
+pub list-spec : {M : Type 1} → statement M
+list-spec =
+    tie.close
+    (tie.spec
+    good-length-requires
+    refusal-line-requires
+    same-length
+    returns
+    check-requires
+    refusal-line-requires-2
+    same-length-2
+    same-length-3
+    same-length-4
+    returns-2
+    record-at-requires
+    geometry-of-requires
+    list-taken-requires
+    same-length-5
+    same-length-6
+    same-length-7
+    returns-3)
