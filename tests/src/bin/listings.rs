@@ -32,13 +32,25 @@ fn full() -> Vec<u8> {
     table
 }
 
+/// A set of four extents, and no track free.
+fn four_extents() -> Vec<u8> {
+    let mut table = fresh(10, 4, 10, 1, 1);
+    for (text, start, amount) in [("A", 3, 1), ("B", 5, 1), ("C", 7, 1), ("D", 9, 31)] {
+        place(&mut table, text, 2, start, amount, 0);
+    }
+    place(&mut table, "FOUR", 0, 0, 4, 0);
+    assert!(listing(&table).windows(10).any(|line| line == b"D FOUR 4 4"), "four extents");
+    table
+}
+
 fn inputs() -> Vec<(&'static str, Vec<u8>)> {
     let mut made = vec![
         ("fresh", fresh(10, 4, 5, 1, 1)),
         ("no free track", full()),
         ("27 free extents", scattered(100, 4, 20, 1, 2, 26)),
         ("53 free extents", scattered(100, 4, 30, 1, 2, 52)),
-        ("small", small()),
+        ("four extents", four_extents()),
+        ("Volume A's end", small()),
         ("medium", medium()),
         ("many names", many_names()),
         ("many extents", many_extents()),
@@ -47,11 +59,11 @@ fn inputs() -> Vec<(&'static str, Vec<u8>)> {
         ("65,521 zeros", vec![0; 65_521]),
         ("200,000 zeros", vec![0; 200_000]),
     ];
-    // each byte of the small volume, one bit off
+    // each byte of Volume A's end, one bit off
     for at in 0..small().len() {
         let mut table = small();
         table[at] ^= 1;
-        made.push(("small, damaged", table));
+        made.push(("Volume A's end, damaged", table));
     }
     made
 }
