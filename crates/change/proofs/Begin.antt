@@ -1,27 +1,24 @@
 -- Where a volume changes, the slots that need no writing: those of labels that stay, and those that stay empty. Assumes nothing.
 use mathlib.Core.Path.{_≡_, refl, sym, ap, _∙_, subst}
-use mathlib.Core.Bool.{Bool, true, false, not}
-use mathlib.Core.Option.{Option, none, some}
-use mathlib.Core.List.{List, [], _∷_, _++_}
-use Prim.Native.Nat.{ℕ, zero, suc, _+_, _*_, _/_, _≤_, _<_}
+use mathlib.Core.Bool.{Bool, false}
+use mathlib.Core.Option.{Option, some}
+use mathlib.Core.List.{List, [], _∷_}
+use Prim.Native.Nat.{ℕ, zero, suc, _+_, _≤_, _<_}
 use native.Mathlib.Omega.{arith}
-use lib.ListN.{length}
 use lib.Dec.{eqb, ltb}
-use borrow.Author.Tests.{eq-eqb, ne-eqb, eqb-true}
+use borrow.Author.Tests.{ne-eqb}
 use Rattle.model.specs.Basics.{bit, find, orElse}
-use Rattle.model.specs.Model.{Geometry, Label, Volume, free, oneSlot, slots, slotsOf, tally}
-use Rattle.model.proofs.Lists.{All, by, clash, same→eq, some-is, sum-append, true-is}
-use Rattle.rules.specs.Layout.{Five, encode, fives, laterSlot, orFive, orFormat1, orFormat3, records}
-use Rattle.rules.specs.Reading.{chop, recordAt}
+use Rattle.model.specs.Model.{Geometry, Label, Volume, oneSlot, slots, slotsOf, tally}
+use Rattle.model.proofs.Lists.{by, same→eq, some-is, sum-append, true-is}
+use Rattle.rules.specs.Layout.{Five, encode, orFive, orFormat1, orFormat3}
 use Rattle.rules.specs.Slots.{insertLabel, without}
 use Rattle.rules.specs.Table.{named}
 use Rattle.rules.proofs.Labels.{Differ, Unlike, without-unlike}
+use Rattle.rules.proofs.TableBack.{no-five, record-at}
 use Rattle.rules.proofs.Taken.{length-encode}
-use Rattle.rules.proofs.TableBack.{chop-encode, length-table, lengths-all, no-five, record-at}
 use Rattle.rules.proofs.Valid.{Valid}
-use Rattle.fields.specs.Records.{slotBytes}
-use Rattle.fields.proofs.Slots.{chop-slot}
 use Rattle.change.specs.Pending.{Pending, recordOf}
+use Rattle.change.proofs.Laws.{slot-of}
 
 -- ---- who is found, when a label comes or goes
 
@@ -106,7 +103,5 @@ module _ (v w : Volume) (hv : Valid v) (hw : Valid w) (geo : w .geometry ≡ v .
         long = omega arith;
         right = λ k b z.
             let x = e k z in
-            let d : slots (v .geometry) ≡ length (encode v) / 140 = omega (arith, l) in
-            let c : chop (slots (v .geometry)) (encode v) ≡ records v = ap (λ (j : ℕ). chop j (encode v)) d ∙ chop-encode v hv in
-            sym (chop-slot (slots (v .geometry)) (encode v) k (omega arith)) ∙ ap (λ (rs : List (List ℕ)). recordAt rs k) c ∙ same-slot k (x .0) b (x .1) (x .2) (x .3);
+            slot-of v hv k (omega arith) ∙ same-slot k (x .0) b (x .1) (x .2) (x .3);
       }

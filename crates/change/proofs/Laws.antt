@@ -1,22 +1,21 @@
 -- Slots written one after the other: when none is left, the table is the volume's. Assumes nothing.
 use mathlib.Core.Path.{_≡_, refl, sym, ap, _∙_, subst}
-use mathlib.Core.Bool.{true, false}
-use mathlib.Core.List.{List, [], _∷_, _++_}
-use Prim.Native.Nat.{ℕ, zero, suc, _+_, _*_, _≤_, _<_}
-use native.Mathlib.Nat.{le-refl}
+use mathlib.Core.List.{List, [], _∷_}
+use Prim.Native.Nat.{ℕ, _+_, _*_, _/_, _≤_, _<_}
 use native.Mathlib.Omega.{arith}
 use native.Mathlib.Decide.{ℕ-discrete}
 use lib.ListN.{length}
 use lib.Seq.{ext-getD}
-use lib.Dec.{eqb, ltb}
-use borrow.Author.Tests.{eq-eqb, ne-eqb}
+use lib.Dec.{ltb}
+use borrow.Author.Tests.{ne-eqb}
 use Rattle.model.specs.Basics.{bit, zeros}
 use Rattle.model.specs.Model.{Label, Volume, free, slots, tally, used}
 use Rattle.model.proofs.Lists.{All, All-at, by}
-use Rattle.rules.specs.Layout.{encode, fives, format1, format3, records, whole}
+use Rattle.rules.specs.Layout.{encode, fives, records, whole}
 use Rattle.rules.specs.Reading.{chop, recordAt}
 use Rattle.rules.specs.Slots.{insertLabel}
-use Rattle.rules.proofs.TableBack.{length-records, lengths-all}
+use Rattle.rules.proofs.TableBack.{chop-encode, length-records, lengths-all}
+use Rattle.rules.proofs.Taken.{length-encode}
 use Rattle.rules.proofs.Valid.{Valid}
 use Rattle.sound.specs.Sound.{FiveOk, LabelOk}
 use Rattle.sound.proofs.Meaning.{is-sound}
@@ -57,6 +56,13 @@ put-all w t v h =
     ∙ sym (encode-records w)
 
 -- ---- what a volume has in its slots
+
+pub slot-of : (w : Volume) → Valid w → (k : ℕ) → k < slots (w .geometry) → slotBytes (encode w) k ≡ recordOf w k
+slot-of w v k u =
+    let n = slots (w .geometry) in
+    let l = length-encode w v in
+    let d : n ≡ length (encode w) / 140 = omega arith in
+    sym (chop-slot n (encode w) k u) ∙ ap (λ (j : ℕ). recordAt (chop j (encode w)) k) d ∙ ap (λ (rs : List (List ℕ)). recordAt rs k) (chop-encode w v)
 
 pub length-of : (w : Volume) → Valid w → (k : ℕ) → k < slots (w .geometry) → length (recordOf w k) ≡ 140
 length-of w v k u = let l = length-records w v in All-at (λ r. length r ≡ 140) [] (records w) (lengths-all w v) k (omega arith)
