@@ -1,8 +1,13 @@
+use borrow.Author.Needs.{needs}
+use Rattle.writing.proofs.clear.Statement.{statement}
+use Rattle.writing.proofs.clear.Tie as tie
+use Rattle.writing.proofs.clear.Reads as reads
+use Rattle.writing.proofs.clear.Lts as lts
+use Rattle.fields.proofs.put_record.Reads as put-record-reads
+use Rattle.writing.proofs.wide.Reads as wide-reads
 use Prim.Native.Nat.{_-_}
 use native.Mathlib.Omega.{arith}
-use borrow.Author.Needs.{needs}
 use Rattle.model.specs.Basics.{zeros}
-use Rattle.fields.proofs.Entries.{table}
 use Rattle.writing.proofs.Slots.{Clearing, clear-begin, clear-end, clear-next, clear-slot}
 
 abbrev Inv-loop : tie.InvT-loop

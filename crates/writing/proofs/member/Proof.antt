@@ -1,6 +1,11 @@
+use borrow.Author.Needs.{needs}
+use Rattle.writing.proofs.member.Statement.{statement}
+use Rattle.writing.proofs.member.Tie as tie
+use Rattle.writing.proofs.member.Reads as reads
+use Rattle.writing.proofs.member.Lts as lts
+use Rattle.writing.proofs.wide.Reads as wide-reads
 use mathlib.Core.Path.{_∙_}
 use native.Mathlib.Omega.{arith}
-use borrow.Author.Needs.{needs}
 use Rattle.writing.proofs.Slots.{entry-in, entry-past}
 
 -- src/lib.rt:61:21

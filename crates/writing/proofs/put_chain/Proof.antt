@@ -1,13 +1,19 @@
+use borrow.Author.Needs.{needs}
+use Rattle.writing.proofs.put_chain.Statement.{statement}
+use Rattle.writing.proofs.put_chain.Tie as tie
+use Rattle.writing.proofs.put_chain.Reads as reads
+use Rattle.writing.proofs.put_chain.Lts as lts
+use Rattle.fields.proofs.put_record.Reads as put-record-reads
+use Rattle.records.proofs.five.Reads as five-reads
+use Rattle.records.proofs.with_next.Reads as with-next-reads
+use Rattle.writing.proofs.member.Reads as member-reads
 use Prim.Native.Nat.{ℕ, _+_, _<_, _-_}
 use mathlib.Core.Path.{sym, subst, ap, _∙_}
 use Prim.Native.Nat.{_-_}
 use lib.ListN.{take, length-take}
 use native.Mathlib.Omega.{arith}
-use borrow.Author.Needs.{needs}
-use mathlib.Core.List.{map}
 use Rattle.model.specs.Model.{slots}
 use Rattle.rules.specs.Layout.{format5}
-use Rattle.fields.proofs.Entries.{table}
 use Rattle.forms.specs.Forms.{geometryOf}
 use Rattle.writing.proofs.Slots.{Chaining, chain-begin, chain-end, chain-next, entry-below}
 

@@ -1,7 +1,14 @@
+use borrow.Author.Needs.{needs}
+use Rattle.writing.proofs.put_four.Statement.{statement}
+use Rattle.writing.proofs.put_four.Tie as tie
+use Rattle.writing.proofs.put_four.Reads as reads
+use Rattle.writing.proofs.put_four.Lts as lts
+use Rattle.fields.proofs.put_record.Reads as put-record-reads
+use Rattle.records.proofs.four.Reads as four-reads
+use Rattle.spare.proofs.highest.Reads as highest-reads
 use Prim.Native.Nat.{ℕ, _<_}
 use mathlib.Core.Path.{sym, subst}
 use native.Mathlib.Omega.{arith}
-use borrow.Author.Needs.{needs}
 use Rattle.model.specs.Model.{slots}
 use Rattle.forms.specs.Forms.{geometryOf}
 use Rattle.spare.proofs.Laws.{highest-below}

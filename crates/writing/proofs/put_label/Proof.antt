@@ -1,4 +1,10 @@
 use borrow.Author.Needs.{needs}
+use Rattle.writing.proofs.put_label.Statement.{statement}
+use Rattle.writing.proofs.put_label.Tie as tie
+use Rattle.writing.proofs.put_label.Reads as reads
+use Rattle.writing.proofs.put_label.Lts as lts
+use Rattle.fields.proofs.put_record.Reads as put-record-reads
+use Rattle.labels.proofs.set_link3.Reads as set-link3-reads
 use Rattle.writing.proofs.Slots.{label-alone, label-both}
 
 -- src/lib.rt:48:18
