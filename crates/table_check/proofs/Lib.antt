@@ -1,3 +1,4 @@
+pub mod Lengths
 pub mod Read
 pub mod Pieces
 pub mod Whole

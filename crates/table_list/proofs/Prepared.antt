@@ -1,39 +1,38 @@
 -- A taken table is ready to be listed, and its parts make the listing. Assumes nothing.
-use mathlib.Core.Path.{_≡_, refl, sym, ap, ap₂, _∙_, subst}
+use mathlib.Core.Path.{_≡_, sym, ap, _∙_, subst}
 use mathlib.Core.Bool.{Bool, true, false}
-use mathlib.Core.List.{List, [], _∷_, _++_}
-use Prim.Native.Nat.{ℕ, _+_, _*_, _/_, _%_, _≤_, _<_}
+use mathlib.Core.List.{List, [], _∷_}
+use Prim.Native.Nat.{ℕ, _*_, _/_, _≤_, _<_}
 use native.Mathlib.Omega.{arith}
-use native.Mathlib.Decide.{decLe, ℕ-discrete}
-use borrow.Author.Tests.{eq-eqb, ne-eqb, le-leb, lt-leb}
+use native.Mathlib.Decide.{decLe}
 use native.Mathlib.Nat.{lt-of-not-le}
-use lib.Dec.{T, leb}
-use lib.ListN.{List·getD-eq-default, length, take}
-use Rattle.model.specs.Basics.{flat, within}
-use Rattle.model.specs.Model.{Geometry, Label, Volume, format0s, free, gaps, held, runsOf, slots, tally, total, tracks, unused, used}
-use Rattle.model.proofs.Lists.{All, by, clash, true-is}
+use lib.Dec.{T}
+use lib.ListN.{List·getD-eq-default, length}
+use Rattle.model.specs.Basics.{flat}
+use Rattle.model.specs.Model.{Geometry, Label, Volume, format0s, free, held, runsOf, slots, total, tracks, used}
+use Rattle.model.proofs.Lists.{All, by}
 use Rattle.rules.specs.Listing.{dataLine, freeLine, listing, listingOf, refusalLine, slotLine, volumeLine}
-use Rattle.rules.specs.Reading.{chop, read, readGeometry, readRecords, recordAt}
+use Rattle.rules.specs.Reading.{read, readGeometry, readRecords, recordAt}
 use Rattle.rules.specs.Table.{goodLength, taken}
 use Rattle.rules.proofs.LabelBack.{length-3}
 use Rattle.rules.proofs.Taken.{length-encode, taken-is}
-use Rattle.rules.proofs.Valid.{Limits, Valid}
+use Rattle.rules.proofs.Valid.{Valid}
 use Rattle.sound.specs.Sound.{LabelOk, Sound}
 use Rattle.sound.proofs.Meaning.{recordsOf, taken-sound}
 use Rattle.tracks.specs.Map.{freeFrom}
 use Rattle.tracks.proofs.Held.{free-gaps}
 use Rattle.fields.specs.Records.{slotBytes}
-use Rattle.fields.proofs.Slots.{chop-slot, length-chop}
+use Rattle.fields.proofs.Slots.{chop-slot}
 use Rattle.table.specs.Labels.{labelsBelow}
 use Rattle.table.proofs.Scan.{unit-tally}
+use Rattle.listing.specs.Text.{Written, volumeText}
+use Rattle.listing.proofs.Decimals.{then}
+use Rattle.listing.proofs.Extents.{good-proper, tracks-most}
+use Rattle.listing.proofs.Volumes.{volume-text}
 use Rattle.spare.specs.Spare.{Spared, ZeroBelow}
 use Rattle.spare.proofs.Laws.{count-unused}
 use Rattle.table_check.specs.Check.{Shown, volumeAt}
 use Rattle.table_check.proofs.Read.{records-are, volume-is}
-use Rattle.listing.specs.Text.{Line, Written, volumeText}
-use Rattle.listing.proofs.Decimals.{then}
-use Rattle.listing.proofs.Extents.{good-proper, tracks-most}
-use Rattle.listing.proofs.Volumes.{volume-text}
 use Rattle.table_list.specs.Whole.{Listable, Ready}
 use Rattle.table_list.proofs.Laws.{reads, widen}
 
@@ -143,28 +142,3 @@ not-taken t h k = rw (h, k)
 pub is-taken : (t : List ℕ) → goodLength t ≡ true → taken t ≡ true → listingOf (read t) ≡ listing t
 unfolding listing
 is-taken t h k = rw (h, k)
-
--- ---- lengths
-
-pub odd-length : (t : List ℕ) → (length t % 140 ≡ 0 → ⊥) → false ≡ goodLength t
-unfolding goodLength
-odd-length t f = rw (ne-eqb (length t % 140) 0 f)
-
-pub few-records : (t : List ℕ) → length t % 140 ≡ 0 → length t / 140 < 3 → false ≡ goodLength t
-unfolding goodLength
-few-records t e u = rw (eq-eqb (length t % 140) 0 e, lt-leb 3 (length t / 140) u)
-
-pub some-records : (t : List ℕ) → length t % 140 ≡ 0 → 3 ≤ length t / 140 → leb (length t / 140) 468 ≡ goodLength t
-unfolding goodLength
-some-records t e u = rw (eq-eqb (length t % 140) 0 e, le-leb 3 (length t / 140) u)
-
-pub good-long : (t : List ℕ) → goodLength t ≡ true → 140 ≤ length t
-good-long t h =
-    elim (decLe 140 (length t)) [
-      | yes u ↦ u
-      | no u ↦
-          elim (ℕ-discrete (length t % 140) 0) [
-            | yes e ↦ clash h (sym (few-records t e (let w = lt-of-not-le u in omega arith)))
-            | no e ↦ clash h (sym (odd-length t e))
-          ]
-    ]
