@@ -27,7 +27,7 @@ pub fn good_length(table: &[u8]) -> bool
 }
 
 // Begins the maps of free tracks and free slots: the label track, the VTOC and slot 0 are not free.
-fn begin_maps(g: Geometry, map: &mut [u64], empty: &mut [u64])
+pub fn begin_maps(g: Geometry, map: &mut [u64], empty: &mut [u64])
     requires { ⌜ Limits (geometryOf g) × (length (now map) ≡ 1024) × (length (now empty) ≡ 8) ⌝ }
     ensures { λ _. ⌜ MapsBegun (geometryOf g) (now (map .entry)) (now (map .exit)) (now (empty .entry)) (now (empty .exit)) ⌝ }
 {

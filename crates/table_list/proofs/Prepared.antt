@@ -2,19 +2,16 @@
 use mathlib.Core.Path.{_≡_, sym, ap, _∙_, subst}
 use mathlib.Core.Bool.{Bool, true, false}
 use mathlib.Core.List.{List, [], _∷_}
-use Prim.Native.Nat.{ℕ, _*_, _/_, _≤_, _<_}
+use Prim.Native.Nat.{ℕ, _*_, _≤_, _<_}
 use native.Mathlib.Omega.{arith}
-use native.Mathlib.Decide.{decLe}
-use native.Mathlib.Nat.{lt-of-not-le}
 use lib.Dec.{T}
-use lib.ListN.{List·getD-eq-default, length}
+use lib.ListN.{length}
 use Rattle.model.specs.Basics.{flat}
 use Rattle.model.specs.Model.{Geometry, Label, Volume, format0s, free, held, runsOf, slots, total, tracks, used}
 use Rattle.model.proofs.Lists.{All, by}
 use Rattle.rules.specs.Listing.{dataLine, freeLine, listing, listingOf, refusalLine, slotLine, volumeLine}
-use Rattle.rules.specs.Reading.{read, readGeometry, readRecords, recordAt}
+use Rattle.rules.specs.Reading.{read, readGeometry, recordAt}
 use Rattle.rules.specs.Table.{goodLength, taken}
-use Rattle.rules.proofs.LabelBack.{length-3}
 use Rattle.rules.proofs.Taken.{length-encode, taken-is}
 use Rattle.rules.proofs.Valid.{Valid}
 use Rattle.sound.specs.Sound.{LabelOk, Sound}
@@ -32,7 +29,9 @@ use Rattle.listing.proofs.Volumes.{volume-text}
 use Rattle.spare.specs.Spare.{Spared, ZeroBelow}
 use Rattle.spare.proofs.Laws.{count-unused}
 use Rattle.table_check.specs.Check.{Shown, volumeAt}
+use Rattle.table_check.proofs.Pieces.{third-below}
 use Rattle.table_check.proofs.Read.{records-are, volume-is}
+use Rattle.table_check.proofs.Whole.{geometry-read}
 use Rattle.table_list.specs.Whole.{Listable, Ready}
 use Rattle.table_list.proofs.Laws.{reads, widen}
 
@@ -41,24 +40,6 @@ use Rattle.table_list.proofs.Laws.{reads, widen}
 all-two : {A : Type 0} (P Q R : A → Type 0) → ((x : A) → P x → Q x → R x) → (xs : List A) → All P xs → All Q xs → All R xs
 all-two P Q R f [] a b = tt
 all-two P Q R f (x ∷ xs) a b = (f x (a .0) (b .0), all-two P Q R f xs (a .1) (b .1))
-
-in-table : (rs : List (List ℕ)) (k : ℕ) → length (recordAt rs k) ≡ 140 → k < length rs
-in-table rs k e =
-    elim (decLe (length rs) k) [
-      | yes u ↦ absurd (let q = ap length (List·getD-eq-default rs [] {n = k} u) in omega arith)
-      | no u ↦ lt-of-not-le u
-    ]
-
-third-below : (g : Geometry) (rs : List (List ℕ)) (l : Label) → 1 ≤ length rs → LabelOk g rs l → l .slot3 < length rs
-third-below g rs l pos x =
-    elim (decLe 1 (l .slot3)) [
-      | yes u ↦ in-table rs (l .slot3) (ap length (sym (x .three u)) ∙ length-3 g l)
-      | no u ↦ omega arith
-    ]
-
-geometry-read : (t : List ℕ) → 140 ≤ length t → read t .geometry ≡ readGeometry (slotBytes t 0)
-unfolding read readRecords
-geometry-read t u = ap readGeometry (chop-slot (length t / 140) t 0 (omega arith))
 
 free-is : (g : Geometry) (t m s : List ℕ) → Shown (volumeAt g t) m s → freeFrom m (tracks g) 0 ≡ free g (labelsBelow g t (slots g))
 unfolding free
