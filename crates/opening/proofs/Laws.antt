@@ -1,6 +1,5 @@
 -- What holds of a table that is taken. Assumes nothing.
 use mathlib.Core.Path.{_≡_, sym, ap, _∙_, subst}
-use mathlib.Core.Bool.{true}
 use mathlib.Core.Option.{some}
 use mathlib.Core.List.{List}
 use Prim.Native.Nat.{ℕ, _*_, _≤_, _<_}
@@ -10,7 +9,7 @@ use lib.ListN.{length}
 use Rattle.model.specs.Model.{Geometry, Label, Volume, slots}
 use Rattle.model.proofs.Lists.{find-All, same→eq, true-is}
 use Rattle.rules.specs.Layout.{encode, format1, format3}
-use Rattle.rules.specs.Reading.{chop, read, readGeometry, recordAt}
+use Rattle.rules.specs.Reading.{chop, read, readGeometry}
 use Rattle.rules.specs.Slots.{found}
 use Rattle.rules.specs.Table.{named, taken}
 use Rattle.rules.proofs.Keyed.{find-pass}
@@ -49,10 +48,6 @@ ready t x =
       long = n;
       slot0 = sym (geometry-read t (omega arith));
     }
-
--- the record in slot k, as `Sound` and as the code have it
-pub slot-record : (t : List ℕ) (n k : ℕ) → k < n → recordAt (chop n t) k ≡ slotBytes t k
-slot-record t n k u = chop-slot n t k u
 
 -- ---- a data set that is found
 

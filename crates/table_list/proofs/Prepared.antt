@@ -2,12 +2,12 @@
 use mathlib.Core.Path.{_≡_, sym, ap, _∙_, subst}
 use mathlib.Core.Bool.{Bool, true, false}
 use mathlib.Core.List.{List, [], _∷_}
-use Prim.Native.Nat.{ℕ, _*_, _≤_, _<_}
+use Prim.Native.Nat.{ℕ, _*_, _≤_}
 use native.Mathlib.Omega.{arith}
 use lib.Dec.{T}
 use lib.ListN.{length}
 use Rattle.model.specs.Basics.{flat}
-use Rattle.model.specs.Model.{Geometry, Label, Volume, format0s, free, held, runsOf, slots, total, tracks, used}
+use Rattle.model.specs.Model.{Geometry, Volume, format0s, free, runsOf, slots, total, tracks, used}
 use Rattle.model.proofs.Lists.{All, by}
 use Rattle.rules.specs.Listing.{dataLine, freeLine, listing, listingOf, refusalLine, slotLine, volumeLine}
 use Rattle.rules.specs.Reading.{read, readGeometry, recordAt}
@@ -17,7 +17,6 @@ use Rattle.rules.proofs.Valid.{Valid}
 use Rattle.sound.specs.Sound.{LabelOk, Sound}
 use Rattle.sound.proofs.Meaning.{recordsOf, taken-sound}
 use Rattle.tracks.specs.Map.{freeFrom}
-use Rattle.tracks.proofs.Held.{free-gaps}
 use Rattle.fields.specs.Records.{slotBytes}
 use Rattle.fields.proofs.Slots.{chop-slot}
 use Rattle.table.specs.Labels.{labelsBelow}
@@ -27,8 +26,8 @@ use Rattle.listing.proofs.Decimals.{then}
 use Rattle.listing.proofs.Extents.{good-proper, tracks-most}
 use Rattle.listing.proofs.Volumes.{volume-text}
 use Rattle.spare.specs.Spare.{Spared, ZeroBelow}
-use Rattle.spare.proofs.Laws.{count-unused}
 use Rattle.table_check.specs.Check.{Shown, volumeAt}
+use Rattle.table_check.proofs.Free.{empty-shown, free-shown}
 use Rattle.table_check.proofs.Pieces.{third-below}
 use Rattle.table_check.proofs.Read.{records-are, volume-is}
 use Rattle.table_check.proofs.Whole.{geometry-read}
@@ -40,16 +39,6 @@ use Rattle.table_list.proofs.Laws.{reads, widen}
 all-two : {A : Type 0} (P Q R : A → Type 0) → ((x : A) → P x → Q x → R x) → (xs : List A) → All P xs → All Q xs → All R xs
 all-two P Q R f [] a b = tt
 all-two P Q R f (x ∷ xs) a b = (f x (a .0) (b .0), all-two P Q R f xs (a .1) (b .1))
-
-free-is : (g : Geometry) (t m s : List ℕ) → Shown (volumeAt g t) m s → freeFrom m (tracks g) 0 ≡ free g (labelsBelow g t (slots g))
-unfolding free
-free-is g t m s x = free-gaps m (tracks g) (held g (labelsBelow g t (slots g))) (x .freeTracks)
-
-spare-are : (g : Geometry) (t m s : List ℕ) → Shown (volumeAt g t) m s → total (freeFrom s (slots g) 0) ≡ length (format0s (volumeAt g t))
-unfolding format0s
-spare-are g t m s x =
-    let us = used (volumeAt g t .labels) (volumeAt g t .chain) in
-    count-unused s (slots g) us (λ k u. let a = x .freeSlots k u in let c = unit-tally k us in omega arith)
 
 module _ (g : Geometry) (t m s : List ℕ) (len : length t ≡ 140 * slots g) (v : read t ≡ volumeAt g t) (valid : Valid (volumeAt g t)) (sound : Sound (recordsOf t) (volumeAt g t)) (shown : Shown (volumeAt g t) m s) where
   pub ready-so : Ready g t m s
@@ -70,12 +59,12 @@ module _ (g : Geometry) (t m s : List ℕ) (len : length t ≡ 140 * slots g) (v
               third = let p = sound .many in let z = sound .limits .least in let w = third-below g rs l (omega arith) x in omega arith;
             })
             (labelsBelow g t (slots g)) (sound .labels) (tracks-most (volumeAt g t) valid);
-        freeTracks = free-is g t m s shown;
+        freeTracks = free-shown (volumeAt g t) m s shown;
         zero = λ k u f.
             let a = shown .freeSlots k u in
             let c = unit-tally k us in
             sym (chop-slot (slots g) t k u) ∙ ap (λ (x : List (List ℕ)). recordAt x k) (sym (records-are g t len)) ∙ sound .rest k u (omega arith);
-        freeSlots = spare-are g t m s shown;
+        freeSlots = empty-shown (volumeAt g t) m s shown;
       }
 
 pub ready : (t m s : List ℕ) (g : Geometry) → T (taken t) → Shown (read t) m s → g ≡ readGeometry (slotBytes t 0) → Ready g t m s
