@@ -7,7 +7,7 @@ use native.Mathlib.Omega.{arith}
 use lib.ListN.{length, take, drop, getD, length-take, drop-of-length-le, List·getD-eq-default}
 use lib.Seq.{drop-cons, getD-take}
 use Rattle.model.specs.Basics.{part, zeros}
-use Rattle.model.specs.Model.{Geometry, Label, Run, tracks}
+use Rattle.model.specs.Model.{Geometry, Label, Run, oneSlot, tracks}
 use Rattle.model.proofs.Lists.{All}
 use Rattle.rules.specs.Layout.{fields5, fives, format5, headOr0}
 use Rattle.rules.specs.Slots.{withSlots}
@@ -29,13 +29,12 @@ part-next c i b u v =
     ap (λ (n : ℕ). take n (drop i c)) e ∙ ap (take (suc (b - (i + 1)))) (drop-cons c i 0 (omega arith)) ∙ ap (λ (j : ℕ). getD c i 0 ∷ take (b - (i + 1)) (drop j c)) (sym (add-one i))
 
 pub record Clearing (t₀ c : List ℕ) (a b : ℕ) (t : List ℕ) (i : ℕ) : Type 0 where
-  pub upTo : i ≤ b
   pub long : length t ≡ length t₀
   pub inside : All (λ k. 140 * k + 140 ≤ length t₀) (part i (b - i) c)
   pub rest : cleared t (part i (b - i) c) ≡ cleared t₀ (part a (b - a) c)
 
-pub clear-begin : (t c : List ℕ) (a b : ℕ) → a ≤ b → All (λ k. 140 * k + 140 ≤ length t) (part a (b - a) c) → Clearing t c a b t a
-clear-begin t c a b u h = record { upTo = u; long = refl; inside = h; rest = refl }
+pub clear-begin : (t c : List ℕ) (a b : ℕ) → All (λ k. 140 * k + 140 ≤ length t) (part a (b - a) c) → Clearing t c a b t a
+clear-begin t c a b h = record { long = refl; inside = h; rest = refl }
 
 module _ (t₀ c : List ℕ) (a b : ℕ) (t : List ℕ) (i : ℕ) (s : Clearing t₀ c a b t i) (u : i < b) (v : b ≤ length c) where
   here : All (λ k. 140 * k + 140 ≤ length t₀) (getD c i 0 ∷ part (i + 1) (b - (i + 1)) c)
@@ -49,11 +48,21 @@ module _ (t₀ c : List ℕ) (a b : ℕ) (t : List ℕ) (i : ℕ) (s : Clearing 
   clear-rest = sym (ap (cleared t) (part-next c i b u v)) ∙ s .rest
 
   pub clear-next : Clearing t₀ c a b (putRecord t (getD c i 0) (zeros 140)) (i + 1)
-  clear-next = record { upTo = omega arith; long = put-length t (getD c i 0) (zeros 140) refl clear-slot ∙ s .long; inside = here .1; rest = clear-rest }
+  clear-next = record { long = put-length t (getD c i 0) (zeros 140) refl clear-slot ∙ s .long; inside = here .1; rest = clear-rest }
 
 pub clear-end : (t₀ c : List ℕ) (a b : ℕ) (t : List ℕ) (i : ℕ) → Clearing t₀ c a b t i → b ≤ i → t ≡ cleared t₀ (part a (b - a) c)
 unfolding cleared
 clear-end t₀ c a b t i s h = ap (λ (n : ℕ). cleared t (take n (drop i c))) (let e : 0 ≡ b - i = omega arith in e) ∙ s .rest
+
+pub clear-none : (t : List ℕ) (k : ℕ) → k ≡ 0 → t ≡ cleared t (oneSlot k)
+unfolding cleared
+clear-none t zero e = refl
+clear-none t (suc k) e = absurd (omega arith)
+
+pub clear-one : (t : List ℕ) (k : ℕ) → (k ≡ 0 → ⊥) → putRecord t k (zeros 140) ≡ cleared t (oneSlot k)
+unfolding cleared
+clear-one t zero e = absurd (e refl)
+clear-one t (suc k) e = refl
 
 -- ---- a label
 
