@@ -1,18 +1,20 @@
 -- The chain read from a table. Assumes nothing.
 use mathlib.Core.Path.{_≡_, refl, sym, ap, _∙_, subst}
 use mathlib.Core.List.{List, [], _∷_, _++_, append-nil}
-use Prim.Native.Nat.{ℕ, zero, suc, _+_, _-_, _*_, _≤_, _<_}
+use Prim.Native.Nat.{ℕ, zero, suc, _+_, _-_, _≤_, _<_}
 use native.Mathlib.Numerals.{add-one}
 use native.Mathlib.Omega.{arith}
 use lib.ListN.{length, set, take, drop}
 use lib.Seq.{append-snoc, take-suc-set}
 use Rattle.model.specs.Basics.{part}
-use Rattle.model.specs.Model.{Geometry, Run, Volume, free, slots, used}
+use Rattle.model.specs.Model.{Geometry, Run, Volume, free, slots, tally, times, used}
 use Rattle.model.proofs.Lists.{All, All-left}
+use Rattle.model.proofs.Runs.{times-total}
 use Rattle.rules.specs.Layout.{fields5, fives, format5, headOr0, link}
 use Rattle.rules.specs.Reading.{chop}
 use Rattle.rules.proofs.Fields.{field-at}
-use Rattle.rules.proofs.TableBack.{lens5, lengths5}
+use Rattle.rules.proofs.Settle.{used-tally}
+use Rattle.rules.proofs.TableBack.{lengths5, lens5}
 use Rattle.rules.proofs.Test.{→in}
 use Rattle.rules.proofs.Valid.{Limits}
 use Rattle.sound.specs.Sound.{FiveOk, Sound}
@@ -20,7 +22,10 @@ use Rattle.fields.specs.Records.{slotBytes}
 use Rattle.fields.specs.Tests.{slotNamed}
 use Rattle.fields.proofs.Links.{slot-below, slot-found, slot-none}
 use Rattle.fields.proofs.Slots.{chop-slot}
+use Rattle.label_check.specs.Marks.{units}
+use Rattle.table.proofs.Scan.{unit-tally}
 use Rattle.settling.specs.Settling.{Chained, walk}
+use Rattle.settling.proofs.Slots.{sum-most, units-inside, units-total}
 
 five-link : (g : Geometry) (f : List Run) (k : ℕ) → part 135 5 (format5 g f k) ≡ link g k
 unfolding format5
@@ -73,9 +78,23 @@ walk-next g t c whole count i k j u w e h =
     ∙ ap (λ (m : ℕ). take i c ++ (k ∷ walk g t (count - (i + 1)) m)) e
     ∙ sym (ap (λ (m : ℕ). take i c ++ walk g t m k) q) ∙ h
 
-chain-below : (v : Volume) → ((k : ℕ) → slots (v .geometry) ≤ k → Rattle.model.specs.Model.tally k (used (v .labels) (v .chain)) ≡ 0) → All (λ k. k < slots (v .geometry)) (v .chain)
+chain-below : (v : Volume) → ((k : ℕ) → slots (v .geometry) ≤ k → tally k (used (v .labels) (v .chain)) ≡ 0) → All (λ k. k < slots (v .geometry)) (v .chain)
 unfolding used
 chain-below v h = All-left (λ k. k < slots (v .geometry)) (v .chain) _ (→in (slots (v .geometry)) (used (v .labels) (v .chain)) h .1)
+
+-- the chain of a sound table has room in a list as long as the slots
+pub chain-short : (rs : List (List ℕ)) (v : Volume) → Sound rs v → length (v .chain) ≤ slots (v .geometry)
+chain-short rs v x =
+    let n = slots (v .geometry) in
+    let ks = v .chain in
+    let a = times-total n (units ks) (units-inside n ks (chain-below v (x .slotIn))) in
+    let b = units-total ks in
+    let m = sum-most (λ k. times k (units ks)) 0 n (λ k u.
+        let o = x .slotOnce k in
+        let t = used-tally (v .labels) ks k in
+        let w = unit-tally k ks in
+        omega arith) in
+    omega arith
 
 sound-walk : (t : List ℕ) (v : Volume) → Sound (chop (slots (v .geometry)) t) v → walk (v .geometry) t (length (v .chain)) 1 ≡ v .chain
 sound-walk t v x = walk-chain (v .geometry) (x .limits) t (v .chain) (free (v .geometry) (v .labels)) (x .head) (x .fives) (chain-below v (x .slotIn))

@@ -1,44 +1,29 @@
 -- The change settled: what is refused and what is given is what the definition says. Assumes nothing.
 use mathlib.Core.Path.{_≡_, refl, sym, ap, _∙_, subst}
-use mathlib.Core.Bool.{Bool, true, false, cond}
-use mathlib.Core.Logic.{⊎-elim}
-use mathlib.Core.Option.{Option, none, some}
+use mathlib.Core.Bool.{true, false}
+use mathlib.Core.Option.{none, some}
 use mathlib.Core.List.{List, [], _∷_, _++_, append-assoc}
 use Prim.Native.Nat.{ℕ, zero, suc, _+_, _-_, _*_, _≤_, _<_}
-use native.Mathlib.Nat.{le-refl}
 use native.Mathlib.Omega.{arith}
 use borrow.Author.Tests.{le-leb, lt-leb}
-use lib.Dec.{eqb, leb}
+use lib.Dec.{eqb}
 use lib.ListN.{length, take, drop, length-append, length-take, take-append-drop}
-use lib.Seq.{drop-at, length-slice, slice, take-all, take-at, take-take}
-use Rattle.model.specs.Basics.{bit, filter, sumOf, upFrom}
-use Rattle.model.specs.Model.{Geometry, Label, Volume, fivesFor, free, slots, tally, times, total, unused, used}
+use lib.Seq.{drop-at, length-slice, slice, take-all, take-at}
+use Rattle.model.specs.Basics.{bit, sumOf, upFrom}
+use Rattle.model.specs.Model.{Geometry, Label, fivesFor, free, slots, tally, times, total, unused, used}
 use Rattle.model.proofs.Lists.{All, All-append, All-drop, All-filter, All-left, All-map, All-right, All-take, clash, range-All, sum-take}
-use Rattle.model.proofs.Runs.{Inside, runs-total, sum-add, times-total}
+use Rattle.model.proofs.Runs.{runs-total, sum-add, times-total}
 use Rattle.rules.specs.Slots.{settle}
 use Rattle.rules.proofs.Settle.{used-tally}
 use Rattle.tracks.specs.Map.{Shows, freeBit, freeFrom, isFree}
-use Rattle.tracks.proofs.Bits.{le-or-lt}
 use Rattle.tracks.proofs.Counting.{bit-of}
 use Rattle.tracks.proofs.Walk.{free-from-zero}
 use Rattle.label_check.specs.Marks.{units}
 use Rattle.table.proofs.Scan.{unit-tally}
 use Rattle.settling.specs.Settling.{Filled, Gave, Lowest, Settles, SettlesIn}
-use Rattle.settling.proofs.Slots.{count-law, lowest-then, shows-order, shows-tally, tally-append}
+use Rattle.settling.proofs.Slots.{count-law, lowest-then, shows-order, shows-tally, sum-most, tally-append, units-inside, units-total}
 
 -- ---- the balance of slots
-
-sum-most : (F : ℕ → ℕ) (a n : ℕ) → ((k : ℕ) → k < a + n → F k ≤ 1) → sumOf F (upFrom a n) ≤ n
-sum-most F a zero h = le-refl 0
-sum-most F a (suc n) h = let i = sum-most F (suc a) n (λ k u. h k (omega arith)) in let e = h a (omega arith) in omega arith
-
-units-total : (ks : List ℕ) → total (units ks) ≡ length ks
-units-total [] = refl
-units-total (k ∷ ks) = let i = units-total ks in omega arith
-
-units-inside : (n : ℕ) (ks : List ℕ) → All (λ k. k < n) ks → Inside n (units ks)
-units-inside n [] a = tt
-units-inside n (k ∷ ks) a = (omega (arith, a .0), units-inside n ks (a .1))
 
 -- a chain and the unused slots are no more than the slots
 slots-balance : (s : List ℕ) (n : ℕ) (draft : List Label) (ks : List ℕ) → All (λ k. k < n) ks → Shows s n (units (used draft ks)) → length ks + length (unused n (used draft ks)) ≤ n
@@ -108,6 +93,7 @@ module _ (g : Geometry) (s c d : List ℕ) (was need asked : ℕ) (long : was �
         done = λ draft e h finish. settle-none g (take was c) draft asked finish need e (too-few over draft h);
         shown = λ e. clash {b = false} e refl;
         inside = λ e. clash {b = false} e refl;
+        insideGiven = λ e. clash {b = false} e refl;
       }
 
   -- ---- the chain's end given back
@@ -146,6 +132,7 @@ module _ (g : Geometry) (s c d : List ℕ) (was need asked : ℕ) (long : was �
           done = λ draft e h finish. settle-none g (take was c) draft asked finish need e (let n = count draft h in let m = new-is in omega arith);
           shown = λ e. clash {b = false} e refl;
           inside = λ e. clash {b = false} e refl;
+          insideGiven = λ e. clash {b = false} e refl;
         }
 
     -- enough: the slots asked for, and then those of the chain
@@ -206,12 +193,14 @@ module _ (g : Geometry) (s c d : List ℕ) (was need asked : ℕ) (long : was �
             let i = ap (tally k) chain-is ∙ tally-append k kept adds in
             omega arith
 
+        new-inside : All (λ k. k < slots g) (asks ++ (adds ++ rest))
+        new-inside = subst (All (λ k. k < slots g)) split (unused-below (slots g) (used draft kept))
+
         all-inside : All (λ k. k < slots g) (take need c′)
         all-inside =
-            let a : All (λ k. k < slots g) (asks ++ (adds ++ rest)) = subst (All (λ k. k < slots g)) split (unused-below (slots g) (used draft kept)) in
             subst (All (λ k. k < slots g)) (sym chain-is)
             (All-append (λ k. k < slots g) kept adds (All-take (λ k. k < slots g) need (take was c) low)
-            (All-left (λ k. k < slots g) adds rest (All-right (λ k. k < slots g) asks (adds ++ rest) a)))
+            (All-left (λ k. k < slots g) adds rest (All-right (λ k. k < slots g) asks (adds ++ rest) new-inside)))
 
       pub settled-yes : Settles g s s₃ c c′ d d′ was need asked true
       settled-yes =
@@ -224,6 +213,7 @@ module _ (g : Geometry) (s c d : List ℕ) (was need asked : ℕ) (long : was �
             done = λ draft e h finish. is-some draft h e finish;
             shown = λ e. all-shown;
             inside = λ e. all-inside;
+            insideGiven = λ e draft h. All-left (λ k. k < slots g) asks (adds ++ rest draft h) (new-inside draft h);
           }
 
 -- ---- the same for any geometry of n slots: the returns of `settle`

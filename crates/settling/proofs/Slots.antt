@@ -3,7 +3,7 @@ use mathlib.Core.Path.{_≡_, refl, sym, ap, ap₂, _∙_, subst, fun-ext}
 use mathlib.Core.Bool.{Bool, true, false}
 use mathlib.Core.Logic.{⊎-elim}
 use mathlib.Core.List.{List, [], _∷_, _++_, append-assoc}
-use Prim.Native.Nat.{ℕ, zero, suc, _+_, _-_, _*_, _≤_, _<_, max}
+use Prim.Native.Nat.{ℕ, zero, suc, _+_, _-_, _≤_, _<_, max}
 use native.Mathlib.Nat.{le-refl}
 use native.Mathlib.Numerals.{add-one}
 use native.Mathlib.Decide.{ℕ-discrete}
@@ -12,10 +12,10 @@ use borrow.Author.Tests.{eq-eqb, ne-eqb}
 use lib.Dec.{eqb}
 use lib.ListN.{length, getD, set, take, drop, length-append, length-take, drop-of-length-le}
 use lib.Seq.{drop-append-le, getD-drop, getD-take, length-slice, slice, slice-empty, take-suc, take-suc-set}
-use Rattle.model.specs.Basics.{bit, filter, keepIf, upFrom}
+use Rattle.model.specs.Basics.{bit, filter, keepIf, sumOf, upFrom}
 use Rattle.model.specs.Model.{run, tally, total, unused}
 use Rattle.model.proofs.Lists.{All, All-at, sum-append}
-use Rattle.model.proofs.Runs.{hit-below, hit-in}
+use Rattle.model.proofs.Runs.{Inside, hit-below, hit-in}
 use Rattle.tracks.specs.Map.{AllFree, Given, NextRun, Shows, Taken, freeBit, freeFrom}
 use Rattle.tracks.proofs.Bits.{le-or-lt}
 use Rattle.tracks.proofs.Held.{shows-give, taken-true}
@@ -52,6 +52,20 @@ counted s n at count u v w e =
     let q : at ≡ n = omega arith in
     let z : total (freeFrom s n at) ≡ 0 = ap (λ (y : ℕ). total (freeFrom s n y)) q ∙ ap total (free-from-end s n) in
     (omega arith, omega arith)
+
+-- ---- sums over the slots
+
+pub sum-most : (F : ℕ → ℕ) (a n : ℕ) → ((k : ℕ) → k < a + n → F k ≤ 1) → sumOf F (upFrom a n) ≤ n
+sum-most F a zero h = le-refl 0
+sum-most F a (suc n) h = let i = sum-most F (suc a) n (λ k u. h k (omega arith)) in let e = h a (omega arith) in omega arith
+
+pub units-total : (ks : List ℕ) → total (units ks) ≡ length ks
+units-total [] = refl
+units-total (k ∷ ks) = let i = units-total ks in omega arith
+
+pub units-inside : (n : ℕ) (ks : List ℕ) → All (λ k. k < n) ks → Inside n (units ks)
+units-inside n [] a = tt
+units-inside n (k ∷ ks) a = (omega (arith, a .0), units-inside n ks (a .1))
 
 -- ---- the lowest
 

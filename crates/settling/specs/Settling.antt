@@ -67,6 +67,7 @@ pub record Settles (g : Geometry) (s s′ c c′ d d′ : List ℕ) (was need as
   pub shown : r ≡ true → (draft : List Label) → Shows s (slots g) (units (used draft (take was c)))
       → (k : ℕ) → k < slots g → freeBit s′ k + (tally k (used draft (take need c′)) + tally k (take asked d′)) ≡ 1
   pub inside : r ≡ true → (draft : List Label) → Shows s (slots g) (units (used draft (take was c))) → All (λ k. k < slots g) (take need c′)
+  pub insideGiven : r ≡ true → (draft : List Label) → Shows s (slots g) (units (used draft (take was c))) → All (λ k. k < slots g) (take asked d′)
 
 -- for any geometry of n slots
 abbrev pub SettlesIn : ℕ → (s s′ c c′ d d′ : List ℕ) → (was need asked : ℕ) → Bool → Type 0

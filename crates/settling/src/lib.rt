@@ -33,7 +33,7 @@ pub fn count_free(empty: &[u64], n: usize) -> usize
 }
 
 // Takes the lowest free slot of n out of the map; n where there is none.
-fn take_lowest(empty: &mut [u64], n: usize) -> usize
+pub fn take_lowest(empty: &mut [u64], n: usize) -> usize
     requires { ⌜ n ≤ 64 * length (now empty) ⌝ }
     ensures { λ r. ⌜ Lowest n (now (empty .entry)) (now (empty .exit)) (r ∷ []) × (r ≤ n) ⌝ }
 {

@@ -1,17 +1,14 @@
-use Rattle.settling.proofs.Slots.{counted}
-use mathlib.Core.Path.{_≡_, refl, sym, ap, _∙_}
-use Prim.Native.Nat.{ℕ, _+_, _-_, _≤_}
+use mathlib.Core.Path.{_≡_}
+use Prim.Native.Nat.{_+_, _-_, _≤_}
 use native.Mathlib.Omega.{arith}
 use Rattle.model.specs.Model.{total}
 use Rattle.tracks.specs.Map.{freeFrom}
-use Rattle.tracks.proofs.Walk.{free-from-end, goes-on}
+use Rattle.tracks.proofs.Walk.{goes-on}
 use Rattle.spare.proofs.Laws.{run-total}
+use Rattle.settling.proofs.Slots.{counted}
 use borrow.Author.Needs.{needs}
 use Rattle.settling.proofs.count_free.Statement.{statement}
 use Rattle.settling.proofs.count_free.Tie as tie
-use Rattle.settling.proofs.count_free.Reads as reads
-use Rattle.settling.proofs.count_free.Lts as lts
-use Rattle.tracks.proofs.next_run.Reads as next-run-reads
 
 abbrev Inv-loop : tie.InvT-loop
 Inv-loop empty n count₀ at₀ count at = (at ≤ n) × (count ≤ at) × (count + total (freeFrom empty n at) ≡ total (freeFrom empty n 0))

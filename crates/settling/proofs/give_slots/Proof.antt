@@ -1,19 +1,13 @@
-use mathlib.Core.Path.{_≡_, refl, sym, ap, _∙_, subst}
-use mathlib.Core.List.{List}
 use Prim.Native.Nat.{ℕ, _-_, _*_, _≤_, _<_, max}
 use native.Mathlib.Nat.{le-refl}
 use native.Mathlib.Omega.{arith}
-use lib.ListN.{length, getD}
+use lib.ListN.{length}
 use lib.Seq.{slice}
 use Rattle.settling.specs.Settling.{Gave}
 use Rattle.settling.proofs.Slots.{gave-all, gave-next, gave-none, in-slice}
 use borrow.Author.Needs.{needs}
 use Rattle.settling.proofs.give_slots.Statement.{statement}
 use Rattle.settling.proofs.give_slots.Tie as tie
-use Rattle.settling.proofs.give_slots.Reads as reads
-use Rattle.settling.proofs.give_slots.Lts as lts
-use Rattle.settling.proofs.wide.Reads as wide-reads
-use Rattle.tracks.proofs.give_range.Reads as give-range-reads
 
 abbrev Inv-loop : tie.InvT-loop
 Inv-loop empty₀ chain a b i₀ empty i = (a ≤ i) × (i ≤ max a b) × Gave empty₀ empty (slice a i chain)

@@ -1,21 +1,15 @@
-use lib.ListN.{length-set}
-use mathlib.Core.Path.{_≡_, refl, sym, ap, _∙_, subst}
-use mathlib.Core.List.{List, _++_}
+use mathlib.Core.Path.{_≡_, refl, sym, _∙_, subst}
+use mathlib.Core.List.{_++_}
 use Prim.Native.Nat.{ℕ, _-_, _≤_, _<_}
 use native.Mathlib.Omega.{arith}
-use lib.ListN.{length, take}
+use lib.ListN.{length-set, length, take}
 use Rattle.model.specs.Model.{slots}
 use Rattle.forms.specs.Forms.{geometryOf}
-use Rattle.fields.proofs.Slots.{length-part}
 use Rattle.settling.specs.Settling.{walk}
 use Rattle.settling.proofs.Chains.{chained, named-below, next-named, walk-none, walk-next}
 use borrow.Author.Needs.{needs}
 use Rattle.settling.proofs.read_chain.Statement.{statement}
 use Rattle.settling.proofs.read_chain.Tie as tie
-use Rattle.settling.proofs.read_chain.Reads as reads
-use Rattle.settling.proofs.read_chain.Lts as lts
-use Rattle.fields.proofs.record_at.Reads as record-at-reads
-use Rattle.fields.proofs.slot_of.Reads as slot-of-reads
 
 abbrev Inv-loop : tie.InvT-loop
 Inv-loop table g count chain₀ n k₀ i₀ chain k i = (i ≤ count) × (k < slots (geometryOf g)) × (n ≡ slots (geometryOf g)) × (length chain ≡ length chain₀) × (take i chain ++ walk (geometryOf g) table (count - i) k ≡ walk (geometryOf g) table count 1)

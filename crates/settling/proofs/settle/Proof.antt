@@ -1,14 +1,8 @@
-use Rattle.settling.proofs.Settled.{full-in, give-low, over-in, yes-in}
 use native.Mathlib.Omega.{arith}
+use Rattle.settling.proofs.Settled.{full-in, give-low, over-in, yes-in}
 use borrow.Author.Needs.{needs}
 use Rattle.settling.proofs.settle.Statement.{statement}
 use Rattle.settling.proofs.settle.Tie as tie
-use Rattle.settling.proofs.settle.Reads as reads
-use Rattle.settling.proofs.settle.Lts as lts
-use Rattle.settling.proofs.count_free.Reads as count-free-reads
-use Rattle.settling.proofs.give_slots.Reads as give-slots-reads
-use Rattle.settling.proofs.longer.Reads as longer-reads
-use Rattle.settling.proofs.take_slots.Reads as take-slots-reads
 
 -- src/lib.rt:137:9
 returns : tie.Need-returns

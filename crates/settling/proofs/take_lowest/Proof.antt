@@ -4,10 +4,6 @@ use Rattle.settling.proofs.Slots.{lowest-none, lowest-one}
 use borrow.Author.Needs.{needs}
 use Rattle.settling.proofs.take_lowest.Statement.{statement}
 use Rattle.settling.proofs.take_lowest.Tie as tie
-use Rattle.settling.proofs.take_lowest.Reads as reads
-use Rattle.settling.proofs.take_lowest.Lts as lts
-use Rattle.tracks.proofs.next_run.Reads as next-run-reads
-use Rattle.tracks.proofs.take_range.Reads as take-range-reads
 
 -- src/lib.rt:41:9
 next-run-requires : tie.Need-next-run-requires

@@ -1,20 +1,14 @@
-use lib.Seq.{take-set-le}
-use lib.ListN.{length-set}
-use mathlib.Core.Path.{_≡_, refl, sym, ap, _∙_, subst}
-use mathlib.Core.List.{List}
-use Prim.Native.Nat.{ℕ, _-_, _≤_, max}
+use mathlib.Core.Path.{_≡_, refl, _∙_}
+use Prim.Native.Nat.{_-_, _≤_, max}
 use native.Mathlib.Nat.{le-refl}
 use native.Mathlib.Omega.{arith}
-use lib.ListN.{length, take}
-use lib.Seq.{slice}
-use Rattle.settling.specs.Settling.{Filled, Lowest}
+use lib.Seq.{take-set-le, slice}
+use lib.ListN.{length-set, length, take}
+use Rattle.settling.specs.Settling.{Lowest}
 use Rattle.settling.proofs.Slots.{filled, filled-next, filled-none}
 use borrow.Author.Needs.{needs}
 use Rattle.settling.proofs.take_slots.Statement.{statement}
 use Rattle.settling.proofs.take_slots.Tie as tie
-use Rattle.settling.proofs.take_slots.Reads as reads
-use Rattle.settling.proofs.take_slots.Lts as lts
-use Rattle.settling.proofs.take_lowest.Reads as take-lowest-reads
 
 abbrev Inv-loop : tie.InvT-loop
 Inv-loop empty₀ n into₀ a b i₀ empty into i = (a ≤ i) × (i ≤ max a b) × (length into ≡ length into₀) × (take a into ≡ take a into₀) × (b ≤ a → into ≡ into₀) × Lowest n empty₀ empty (slice a i into)
