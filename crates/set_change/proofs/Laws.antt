@@ -4,10 +4,10 @@ use mathlib.Core.Path.{_≡_, sym, ap, ap₂, _∙_, subst}
 use mathlib.Core.List.{List, [], _∷_, _++_, map}
 use Prim.Native.Nat.{ℕ, suc, _+_, _≤_, _<_}
 use native.Mathlib.Omega.{arith}
-use lib.ListN.{length, take, drop, getD, length-map}
+use lib.ListN.{length, take, getD, length-map}
 use lib.Seq.{take-at}
 use Rattle.model.specs.Basics.{bit, upFrom}
-use Rattle.model.specs.Model.{Extent, Geometry, Label, Run, covers, overs, times}
+use Rattle.model.specs.Model.{Extent, Geometry, Label, Run, covers, overs}
 use Rattle.model.proofs.Lists.{All, All-map, sum-append}
 use Rattle.model.proofs.Runs.{Once}
 use Rattle.rules.specs.Calls.{keep}
@@ -15,13 +15,13 @@ use Rattle.rules.specs.Layout.{format1, format3}
 use Rattle.rules.specs.Reading.{readExtents, readLabel, recordAt, slotAt}
 use Rattle.rules.specs.Slots.{withExtents}
 use Rattle.rules.proofs.Keyed.{getD-map-range}
-use Rattle.rules.proofs.LabelBack.{label-back}
-use Rattle.rules.proofs.Valid.{GoodExtent, GoodLabel}
+use Rattle.rules.proofs.LabelBack.{label-back, length-1}
+use Rattle.rules.proofs.Valid.{GoodExtent, GoodLabel, Limits}
 use Rattle.tracks.specs.Map.{Shows}
 use Rattle.tracks.proofs.Held.{Room}
 use Rattle.grant.specs.Grant.{row}
 use Rattle.forms.proofs.Written.{count-back}
-use Rattle.set_change.specs.Change.{GaveTail, Piece, Stays, partOf, shortened}
+use Rattle.set_change.specs.Change.{GaveTail, Piece, SetIn, Stays, extentsIn, shortened}
 use Rattle.set_change.proofs.Cutting.{keep-zero}
 
 -- ---- a good label, read from its records
@@ -41,15 +41,23 @@ module _ (g : Geometry) (l : Label) (good : GoodLabel g l) (f1 f3 : List ℕ) (o
   back : readLabel g rs (l .slot) (format1 g l) ≡ l
   back = label-back g l good rs (ap length there ∙ long) (λ u. there ∙ three (good .many u))
 
-  pub extents-are : readExtents (g .heads) f1 f3 (getD f1 59 0) ≡ l .extents
+  pub extents-are : extentsIn g f1 f3 (getD f1 59 0) ≡ l .extents
   unfolding readLabel
   extents-are =
       let third : slotAt g (format1 g l) 135 ≡ l .slot3 = ap (λ (m : Label). m .slot3) back in
       ap₂ (λ (x y : List ℕ). readExtents (g .heads) x y (getD x 59 0)) one (sym (ap (recordAt rs) third ∙ there))
       ∙ ap (λ (m : Label). m .extents) back
 
-  pub extents-good : All (GoodExtent g) (readExtents (g .heads) f1 f3 (getD f1 59 0))
-  extents-good = subst (All (GoodExtent g)) (sym extents-are) (good .extents)
+  -- what the functions that read the extents ask
+  pub set-in : Limits g → SetIn g f1 f3 (getD f1 59 0)
+  set-in limits =
+      record {
+        limits = limits;
+        long1 = ap length one ∙ length-1 g l good;
+        long3 = long;
+        most = let n = count-is in let m = good .most in omega arith;
+        good = subst (All (GoodExtent g)) (sym extents-are) (good .extents);
+      }
 
 -- ---- pieces
 

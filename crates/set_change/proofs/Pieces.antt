@@ -14,7 +14,7 @@ use Rattle.rules.specs.Slots.{withExtents}
 use Rattle.tracks.specs.Map.{Shows, Taken}
 use Rattle.tracks.proofs.Held.{Room, room-first, room-next, shows-same, shows-take, taken-true}
 use Rattle.grant.specs.Grant.{row}
-use Rattle.labels.specs.Labels.{Format1, Format3, added}
+use Rattle.labels.specs.Labels.{Format3, added}
 use Rattle.labels.proofs.Following.{added-next, added-none}
 use Rattle.labels.proofs.Format3.{three-none}
 use Rattle.set_change.specs.Change.{InRecords, Piece, TookPieces, granted}

@@ -7,7 +7,9 @@ use lib.ListN.{length, take, getD}
 use Rattle.model.specs.Model.{Extent, Geometry, Label, Run, extent, overs, run}
 use Rattle.model.proofs.Lists.{All}
 use Rattle.rules.specs.Calls.{keep}
+use Rattle.rules.specs.Reading.{readExtents}
 use Rattle.rules.specs.Slots.{withExtents}
+use Rattle.rules.proofs.Valid.{GoodExtent, Limits}
 use Rattle.tracks.specs.Map.{Shows}
 use Rattle.tracks.proofs.Held.{Room}
 use Rattle.grant.specs.Grant.{row}
@@ -37,6 +39,17 @@ abbrev pub granted : ℕ → List Run → Label → Label
 granted kind ps l = withExtents (l .extents ++ map (extent kind) ps) (l .ttr) l
 
 -- ---- a data set that is cut
+
+-- a format 1 and a record of as many bytes, its format 3 where it has one, with n good extents in them
+pub record SetIn (g : Geometry) (f1 f3 : List ℕ) (n : ℕ) : Type 0 where
+  pub limits : Limits g
+  pub long1 : length f1 ≡ 140
+  pub long3 : length f3 ≡ 140
+  pub most : n ≤ 16
+  pub good : All (GoodExtent g) (readExtents (g .heads) f1 f3 n)
+
+abbrev pub extentsIn : Geometry → List ℕ → List ℕ → ℕ → List Extent
+extentsIn g f1 f3 n = readExtents (g .heads) f1 f3 n
 
 -- the first tracks of an extent; 0 of them are none. "A shortened extent gets type X'01'"
 abbrev pub partOf : ℕ → ℕ → List Extent

@@ -6,12 +6,12 @@ ghost use lib.ListN.{length, take, getD};
 ghost use Rattle.model.specs.Model.{Geometry, Label, Run, extent, overs, run, total, tracks};
 ghost use Rattle.model.proofs.Lists.{All};
 ghost use Rattle.rules.specs.Layout.{extentPart};
-ghost use Rattle.rules.specs.Reading.{readExtent, readExtents};
-ghost use Rattle.rules.proofs.Valid.{GoodExtent, Limits};
+ghost use Rattle.rules.specs.Reading.{readExtent};
+ghost use Rattle.rules.proofs.Valid.{Limits};
 ghost use Rattle.forms.specs.Forms.{geometryOf};
 ghost use Rattle.grant.specs.Grant.{row};
 ghost use Rattle.labels.specs.Labels.{Format1, Format3, added, firstExtents};
-ghost use Rattle.set_change.specs.Change.{GaveTail, InRecords, Piece, Stays, TookPieces, granted, shortened};
+ghost use Rattle.set_change.specs.Change.{GaveTail, InRecords, Piece, SetIn, Stays, TookPieces, extentsIn, granted, shortened};
 
 // Tracks that follow each other: the first, and how many.
 struct Tracks {
@@ -106,7 +106,7 @@ pub fn add_pieces(
 
 // ---- cut
 
-// The tracks of extent e.
+// The tracks of extent e, with h tracks to a cylinder.
 fn extent_at<'a>(f1: &'a [u8], f3: &'a [u8], e: usize, h: u32) -> Tracks
     requires { ⌜ (length (now f1) ≡ 140) × (length (now f3) ≡ 140) × (e < 16) × (h < 65536) × (1 ≤ readExtent h (extentPart (now f1) (now f3) e) .over .count) ⌝ }
     ensures { λ r. ⌜ run (r .start) (r .count) ≡ readExtent h (extentPart (now (f1 .entry)) (now (f3 .entry)) e) .over ⌝ }
@@ -120,10 +120,10 @@ fn extent_at<'a>(f1: &'a [u8], f3: &'a [u8], e: usize, h: u32) -> Tracks
     }
 }
 
-// How many tracks the first n extents have.
+// How many tracks a data set with n extents has, as the listing counts them.
 pub fn set_tracks<'a>(f1: &'a [u8], f3: &'a [u8], n: usize, g: forms::Geometry) -> u32
-    requires { ⌜ (length (now f1) ≡ 140) × (length (now f3) ≡ 140) × (n ≤ 16) × Limits (geometryOf g) × All (GoodExtent (geometryOf g)) (readExtents (geometryOf g .heads) (now f1) (now f3) n) ⌝ }
-    ensures { λ r. ⌜ r ≡ total (overs (readExtents (geometryOf g .heads) (now (f1 .entry)) (now (f3 .entry)) n)) ⌝ }
+    requires { ⌜ SetIn (geometryOf g) (now f1) (now f3) n ⌝ }
+    ensures { λ r. ⌜ r ≡ total (overs (extentsIn (geometryOf g) (now (f1 .entry)) (now (f3 .entry)) n)) ⌝ }
 {
     listing::tracks_of(f1, f3, n, g.heads)
 }
@@ -137,8 +137,8 @@ pub struct Kept {
 
 // Where the first `keep` tracks of a data set with n extents end.
 fn cut_at<'a>(f1: &'a [u8], f3: &'a [u8], n: usize, g: forms::Geometry, keep: u32) -> Kept
-    requires { ⌜ (length (now f1) ≡ 140) × (length (now f3) ≡ 140) × (n ≤ 16) × Limits (geometryOf g) × All (GoodExtent (geometryOf g)) (readExtents (geometryOf g .heads) (now f1) (now f3) n) ⌝ }
-    ensures { λ r. ⌜ Stays keep (readExtents (geometryOf g .heads) (now (f1 .entry)) (now (f3 .entry)) n) (tracks (geometryOf g)) (r .whole) (r .start) (r .count) ⌝ }
+    requires { ⌜ SetIn (geometryOf g) (now f1) (now f3) n ⌝ }
+    ensures { λ r. ⌜ Stays keep (extentsIn (geometryOf g) (now (f1 .entry)) (now (f3 .entry)) n) (tracks (geometryOf g)) (r .whole) (r .start) (r .count) ⌝ }
 {
     let mut left = keep;
     let mut e: usize = 0;
@@ -168,8 +168,8 @@ fn lesser(a: u32, b: u32) -> u32
     if a < b { a } else { b }
 }
 
-// Makes free the tracks behind the first `keep` tracks of a data set with n extents. Of an extent that stays whole, the
-// tracks from its end up to its end are given back, so that there is no case to tell.
+// Makes free the tracks behind the first `keep` tracks of a data set with n extents. An extent that stays whole gives
+// back an empty range, so that there is no case to tell.
 fn give_behind<'a>(
     f1: &'a [u8],
     f3: &'a [u8],
@@ -178,8 +178,8 @@ fn give_behind<'a>(
     keep: u32,
     map: &mut [u64],
 )
-    requires { ⌜ (length (now f1) ≡ 140) × (length (now f3) ≡ 140) × (n ≤ 16) × Limits (geometryOf g) × (tracks (geometryOf g) ≤ 64 * length (now map)) × All (GoodExtent (geometryOf g)) (readExtents (geometryOf g .heads) (now f1) (now f3) n) ⌝ }
-    ensures { λ _. ⌜ GaveTail keep (readExtents (geometryOf g .heads) (now (f1 .entry)) (now (f3 .entry)) n) (now (map .entry)) (now (map .exit)) ⌝ }
+    requires { ⌜ SetIn (geometryOf g) (now f1) (now f3) n × (tracks (geometryOf g) ≤ 64 * length (now map)) ⌝ }
+    ensures { λ _. ⌜ GaveTail keep (extentsIn (geometryOf g) (now (f1 .entry)) (now (f3 .entry)) n) (now (map .entry)) (now (map .exit)) ⌝ }
 {
     let mut left = keep;
     let mut e: usize = 0;
@@ -203,14 +203,14 @@ pub fn give_tail<'a>(
     keep: u32,
     map: &mut [u64],
 ) -> Kept
-    requires { ⌜ (length (now f1) ≡ 140) × (length (now f3) ≡ 140) × (n ≤ 16) × Limits (geometryOf g) × (tracks (geometryOf g) ≤ 64 * length (now map)) × All (GoodExtent (geometryOf g)) (readExtents (geometryOf g .heads) (now f1) (now f3) n) ⌝ }
-    ensures { λ r. ⌜ GaveTail keep (readExtents (geometryOf g .heads) (now (f1 .entry)) (now (f3 .entry)) n) (now (map .entry)) (now (map .exit)) × Stays keep (readExtents (geometryOf g .heads) (now (f1 .entry)) (now (f3 .entry)) n) (tracks (geometryOf g)) (r .whole) (r .start) (r .count) ⌝ }
+    requires { ⌜ SetIn (geometryOf g) (now f1) (now f3) n × (tracks (geometryOf g) ≤ 64 * length (now map)) ⌝ }
+    ensures { λ r. ⌜ GaveTail keep (extentsIn (geometryOf g) (now (f1 .entry)) (now (f3 .entry)) n) (now (map .entry)) (now (map .exit)) × Stays keep (extentsIn (geometryOf g) (now (f1 .entry)) (now (f3 .entry)) n) (tracks (geometryOf g)) (r .whole) (r .start) (r .count) ⌝ }
 {
     give_behind(f1, f3, n, g, keep, map);
     cut_at(f1, f3, n, g, keep)
 }
 
-// The format 3 of a label, with its first n extents only.
+// The format 3 of a label, with its first n extents only; a new one where none of them stands in it.
 fn keep_third(rec: [u8; 140], n: usize) -> [u8; 140]
     requires { ⌜ n ≤ 16 ⌝ }
     ensures { λ r. ⌜ ((g : Geometry) (l : Label) → (3 < n → Format3 g l rec) → Format3 g (firstExtents n l) r) ⌝ }

@@ -5,10 +5,6 @@ use native.Mathlib.Omega.{arith}
 use borrow.Author.Needs.{needs}
 use Rattle.set_change.proofs.add_extent.Statement.{statement}
 use Rattle.set_change.proofs.add_extent.Tie as tie
-use Rattle.set_change.proofs.add_extent.Reads as reads
-use Rattle.set_change.proofs.add_extent.Lts as lts
-use Rattle.labels.proofs.add_extent1.Reads as add-extent1-reads
-use Rattle.labels.proofs.add_extent3.Reads as add-extent3-reads
 
 -- src/lib.rt:69:9
 add-extent1-requires : tie.Need-add-extent1-requires

@@ -1,5 +1,5 @@
-use mathlib.Core.Path.{_≡_, refl, sym, ap, _∙_, subst}
-use Prim.Native.Nat.{ℕ, _+_, _-_, _*_, _≤_}
+use mathlib.Core.Path.{_≡_, subst}
+use Prim.Native.Nat.{ℕ, _-_, _≤_}
 use native.Mathlib.Omega.{arith}
 use lib.ListN.{length, take}
 use Rattle.forms.specs.Forms.{geometryOf}
@@ -7,10 +7,6 @@ use Rattle.set_change.proofs.Pieces.{Adding, added-all, adding-next, ad
 use borrow.Author.Needs.{needs}
 use Rattle.set_change.proofs.add_pieces.Statement.{statement}
 use Rattle.set_change.proofs.add_pieces.Tie as tie
-use Rattle.set_change.proofs.add_pieces.Reads as reads
-use Rattle.set_change.proofs.add_pieces.Lts as lts
-use Rattle.set_change.proofs.add_extent.Reads as add-extent-reads
-use Rattle.set_change.proofs.piece_at.Reads as piece-at-reads
 
 abbrev Inv-loop : tie.InvT-loop
 Inv-loop g n kind pieces count r₀ k₀ r k = (k ≤ count) × Adding (geometryOf g) kind (take count pieces) n k (r₀ .one) (r₀ .three) (r .one) (r .three)

@@ -1,8 +1,6 @@
 use Rattle.model.specs.Model.{tracks}
-use mathlib.Core.Path.{_≡_, refl, sym, ap, _∙_, subst}
-use Prim.Native.Nat.{ℕ, _+_, _-_, _*_, _≤_}
+use Prim.Native.Nat.{_-_, _≤_}
 use native.Mathlib.Omega.{arith}
-use lib.ListN.{length, take}
 use Rattle.rules.specs.Reading.{readExtents}
 use Rattle.forms.specs.Forms.{geometryOf}
 use Rattle.forms.proofs.Written.{read-length}
@@ -10,9 +8,6 @@ use Rattle.set_change.proofs.Cutting.{Keeping, at-read, good-read, keep
 use borrow.Author.Needs.{needs}
 use Rattle.set_change.proofs.cut_at.Statement.{statement}
 use Rattle.set_change.proofs.cut_at.Tie as tie
-use Rattle.set_change.proofs.cut_at.Reads as reads
-use Rattle.set_change.proofs.cut_at.Lts as lts
-use Rattle.set_change.proofs.extent_at.Reads as extent-at-reads
 
 abbrev Inv-loop : tie.InvT-loop
 Inv-loop f1 f3 n g keep left₀ e₀ left e = (e ≤ n) × Keeping keep (readExtents (g .heads) f1 f3 n) e left
@@ -22,17 +17,17 @@ abbrev μ-loop : tie.MeasureT-loop
 
 -- src/lib.rt:124:5
 loop-holds : tie.Need-loop-holds Inv-loop μ-loop
-loop-holds c = search needs
+loop-holds c = (omega arith, keeping-none (c .before .before .args .keep) (readExtents (c .before .before .args .g .heads) (c .before .before .args .f1 .now) (c .before .before .args .f3 .now) (c .before .before .args .n)))
 
 -- src/lib.rt:125:13
 extent-at-requires : tie.Need-extent-at-requires Inv-loop μ-loop
 extent-at-requires c κs =
-    (c .before .before .before .before .pre .0, c .before .before .before .before .pre .1, omega (arith, c .before .before .before .before .pre .2), omega (arith, c .before .before .before .before .pre .3 .headsMost), good-read (geometryOf (c .before .before .before .before .args .g)) (c .before .before .before .before .args .f1 .now) (c .before .before .before .before .args .f3 .now) (c .before .before .before .before .args .n) (c .before .loop .e) (c .before .before .before .before .pre .4) (c .loop-test .taken) .full)
+    (c .before .before .before .before .pre .long1, c .before .before .before .before .pre .long3, omega (arith, c .before .before .before .before .pre .most), omega (arith, c .before .before .before .before .pre .limits .headsMost), good-read (geometryOf (c .before .before .before .before .args .g)) (c .before .before .before .before .args .f1 .now) (c .before .before .before .before .args .f3 .now) (c .before .before .before .before .args .n) (c .before .loop .e) (c .before .before .before .before .pre .good) (c .loop-test .taken) .full)
 
 -- src/lib.rt:127:13
 returns : tie.Need-returns Inv-loop μ-loop
 returns c =
-    let x = at-read (geometryOf (c .before .before .before .before .before .before .before .args .g)) (c .before .before .before .before .before .before .before .args .f1 .now) (c .before .before .before .before .before .before .before .args .f3 .now) (c .before .before .before .before .before .before .before .args .n) (c .before .before .before .before .before .before .before .pre .4) (c .before .before .before .before .loop .e) (c .before .before .extent-at .result .start) (c .before .before .extent-at .result .count) (c .before .before .before .loop-test .taken) (c .before .before .extent-at .ensures) in
+    let x = at-read (geometryOf (c .before .before .before .before .before .before .before .args .g)) (c .before .before .before .before .before .before .before .args .f1 .now) (c .before .before .before .before .before .before .before .args .f3 .now) (c .before .before .before .before .before .before .before .args .n) (c .before .before .before .before .before .before .before .pre .good) (c .before .before .before .before .loop .e) (c .before .before .extent-at .result .start) (c .before .before .extent-at .result .count) (c .before .before .before .loop-test .taken) (c .before .before .extent-at .ensures) in
     stays-part (geometryOf (c .before .before .before .before .before .before .before .args .g)) (c .before .before .before .before .before .before .before .args .keep) (readExtents (c .before .before .before .before .before .before .before .args .g .heads) (c .before .before .before .before .before .before .before .args .f1 .now) (c .before .before .before .before .before .before .before .args .f3 .now) (c .before .before .before .before .before .before .before .args .n)) (c .before .before .before .before .loop .e) (c .before .before .before .before .loop .left) (c .before .before .extent-at .result .start) (c .before .before .extent-at .result .count) x (c .before .before .before .before .loop .inv .1) (c .if1 .taken)
 
 -- src/lib.rt:134:9
@@ -46,7 +41,7 @@ loop-less c = search needs
 -- src/lib.rt:124:5
 loop-again : tie.Need-loop-again Inv-loop μ-loop
 loop-again c =
-    let x = at-read (geometryOf (c .before .before .before .before .before .before .before .before .args .g)) (c .before .before .before .before .before .before .before .before .args .f1 .now) (c .before .before .before .before .before .before .before .before .args .f3 .now) (c .before .before .before .before .before .before .before .before .args .n) (c .before .before .before .before .before .before .before .before .pre .4) (c .before .before .before .before .before .loop .e) (c .before .before .before .extent-at .result .start) (c .before .before .before .extent-at .result .count) (c .before .before .before .before .loop-test .taken) (c .before .before .before .extent-at .ensures) in
+    let x = at-read (geometryOf (c .before .before .before .before .before .before .before .before .args .g)) (c .before .before .before .before .before .before .before .before .args .f1 .now) (c .before .before .before .before .before .before .before .before .args .f3 .now) (c .before .before .before .before .before .before .before .before .args .n) (c .before .before .before .before .before .before .before .before .pre .good) (c .before .before .before .before .before .loop .e) (c .before .before .before .extent-at .result .start) (c .before .before .before .extent-at .result .count) (c .before .before .before .before .loop-test .taken) (c .before .before .before .extent-at .ensures) in
     (omega arith, keeping-next (geometryOf (c .before .before .before .before .before .before .before .before .args .g)) (c .before .before .before .before .before .before .before .before .args .keep) (readExtents (c .before .before .before .before .before .before .before .before .args .g .heads) (c .before .before .before .before .before .before .before .before .args .f1 .now) (c .before .before .before .before .before .before .before .before .args .f3 .now) (c .before .before .before .before .before .before .before .before .args .n)) (c .before .before .before .before .before .loop .e) (c .before .before .before .before .before .loop .left) (c .before .before .before .extent-at .result .start) (c .before .before .before .extent-at .result .count) x (c .before .before .before .before .before .loop .inv .1) (c .before .if1 .left))
 
 -- src/lib.rt:118:1

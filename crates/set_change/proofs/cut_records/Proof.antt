@@ -8,11 +8,6 @@ use mathlib.Core.Path.{subst}
 use borrow.Author.Needs.{needs}
 use Rattle.set_change.proofs.cut_records.Statement.{statement}
 use Rattle.set_change.proofs.cut_records.Tie as tie
-use Rattle.set_change.proofs.cut_records.Reads as reads
-use Rattle.set_change.proofs.cut_records.Lts as lts
-use Rattle.labels.proofs.keep_extents1.Reads as keep-extents1-reads
-use Rattle.set_change.proofs.add_extent.Reads as add-extent-reads
-use Rattle.set_change.proofs.keep_third.Reads as keep-third-reads
 
 -- src/lib.rt:203:9
 keep-extents1-requires : tie.Need-keep-extents1-requires

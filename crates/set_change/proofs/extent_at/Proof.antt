@@ -7,10 +7,6 @@ use mathlib.Core.Path.{ap, _∙_}
 use borrow.Author.Needs.{needs}
 use Rattle.set_change.proofs.extent_at.Statement.{statement}
 use Rattle.set_change.proofs.extent_at.Tie as tie
-use Rattle.set_change.proofs.extent_at.Reads as reads
-use Rattle.set_change.proofs.extent_at.Lts as lts
-use Rattle.fields.proofs.extent_part.Reads as extent-part-reads
-use Rattle.fields.proofs.track_at.Reads as track-at-reads
 
 -- src/lib.rt:93:9
 extent-part-requires : tie.Need-extent-part-requires

@@ -1,5 +1,5 @@
-use mathlib.Core.Path.{_≡_, refl, sym, ap, _∙_, subst}
-use Prim.Native.Nat.{ℕ, _+_, _-_, _*_, _≤_}
+use mathlib.Core.Path.{_≡_, refl, sym, _∙_}
+use Prim.Native.Nat.{_-_, _≤_}
 use native.Mathlib.Nat.{sub-zero}
 use native.Mathlib.Omega.{arith}
 use lib.ListN.{length, take}
@@ -11,11 +11,6 @@ use Rattle.set_change.proofs.Cutting.{Giving, at-read, gave-all, giving
 use borrow.Author.Needs.{needs}
 use Rattle.set_change.proofs.give_behind.Statement.{statement}
 use Rattle.set_change.proofs.give_behind.Tie as tie
-use Rattle.set_change.proofs.give_behind.Reads as reads
-use Rattle.set_change.proofs.give_behind.Lts as lts
-use Rattle.set_change.proofs.extent_at.Reads as extent-at-reads
-use Rattle.set_change.proofs.lesser.Reads as lesser-reads
-use Rattle.tracks.proofs.give_range.Reads as give-range-reads
 
 abbrev Inv-loop : tie.InvT-loop
 Inv-loop f1 f3 n g keep map₀ left₀ e₀ map left e = (e ≤ n) × (length map ≡ length map₀) × (left ≡ keep - total (overs (take e (readExtents (g .heads) f1 f3 n)))) × Giving keep (readExtents (g .heads) f1 f3 n) e map₀ map
@@ -25,12 +20,14 @@ abbrev μ-loop : tie.MeasureT-loop
 
 -- src/lib.rt:158:5
 loop-holds : tie.Need-loop-holds Inv-loop μ-loop
-loop-holds c = search needs
+loop-holds c =
+    let es = readExtents (c .before .before .before .args .g .heads) (c .before .before .before .args .f1 .now) (c .before .before .before .args .f3 .now) (c .before .before .before .args .n) in
+    (omega arith, refl, sym (sub-zero (c .before .before .before .args .keep)), giving-none (c .before .before .before .args .keep) es (c .before .before .before .args .map .now))
 
 -- src/lib.rt:159:13
 extent-at-requires : tie.Need-extent-at-requires Inv-loop μ-loop
 extent-at-requires c κs =
-    (c .before .before .before .before .before .pre .0, c .before .before .before .before .before .pre .1, omega (arith, c .before .before .before .before .before .pre .2), omega (arith, c .before .before .before .before .before .pre .3 .headsMost), good-read (geometryOf (c .before .before .before .before .before .args .g)) (c .before .before .before .before .before .args .f1 .now) (c .before .before .before .before .before .args .f3 .now) (c .before .before .before .before .before .args .n) (c .before .loop .e) (c .before .before .before .before .before .pre .5) (c .loop-test .taken) .full)
+    (c .before .before .before .before .before .pre .0 .long1, c .before .before .before .before .before .pre .0 .long3, omega (arith, c .before .before .before .before .before .pre .0 .most), omega (arith, c .before .before .before .before .before .pre .0 .limits .headsMost), good-read (geometryOf (c .before .before .before .before .before .args .g)) (c .before .before .before .before .before .args .f1 .now) (c .before .before .before .before .before .args .f3 .now) (c .before .before .before .before .before .args .n) (c .before .loop .e) (c .before .before .before .before .before .pre .0 .good) (c .loop-test .taken) .full)
 
 -- src/lib.rt:160:13
 lesser-requires : tie.Need-lesser-requires Inv-loop μ-loop
@@ -39,8 +36,8 @@ lesser-requires c κs = search needs
 -- src/lib.rt:161:21
 add-from : tie.Need-add-from Inv-loop μ-loop
 add-from c =
-    let x = at-read (geometryOf (c .before .before .before .before .before .before .before .before .args .g)) (c .before .before .before .before .before .before .before .before .args .f1 .now) (c .before .before .before .before .before .before .before .before .args .f3 .now) (c .before .before .before .before .before .before .before .before .args .n) (c .before .before .before .before .before .before .before .before .pre .5) (c .before .before .before .before .loop .e) (c .before .before .extent-at .result .start) (c .before .before .extent-at .result .count) (c .before .before .before .loop-test .taken) (c .before .before .extent-at .ensures) in
-    omega (arith, x .ends, c .before .before .before .before .before .before .before .before .pre .3 .tracksMost, c .before .lesser .ensures)
+    let x = at-read (geometryOf (c .before .before .before .before .before .before .before .before .args .g)) (c .before .before .before .before .before .before .before .before .args .f1 .now) (c .before .before .before .before .before .before .before .before .args .f3 .now) (c .before .before .before .before .before .before .before .before .args .n) (c .before .before .before .before .before .before .before .before .pre .0 .good) (c .before .before .before .before .loop .e) (c .before .before .extent-at .result .start) (c .before .before .extent-at .result .count) (c .before .before .before .loop-test .taken) (c .before .before .extent-at .ensures) in
+    omega (arith, x .ends, c .before .before .before .before .before .before .before .before .pre .0 .limits .tracksMost, c .before .lesser .ensures)
 
 -- src/lib.rt:161:20
 cast-from : tie.Need-cast-from Inv-loop μ-loop
@@ -49,8 +46,8 @@ cast-from c = search needs
 -- src/lib.rt:162:19
 add-to : tie.Need-add-to Inv-loop μ-loop
 add-to c =
-    let x = at-read (geometryOf (c .before .before .before .before .before .before .before .before .before .args .g)) (c .before .before .before .before .before .before .before .before .before .args .f1 .now) (c .before .before .before .before .before .before .before .before .before .args .f3 .now) (c .before .before .before .before .before .before .before .before .before .args .n) (c .before .before .before .before .before .before .before .before .before .pre .5) (c .before .before .before .before .before .loop .e) (c .before .before .before .extent-at .result .start) (c .before .before .before .extent-at .result .count) (c .before .before .before .before .loop-test .taken) (c .before .before .before .extent-at .ensures) in
-    omega (arith, x .ends, c .before .before .before .before .before .before .before .before .before .pre .3 .tracksMost)
+    let x = at-read (geometryOf (c .before .before .before .before .before .before .before .before .before .args .g)) (c .before .before .before .before .before .before .before .before .before .args .f1 .now) (c .before .before .before .before .before .before .before .before .before .args .f3 .now) (c .before .before .before .before .before .before .before .before .before .args .n) (c .before .before .before .before .before .before .before .before .before .pre .0 .good) (c .before .before .before .before .before .loop .e) (c .before .before .before .extent-at .result .start) (c .before .before .before .extent-at .result .count) (c .before .before .before .before .loop-test .taken) (c .before .before .before .extent-at .ensures) in
+    omega (arith, x .ends, c .before .before .before .before .before .before .before .before .before .pre .0 .limits .tracksMost)
 
 -- src/lib.rt:162:18
 cast-to : tie.Need-cast-to Inv-loop μ-loop
@@ -59,9 +56,9 @@ cast-to c = search needs
 -- src/lib.rt:163:9
 give-range-requires : tie.Need-give-range-requires Inv-loop μ-loop
 give-range-requires c κs =
-    let x = at-read (geometryOf (c .before .before .before .before .before .before .before .before .before .before .args .g)) (c .before .before .before .before .before .before .before .before .before .before .args .f1 .now) (c .before .before .before .before .before .before .before .before .before .before .args .f3 .now) (c .before .before .before .before .before .before .before .before .before .before .args .n) (c .before .before .before .before .before .before .before .before .before .before .pre .5) (c .before .before .before .before .before .before .loop .e) (c .before .before .before .before .extent-at .result .start) (c .before .before .before .before .extent-at .result .count) (c .before .before .before .before .before .loop-test .taken) (c .before .before .before .before .extent-at .ensures) in
+    let x = at-read (geometryOf (c .before .before .before .before .before .before .before .before .before .before .args .g)) (c .before .before .before .before .before .before .before .before .before .before .args .f1 .now) (c .before .before .before .before .before .before .before .before .before .before .args .f3 .now) (c .before .before .before .before .before .before .before .before .before .before .args .n) (c .before .before .before .before .before .before .before .before .before .before .pre .0 .good) (c .before .before .before .before .before .before .loop .e) (c .before .before .before .before .extent-at .result .start) (c .before .before .before .before .extent-at .result .count) (c .before .before .before .before .before .loop-test .taken) (c .before .before .before .before .extent-at .ensures) in
     let m = c .before .before .before .before .before .before .loop .inv .1 in
-    (omega (arith, c .before .before .before .lesser .ensures), omega (arith, x .ends, c .before .before .before .before .before .before .before .before .before .before .pre .4))
+    (omega (arith, c .before .before .before .lesser .ensures), omega (arith, x .ends, c .before .before .before .before .before .before .before .before .before .before .pre .1))
 
 -- src/lib.rt:164:9
 sub-left : tie.Need-sub-left Inv-loop μ-loop
@@ -79,7 +76,7 @@ loop-less c = search needs
 loop-again : tie.Need-loop-again Inv-loop μ-loop
 loop-again c =
     let es = readExtents (c .before .before .before .before .before .before .before .before .before .before .before .before .before .args .g .heads) (c .before .before .before .before .before .before .before .before .before .before .before .before .before .args .f1 .now) (c .before .before .before .before .before .before .before .before .before .before .before .before .before .args .f3 .now) (c .before .before .before .before .before .before .before .before .before .before .before .before .before .args .n) in
-    let x = at-read (geometryOf (c .before .before .before .before .before .before .before .before .before .before .before .before .before .args .g)) (c .before .before .before .before .before .before .before .before .before .before .before .before .before .args .f1 .now) (c .before .before .before .before .before .before .before .before .before .before .before .before .before .args .f3 .now) (c .before .before .before .before .before .before .before .before .before .before .before .before .before .args .n) (c .before .before .before .before .before .before .before .before .before .before .before .before .before .pre .5) (c .before .before .before .before .before .before .before .before .before .loop .e) (c .before .before .before .before .before .before .before .extent-at .result .start) (c .before .before .before .before .before .before .before .extent-at .result .count) (c .before .before .before .before .before .before .before .before .loop-test .taken) (c .before .before .before .before .before .before .before .extent-at .ensures) in (
+    let x = at-read (geometryOf (c .before .before .before .before .before .before .before .before .before .before .before .before .before .args .g)) (c .before .before .before .before .before .before .before .before .before .before .before .before .before .args .f1 .now) (c .before .before .before .before .before .before .before .before .before .before .before .before .before .args .f3 .now) (c .before .before .before .before .before .before .before .before .before .before .before .before .before .args .n) (c .before .before .before .before .before .before .before .before .before .before .before .before .before .pre .0 .good) (c .before .before .before .before .before .before .before .before .before .loop .e) (c .before .before .before .before .before .before .before .extent-at .result .start) (c .before .before .before .before .before .before .before .extent-at .result .count) (c .before .before .before .before .before .before .before .before .loop-test .taken) (c .before .before .before .before .before .before .before .extent-at .ensures) in (
       omega arith,
       c .before .before .give-range .ensures .long ∙ c .before .before .before .before .before .before .before .before .before .loop .inv .1,
       left-next (geometryOf (c .before .before .before .before .before .before .before .before .before .before .before .before .before .args .g)) (c .before .before .before .before .before .before .before .before .before .before .before .before .before .args .keep) es (c .before .before .before .before .before .before .before .before .before .loop .e) (c .before .before .before .before .before .before .before .before .before .loop .left) (c .before .before .before .before .before .before .before .extent-at .result .start) (c .before .before .before .before .before .before .before .extent-at .result .count) (c .before .before .before .before .before .before .lesser .result) x (c .before .before .before .before .before .before .before .before .before .loop .inv .2) (c .before .before .before .before .before .before .lesser .ensures),

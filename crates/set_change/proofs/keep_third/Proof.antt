@@ -1,13 +1,8 @@
 use Rattle.set_change.proofs.Cutting.{few-first}
 use Rattle.labels.specs.Labels.{firstExtents}
-use native.Mathlib.Omega.{arith}
 use borrow.Author.Needs.{needs}
 use Rattle.set_change.proofs.keep_third.Statement.{statement}
 use Rattle.set_change.proofs.keep_third.Tie as tie
-use Rattle.set_change.proofs.keep_third.Reads as reads
-use Rattle.set_change.proofs.keep_third.Lts as lts
-use Rattle.labels.proofs.empty_three.Reads as empty-three-reads
-use Rattle.labels.proofs.keep_extents3.Reads as keep-extents3-reads
 
 -- src/lib.rt:191:9
 empty-three-requires : tie.Need-empty-three-requires

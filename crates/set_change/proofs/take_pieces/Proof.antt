@@ -1,15 +1,11 @@
-use mathlib.Core.Path.{_≡_, refl, sym, ap, _∙_, subst}
-use Prim.Native.Nat.{ℕ, _+_, _-_, _*_, _≤_}
+use mathlib.Core.Path.{_≡_, refl, _∙_, subst}
+use Prim.Native.Nat.{ℕ, _-_, _*_, _≤_}
 use native.Mathlib.Omega.{arith}
 use lib.ListN.{length, take}
 use Rattle.set_change.proofs.Pieces.{Taking, piece-in, taking-next, taking-none, took-all}
 use borrow.Author.Needs.{needs}
 use Rattle.set_change.proofs.take_pieces.Statement.{statement}
 use Rattle.set_change.proofs.take_pieces.Tie as tie
-use Rattle.set_change.proofs.take_pieces.Reads as reads
-use Rattle.set_change.proofs.take_pieces.Lts as lts
-use Rattle.set_change.proofs.piece_at.Reads as piece-at-reads
-use Rattle.tracks.proofs.take_range.Reads as take-range-reads
 
 abbrev Inv-loop : tie.InvT-loop
 Inv-loop map₀ pieces count k₀ map k = (k ≤ count) × (length map ≡ length map₀) × Taking (take count pieces) k map₀ map
@@ -19,7 +15,7 @@ abbrev μ-loop : tie.MeasureT-loop
 
 -- src/lib.rt:41:5
 loop-holds : tie.Need-loop-holds Inv-loop μ-loop
-loop-holds c = search needs
+loop-holds c = (omega arith, refl, taking-none (take (c .before .args .count) (c .before .args .pieces)) (c .before .args .map .now))
 
 -- src/lib.rt:42:13
 piece-at-requires : tie.Need-piece-at-requires Inv-loop μ-loop
