@@ -90,10 +90,10 @@ chain-short rs v x =
     let a = times-total n (units ks) (units-inside n ks (chain-below v (x .slotIn))) in
     let b = units-total ks in
     let m = sum-most (λ k. times k (units ks)) 0 n (λ k u.
-        let o = x .slotOnce k in
-        let t = used-tally (v .labels) ks k in
-        let w = unit-tally k ks in
-        omega arith) in
+    let o = x .slotOnce k in
+    let t = used-tally (v .labels) ks k in
+    let w = unit-tally k ks in
+    omega arith) in
     omega arith
 
 sound-walk : (t : List ℕ) (v : Volume) → Sound (chop (slots (v .geometry)) t) v → walk (v .geometry) t (length (v .chain)) 1 ≡ v .chain

@@ -119,8 +119,8 @@ fn longer(was: usize, need: usize) -> usize
     need - was
 }
 
-// Makes the chain of `was` slots one of `need`, and fills `given` with the `asked` slots that labels take, lowest first, before
-// the chain's. False: VTOC full. That `need` is no more than the slots is tested for the chain's sake: it has that much room.
+// Makes the chain of `was` slots one of `need`, and fills `given` with the `asked` slots that labels take, which come first.
+// False: VTOC full. More format 5s than slots are refused at once, since `chain` need not have room for them.
 pub fn settle(
     empty: &mut [u64],
     n: usize,
