@@ -29,6 +29,16 @@ fn asked_for(slot: usize, third: usize, few: bool) -> usize
     first
 }
 
+// The slot of a format 3 that is freed, since three extents or fewer need none.
+fn if_few(few: bool, third: usize) -> usize
+    ensures { λ r. ⌜ r ≡ cond few third 0 ⌝ }
+{
+    if few {
+        return third;
+    }
+    0
+}
+
 // The slot that a record has, or the one given where that is 0.
 fn slot_or(k: usize, given: u16) -> usize
     ensures { λ r. ⌜ r ≡ slotOr k given ⌝ }
@@ -98,9 +108,7 @@ pub fn put_set(
         return false;
     }
     writing::clear(table, &chain, need, was);
-    if few {
-        writing::clear_slot(table, third);
-    }
+    writing::clear_slot(table, if_few(few, third));
     let first = slot_or(slot, given[0]);
     let other = third_slot(slot, third, few, given);
     writing::put_label(table, g, first, other, one, three);

@@ -17,6 +17,7 @@ use Rattle.rules.proofs.Settle.{used-tally}
 use Rattle.rules.proofs.TableBack.{lengths5, lens5}
 use Rattle.rules.proofs.Test.{→in}
 use Rattle.rules.proofs.Valid.{Limits}
+use Rattle.rules.proofs.FreeBack.{five-link}
 use Rattle.sound.specs.Sound.{FiveOk, Sound}
 use Rattle.fields.specs.Records.{slotBytes}
 use Rattle.fields.specs.Tests.{slotNamed}
@@ -26,10 +27,6 @@ use Rattle.label_check.specs.Marks.{units}
 use Rattle.table.proofs.Scan.{unit-tally}
 use Rattle.settling.specs.Settling.{Chained, walk}
 use Rattle.settling.proofs.Slots.{sum-most, units-inside, units-total}
-
-five-link : (g : Geometry) (f : List Run) (k : ℕ) → part 135 5 (format5 g f k) ≡ link g k
-unfolding format5
-five-link g f k = field-at 4 lengths5 (fields5 g f k) (lens5 g f k) (omega arith)
 
 module _ (g : Geometry) (limit : Limits g) (t : List ℕ) where
   abbrev named : ℕ → ℕ
