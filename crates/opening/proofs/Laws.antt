@@ -1,14 +1,14 @@
 -- What holds of a table that is taken. Assumes nothing.
-use mathlib.Core.Path.{_≡_, sym, ap, _∙_, subst}
+use mathlib.Core.Path.{_≡_, refl, sym, ap, _∙_, subst}
 use mathlib.Core.Option.{some}
 use mathlib.Core.List.{List}
-use Prim.Native.Nat.{ℕ, _*_, _≤_, _<_}
+use Prim.Native.Nat.{ℕ, zero, suc, _*_, _≤_, _<_}
 use native.Mathlib.Omega.{arith}
 use lib.Dec.{T}
 use lib.ListN.{length}
 use Rattle.model.specs.Model.{Geometry, Label, Volume, slots}
 use Rattle.model.proofs.Lists.{find-All, same→eq, true-is}
-use Rattle.rules.specs.Layout.{encode, format1, format3}
+use Rattle.rules.specs.Layout.{encode, format1, format3, link}
 use Rattle.rules.specs.Reading.{chop, read, readGeometry}
 use Rattle.rules.specs.Slots.{found}
 use Rattle.rules.specs.Table.{named, taken}
@@ -19,7 +19,11 @@ use Rattle.rules.proofs.Valid.{GoodLabel, Limits, Valid}
 use Rattle.sound.specs.Sound.{LabelOk, Sound}
 use Rattle.sound.proofs.Meaning.{taken-sound}
 use Rattle.fields.specs.Records.{slotBytes}
+use Rattle.fields.specs.Tests.{slotNamed}
+use Rattle.fields.proofs.Links.{slot-found, slot-none}
 use Rattle.fields.proofs.Slots.{chop-slot, length-chop}
+use Rattle.forms.proofs.Written.{link1-back}
+use Rattle.label_check.specs.Label.{namedThird}
 use Rattle.table_check.proofs.Pieces.{in-table, third-below}
 use Rattle.table_check.proofs.Read.{records-are}
 use Rattle.table_check.proofs.Whole.{geometry-read, taken-long}
@@ -77,3 +81,14 @@ found-label t v h name l e =
       one = sym (x .one ∙ chop-slot (slots g) t (l .slot) a);
       three = λ p. sym (x .three p ∙ chop-slot (slots g) t (l .slot3) b);
     }
+
+-- the slot of its format 3, as the format 1 names it
+pub third-is : (t : List ℕ) (g : Geometry) (n : List ℕ) (l : Label) → Limits g → LabelIn t g n l → namedThird g (slotBytes t (l .slot)) ≡ l .slot3
+third-is t g n l lim x =
+    ap (λ (r : List ℕ). namedThird g r) (x .one)
+    ∙ ap (λ (y : List ℕ). slotNamed (g .heads) (g .records) (g .vtocStart) (slots g) y) (link1-back g l (x .good))
+    ∙ named (l .slot3) (x .inside3)
+  where
+    named : (k : ℕ) → k < slots g → slotNamed (g .heads) (g .records) (g .vtocStart) (slots g) (link g k) ≡ k
+    named zero u = slot-none (g .heads) (g .records) (g .vtocStart) (slots g)
+    named (suc k) u = slot-found g (slots g) (link g (suc k)) (lim .heads) (lim .records) (suc k) (omega arith) u refl

@@ -1,6 +1,7 @@
 -- The lookup in a taken table finds the slot of the data set that the rules find. Assumes nothing.
 use mathlib.Core.Path.{_≡_, refl, sym, ap, ap₂, _∙_}
 use mathlib.Core.Bool.{Bool, true, false, cond, _&&_}
+use mathlib.Core.Option.{Option, none, some}
 use mathlib.Core.List.{List, [], _∷_}
 use Prim.Native.Nat.{ℕ, suc, _+_, _/_, _<_}
 use native.Mathlib.Nat.{add-zero, zero-add}
@@ -8,9 +9,9 @@ use native.Mathlib.Omega.{arith}
 use lib.Dec.{T}
 use lib.ListN.{getD, length}
 use Rattle.names.specs.declared.Found.{Found}
-use Rattle.names.specs.declared.Found.the-variants.{Slot}
+use Rattle.names.specs.declared.Found.the-variants.{Nothing, Slot}
 use Rattle.model.specs.Basics.{find, keepIf, same}
-use Rattle.model.specs.Model.{Geometry, Label, slots}
+use Rattle.model.specs.Model.{Geometry, Label, Volume, slots}
 use Rattle.model.proofs.Lists.{by}
 use Rattle.rules.specs.Reading.{chop, read, readLabel, readLabels, readRecords}
 use Rattle.rules.specs.Slots.{found}
@@ -46,3 +47,18 @@ records-found t n e name =
 
 pub lookup : (t : List ℕ) → T (taken t) → (name : List ℕ) → findSlot t name (slots (read t .geometry)) ≡ foundSlot (found (read t) name)
 lookup t x name = let l = ready t x .long in records-found t (slots (read t .geometry)) (let q : slots (read t .geometry) ≡ length t / 140 = omega arith in q) name
+
+-- a slot is that of the data set found, and nothing means that there is none
+pub found-slot : (v : Volume) (name : List ℕ) (k : ℕ) → foundSlot (found v name) ≡ Slot k → (l : Label) × (found v name ≡ some l) × (l .slot ≡ k)
+found-slot v name k e = go (found v name) refl e
+  where
+    go : (o : Option Label) → found v name ≡ o → foundSlot o ≡ Slot k → (l : Label) × (found v name ≡ some l) × (l .slot ≡ k)
+    go none p q = absurd (let z : _≡_ {A = ℕ} 0 1 = cc in omega arith)
+    go (some l) p q = (l, p, let z : l .slot ≡ k = cc in z)
+
+pub found-none : (v : Volume) (name : List ℕ) → foundSlot (found v name) ≡ Nothing → found v name ≡ none
+found-none v name e = go (found v name) e
+  where
+    go : (o : Option Label) → foundSlot o ≡ Nothing → o ≡ none
+    go none q = refl
+    go (some l) q = absurd (let z : _≡_ {A = ℕ} 0 1 = cc in omega arith)

@@ -13,6 +13,7 @@ use Rattle.rules.specs.Reading.{read}
 use Rattle.rules.specs.Table.{goodLength, taken}
 use Rattle.table_check.specs.Check.{Checked}
 use Rattle.opening.specs.Opening.{Opened, openNumber}
+use Rattle.opening.proofs.Laws.{Ready, ready}
 
 -- ---- the cases of `open`
 
@@ -44,6 +45,9 @@ opened-taken t ok e =
     by (goodLength t && ok)
     (λ h. by (taken t) (λ k. true-is k) (λ k. absurd (let q = rw (h, k) at e in omega arith)))
     (λ h. absurd (let q = rw h at e in omega arith))
+
+pub opened-ready : (t : List ℕ) (ok : Bool) (r : ℕ) → r ≡ openNumber t ok → r ≡ 0 → Ready t (read t)
+opened-ready t ok r e z = ready t (opened-taken t ok (sym z ∙ e))
 
 pub opened-good : (t : List ℕ) (ok : Bool) → 0 ≡ openNumber t ok → ok ≡ true
 opened-good t ok e = by ok (λ h. h) (λ h. absurd (let q = rw h at e in by (goodLength t) (λ k. let z = rw k at q in omega arith) (λ k. let z = rw k at q in omega arith)))

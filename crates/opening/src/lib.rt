@@ -2,11 +2,15 @@
 use forms::Geometry;
 ghost use mathlib.Core.Path.{_≡_};
 ghost use mathlib.Core.Bool.{_&&_};
+ghost use Prim.Native.Nat.{_<_};
 ghost use lib.Dec.{T, eqb};
 ghost use lib.ListN.{length};
+ghost use Rattle.model.specs.Model.{slots};
 ghost use Rattle.rules.specs.Reading.{read};
 ghost use Rattle.rules.specs.Table.{taken};
+ghost use Rattle.rules.proofs.Valid.{Limits};
 ghost use Rattle.forms.specs.Forms.{geometryOf};
+ghost use Rattle.label_check.specs.Label.{namedThird};
 ghost use Rattle.opening.specs.Opening.{Opened};
 
 // Whether the answer and a name have the lengths that they must have.
@@ -53,4 +57,12 @@ pub fn geometry(table: &[u8]) -> Geometry
     ensures { λ r. ⌜ geometryOf r ≡ read (now (table .entry)) .geometry ⌝ }
 {
     forms::geometry_of(fields::record_at(table, 0))
+}
+
+// The slot of the format 3 that the format 1 names, 0 for none.
+pub fn third(one: &[u8], g: Geometry) -> usize
+    requires { ⌜ (length (now one) ≡ 140) × Limits (geometryOf g) ⌝ }
+    ensures { λ r. ⌜ (r ≡ namedThird (geometryOf g) (now (one .entry))) × (r < slots (geometryOf g)) ⌝ }
+{
+    fields::slot_of(&one[135..140], g.heads, g.records, g.start, (g.tracks * g.records) as usize)
 }
