@@ -127,3 +127,8 @@ module _ (v w : Volume) (hv : Valid v) (hw : Valid w) (geo : w .geometry ≡ v .
 pub finished : (w : Volume) → Valid w → (f : List Run) (t : List ℕ) (empty : ℕ) → f ≡ free (w .geometry) (w .labels) → empty ≡ length (format0s w)
     → Pending w (w .chain ++ (0 ∷ [])) t → fourPut (w .geometry) (fivesPut (w .geometry) t (fives (w .chain) f)) empty ≡ encode w
 finished w hw f t empty e k p = four-done w hw _ empty k (chain-pending w hw f (0 ∷ []) t e p)
+
+pub cleared-both : (t xs ys : List ℕ) → cleared (cleared t xs) ys ≡ cleared t (xs ++ ys)
+unfolding cleared
+cleared-both t [] ys = refl
+cleared-both t (x ∷ xs) ys = cleared-both _ xs ys

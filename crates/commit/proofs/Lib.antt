@@ -1,2 +1,4 @@
 pub mod Core
 pub mod Put
+pub mod Drop
+pub mod Sets

@@ -33,7 +33,7 @@ use Rattle.writing.proofs.Changed.{label-pending}
 use Rattle.commit.specs.Commit.{Becomes, Draft}
 use Rattle.commit.proofs.Core.{emptied, finished, settled-chain}
 
-free-of : (g : Geometry) (m : List ℕ) (ls : List Label) → Shows m (tracks g) (held g ls) → freeFrom m (tracks g) 0 ≡ free g ls
+pub free-of : (g : Geometry) (m : List ℕ) (ls : List Label) → Shows m (tracks g) (held g ls) → freeFrom m (tracks g) 0 ≡ free g ls
 unfolding free
 free-of g m ls h = free-gaps m (tracks g) (held g ls) h
 
@@ -97,6 +97,18 @@ asks-most false zero (suc q) = omega arith
 asks-most false (suc k) zero = omega arith
 asks-most false (suc k) (suc q) = omega arith
 
+-- the same numbers, as the label has them
+asked-eq : (few few′ : Bool) (slot slot′ third third′ : ℕ) → slot ≡ slot′ → third ≡ third′ → few ≡ few′
+    → asks slot + cond few 0 (asks third) ≡ asks slot′ + cond few′ 0 (asks (cond few′ 0 third′))
+asked-eq few few′ slot slot′ third third′ a b c = rw (a, b, c) (ap (λ (n : ℕ). asks slot′ + n) (asks-same few′ third′))
+
+third-eq : (few few′ : Bool) (slot slot′ third third′ : ℕ) (ds : List ℕ) → slot ≡ slot′ → third ≡ third′ → few ≡ few′
+    → cond few′ 0 (slotOr (cond few′ 0 third′) (getD (take (asks slot + cond few 0 (asks third)) ds) (asks slot′) 0)) ≡ cond few 0 (slotOr third (getD ds (asks slot) 0))
+third-eq few few′ slot slot′ third third′ ds a b c = rw (a, b, c) (third-given few′ slot′ third′ ds)
+
+pub slots-eq : (slot slot′ third third′ x : ℕ) → slot ≡ slot′ → third ≡ third′ → tally x (oneSlot slot′ ++ oneSlot third′) ≡ tally x (oneSlot slot) + tally x (oneSlot third)
+slots-eq slot slot′ third third′ x a b = rw (a, b) (sum-append (λ y. bit (eqb y x)) (oneSlot slot′) (oneSlot third′))
+
 module _ (g : Geometry) (t m s : List ℕ) (was slot third : ℕ) (few : Bool) (one three : List ℕ) (d : Draft g t m s was slot third few one three)
     (c₀ c c′ s′ d₀ d′ : List ℕ) (need asked : ℕ) (r : Bool)
     (chained : Chained g t c₀ c was) (need-is : need ≡ fivesFor (length (freeFrom m (tracks g) 0))) (asked-is : asked ≡ asks slot + cond few 0 (asks third))
@@ -129,7 +141,7 @@ module _ (g : Geometry) (t m s : List ℕ) (was slot third : ℕ) (few : Bool) (
   need-free = need-is ∙ ap (λ (f : List Run). fivesFor (length f)) (free-of g m draft (d .shownTracks))
 
   asked-by : asked ≡ askedBy l
-  asked-by = asked-is ∙ rw (d .slotIs, d .thirdIs, d .fewIs) (ap (λ (n : ℕ). asks (l₀ .slot) + n) (asks-same (fewExtents l₀) (l₀ .slot3)))
+  asked-by = asked-is ∙ asked-eq few (fewExtents l₀) slot (l₀ .slot) third (l₀ .slot3) (d .slotIs) (d .thirdIs) (d .fewIs)
 
   outcome : settleWith v (d .others) l₀ ≡ cond r (some w) none
   outcome =
@@ -141,15 +153,15 @@ module _ (g : Geometry) (t m s : List ℕ) (was slot third : ℕ) (few : Bool) (
   pub put-full : r ≡ false → Becomes (settleWith v (d .others) l₀) t t r
   put-full e = record { full = λ q. outcome ∙ rw q; same = λ q. refl; done = λ q. clash q e }
 
-  module _ (yes : r ≡ true) where
+  module _ (ok : r ≡ true) where
     is-w : settleWith v (d .others) l₀ ≡ some w
-    is-w = outcome ∙ rw yes
+    is-w = outcome ∙ rw ok
 
     hw : Valid w
     hw = d .valid w is-w
 
     given : (k : ℕ) → k < slots g → freeBit s′ k + (tally k (used draft (take need c′)) + tally k ks) ≡ 1
-    given = st .shown yes draft shown
+    given = st .shown ok draft shown
 
     -- the slots of the label, as the code has them
     abbrev k : ℕ
@@ -162,7 +174,9 @@ module _ (g : Geometry) (t m s : List ℕ) (was slot third : ℕ) (few : Bool) (
     first-is = rw (asked-is, sym (d .slotIs)) (first-given few slot third d′)
 
     third-is : placed ks l .slot3 ≡ q
-    third-is = rw (asked-is, sym (d .slotIs), sym (d .thirdIs), sym (d .fewIs)) (third-given few slot third d′)
+    third-is =
+        ap (λ (n : ℕ). cond (fewExtents l₀) 0 (slotOr (cond (fewExtents l₀) 0 (l₀ .slot3)) (getD (take n d′) (asks (l₀ .slot)) 0))) asked-is
+        ∙ third-eq few (fewExtents l₀) slot (l₀ .slot) third (l₀ .slot3) d′ (d .slotIs) (d .thirdIs) (d .fewIs)
 
     placed-is : placed ks l ≡ withSlots k q l₀
     placed-is = ap₂ (λ (a b : ℕ). withSlots a b l₀) first-is third-is
@@ -247,10 +261,10 @@ module _ (g : Geometry) (t m s : List ℕ) (was slot third : ℕ) (few : Bool) (
         ]
 
     old-slots : (x : ℕ) → tally x (slotsOf l₀) ≡ tally x (oneSlot slot) + tally x (oneSlot third)
-    old-slots x = rw (d .slotIs, d .thirdIs) (sum-append (λ y. bit (eqb y x)) (oneSlot (l₀ .slot)) (oneSlot (l₀ .slot3)))
+    old-slots x = slots-eq slot (l₀ .slot) third (l₀ .slot3) x (d .slotIs) (d .thirdIs)
 
     start : settle g (v .chain) draft asked (λ js. insertLabel (placed js l) (d .others)) ≡ some w
-    start = ap (λ (x : List ℕ). settle g x draft asked (λ js. insertLabel (placed js l) (d .others))) (sym read-chain) ∙ st .done draft need-free shown (λ js. insertLabel (placed js l) (d .others)) ∙ rw yes
+    start = ap (λ (x : List ℕ). settle g x draft asked (λ js. insertLabel (placed js l) (d .others))) (sym read-chain) ∙ st .done draft need-free shown (λ js. insertLabel (placed js l) (d .others)) ∙ rw ok
 
     three-is : (x : ℕ) → q ≡ x → 1 ≤ x → three ≡ format3 g l₀
     three-is x e u = go few refl
@@ -282,8 +296,8 @@ module _ (g : Geometry) (t m s : List ℕ) (was slot third : ℕ) (few : Bool) (
         → Becomes (settleWith v (d .others) l₀) t t₄ r
     put-done t₁ t₂ t₃ t₄ e₁ e₂ e₃ e₄ =
         record {
-          full = λ x. clash yes x;
-          same = λ x. clash yes x;
+          full = λ x. clash ok x;
+          same = λ x. clash ok x;
           done = λ x. (
             w, is-w,
             e₄ ∙ written t₃ (e₃ ∙ ap (λ (y : List ℕ). labelPut g y k q l₀ three) (e₂ ∙ ap (λ (y : List ℕ). cleared y (oneSlot (cond few third 0))) (e₁ ∙ ap (cleared t) (chain-tail c c′ (v .chain) was need (st .tail) read-chain (d .members)))))
