@@ -105,13 +105,13 @@ module _ (v w : Volume) (hv : Valid v) (hw : Valid w) (geo : w .geometry ≡ v .
       | no u ↦ lt-of-not-le u
     ],
     λ z.
-    let a = slotOnce k in
-    let b = counts k in
-    let c = lasts k in
-    let d = used-tally (w .labels) (w .chain) k in
-    let e = labels-in k in
-    let f = more k in
-    omega arith,
+        let a = slotOnce k in
+        let b = counts k in
+        let c = lasts k in
+        let d = used-tally (w .labels) (w .chain) k in
+        let e = labels-in k in
+        let f = more k in
+        omega arith,
   )
 
   pub emptied : (t : List ℕ) → t ≡ encode v → Pending w last (cleared (cleared t tail) freed)

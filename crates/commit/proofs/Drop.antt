@@ -48,8 +48,8 @@ module _ (g : Geometry) (t m s : List ℕ) (was slot third : ℕ) (d : Left g t 
   outcome : settle g (v .chain) (d .others) 0 (λ ks. d .others) ≡ cond r (some w) none
   outcome = ap (λ (x : List ℕ). settle g x (d .others) 0 (λ ks. d .others)) (sym read-chain) ∙ st .done (d .others) need-free left-shown (λ ks. d .others)
 
-  pub drop-full : r ≡ false → Becomes (settle g (v .chain) (d .others) 0 (λ ks. d .others)) t t r
-  drop-full e = record { full = λ q. outcome ∙ rw q; same = λ q. refl; done = λ q. clash q e }
+  pub drop-full : r ≡ false → Becomes (settle g (v .chain) (d .others) 0 (λ ks. d .others)) t t false
+  drop-full e = record { full = λ q. outcome ∙ rw e; same = λ q. refl; done = λ q. clash q refl }
 
   module _ (ok : r ≡ true) where
     is-w : settle g (v .chain) (d .others) 0 (λ ks. d .others) ≡ some w
@@ -69,7 +69,7 @@ module _ (g : Geometry) (t m s : List ℕ) (was slot third : ℕ) (d : Left g t 
 
     pub drop-done : (t₁ t₂ t₃ t₄ : List ℕ) → t₁ ≡ cleared t (slice need was c′) → t₂ ≡ cleared t₁ (oneSlot slot) → t₃ ≡ cleared t₂ (oneSlot third)
         → t₄ ≡ fourPut g (fivesPut g t₃ (fives (take need c′) (freeFrom m (tracks g) 0))) (total (freeFrom s′ (slots g) 0))
-        → Becomes (settle g (v .chain) (d .others) 0 (λ ks. d .others)) t t₄ r
+        → Becomes (settle g (v .chain) (d .others) 0 (λ ks. d .others)) t t₄ true
     drop-done t₁ t₂ t₃ t₄ e₁ e₂ e₃ e₄ =
         let new = settled-chain g (v .chain) (d .others) 0 (λ ks. d .others) w is-w in
         let p : Pending w (w .chain ++ (0 ∷ [])) (cleared (cleared t (drop need (v .chain))) freed)
@@ -81,12 +81,13 @@ module _ (g : Geometry) (t m s : List ℕ) (was slot third : ℕ) (d : Left g t 
         = e₃ ∙ ap (λ (y : List ℕ). cleared y (oneSlot third)) (e₂ ∙ ap (λ (y : List ℕ). cleared y (oneSlot slot)) (e₁ ∙ ap (cleared t) (chain-tail c c′ (v .chain) was need (st .tail) read-chain (d .members))))
         ∙ cleared-both (cleared t (drop need (v .chain))) (oneSlot slot) (oneSlot third) in
         record {
-          full = λ x. clash ok x;
-          same = λ x. clash ok x;
+          full = λ x. clash refl x;
+          same = λ x. clash refl x;
           done = λ x. (
-            w, is-w,
+            w,
+            is-w,
             e₄ ∙ finished w hw (freeFrom m (tracks g) 0) t₃ (total (freeFrom s′ (slots g) 0)) (free-of g m (d .others) (d .shownTracks))
-            (empty-of w s′ (λ k u. let a = st .shown ok (d .others) left-shown k u in omega arith))
-            (subst (Pending w (w .chain ++ (0 ∷ []))) (sym e) p)
+                (empty-of w s′ (λ k u. let a = st .shown ok (d .others) left-shown k u in omega arith))
+                (subst (Pending w (w .chain ++ (0 ∷ []))) (sym e) p),
           );
         }

@@ -2,3 +2,4 @@ pub mod Core
 pub mod Put
 pub mod Drop
 pub mod Sets
+pub mod Small

@@ -13,7 +13,7 @@ use lib.Dec.{eqb}
 use borrow.Author.Tests.{eq-eqb}
 use Rattle.model.specs.Basics.{bit, flat}
 use Rattle.model.specs.Model.{Geometry, Label, Run, Volume, fivesFor, format0s, free, held, oneSlot, runsOf, slots, slotsOf, tally, times, total, tracks, used}
-use Rattle.model.proofs.Lists.{All, clash, sum-append}
+use Rattle.model.proofs.Lists.{All, All-drop, All-map, clash, sum-append}
 use Rattle.rules.specs.Layout.{encode, fives, format3}
 use Rattle.rules.specs.Reading.{chop}
 use Rattle.rules.specs.Slots.{askedBy, asks, fewExtents, insertLabel, kept3, placed, settle, settleWith, slotOr, withSlots}
@@ -46,6 +46,17 @@ chain-tail c c′ ks was need h e l =
           let p = lt-of-not-le u in
           drop-of-length-le (take was c′) {i = need} (let q = length-take was c′ in omega arith) ∙ sym (drop-of-length-le ks {i = need} (omega arith))
     ]
+
+-- its slots are slots of the table
+pub tail-inside : (c c′ : List ℕ) (was need n k : ℕ) → (need ≤ was → c′ ≡ c) → All (λ x. x < n) (take was c) → k ≡ 140 * n → All (λ x. 140 * x + 140 ≤ k) (slice need was c′)
+tail-inside c c′ was need n k h a e =
+    All-map (λ x. x < n) (λ x. 140 * x + 140 ≤ k) (λ x u. omega arith) (slice need was c′)
+    (elim (decLe need was) [
+      | yes u ↦ subst (λ (x : List ℕ). All (λ y. y < n) (drop need (take was x))) (sym (h u)) (All-drop (λ x. x < n) need (take was c) a)
+      | no u ↦
+          let p = lt-of-not-le u in
+          subst (All (λ x. x < n)) (sym (drop-of-length-le (take was c′) {i = need} (let q = length-take was c′ in omega arith))) tt
+    ])
 
 -- how many slots are empty in the volume that is left
 pub empty-of : (w : Volume) (s : List ℕ) → ((k : ℕ) → k < slots (w .geometry) → freeBit s k + tally k (used (w .labels) (w .chain)) ≡ 1)
@@ -150,8 +161,8 @@ module _ (g : Geometry) (t m s : List ℕ) (was slot third : ℕ) (few : Bool) (
       ∙ ap (λ (x : List ℕ). settle g x draft asked (λ js. insertLabel (placed js l) (d .others))) (sym read-chain)
       ∙ st .done draft need-free shown (λ js. insertLabel (placed js l) (d .others))
 
-  pub put-full : r ≡ false → Becomes (settleWith v (d .others) l₀) t t r
-  put-full e = record { full = λ q. outcome ∙ rw q; same = λ q. refl; done = λ q. clash q e }
+  pub put-full : r ≡ false → Becomes (settleWith v (d .others) l₀) t t false
+  put-full e = record { full = λ q. outcome ∙ rw e; same = λ q. refl; done = λ q. clash q refl }
 
   module _ (ok : r ≡ true) where
     is-w : settleWith v (d .others) l₀ ≡ some w
@@ -291,15 +302,13 @@ module _ (g : Geometry) (t m s : List ℕ) (was slot third : ℕ) (few : Bool) (
         (alike-come x p (withSlots k q l₀) (let b = two-slots x in let f = one-le x k in omega arith) (d .others)))
         t (d .ready .bytes))))
 
-    pub put-done : (t₁ t₂ t₃ t₄ : List ℕ) → t₁ ≡ cleared t (slice need was c′) → t₂ ≡ cleared t₁ (oneSlot (cond few third 0)) → t₃ ≡ labelPut g t₂ k q l₀ three
+    pub put-done : (freed first other : ℕ) (t₁ t₂ t₃ t₄ : List ℕ) → freed ≡ cond few third 0 → first ≡ k → other ≡ q
+        → t₁ ≡ cleared t (slice need was c′) → t₂ ≡ cleared t₁ (oneSlot freed) → t₃ ≡ labelPut g t₂ first other l₀ three
         → t₄ ≡ fourPut g (fivesPut g t₃ (fives (take need c′) (freeFrom m (tracks g) 0))) (total (freeFrom s′ (slots g) 0))
-        → Becomes (settleWith v (d .others) l₀) t t₄ r
-    put-done t₁ t₂ t₃ t₄ e₁ e₂ e₃ e₄ =
-        record {
-          full = λ x. clash ok x;
-          same = λ x. clash ok x;
-          done = λ x. (
-            w, is-w,
-            e₄ ∙ written t₃ (e₃ ∙ ap (λ (y : List ℕ). labelPut g y k q l₀ three) (e₂ ∙ ap (λ (y : List ℕ). cleared y (oneSlot (cond few third 0))) (e₁ ∙ ap (cleared t) (chain-tail c c′ (v .chain) was need (st .tail) read-chain (d .members)))))
-          );
-        }
+        → Becomes (settleWith v (d .others) l₀) t t₄ true
+    put-done freed first other t₁ t₂ t₃ t₄ f a b e₁ e₂ e₃ e₄ =
+        let two : t₂ ≡ cleared (cleared t (drop need (v .chain))) (oneSlot (cond few third 0))
+        = e₂ ∙ ap₂ (λ (y : List ℕ) (x : ℕ). cleared y (oneSlot x)) (e₁ ∙ ap (cleared t) (chain-tail c c′ (v .chain) was need (st .tail) read-chain (d .members))) f in
+        let three-done : t₃ ≡ labelPut g (cleared (cleared t (drop need (v .chain))) (oneSlot (cond few third 0))) k q l₀ three
+        = e₃ ∙ ap₂ (λ (x y : ℕ). labelPut g t₂ x y l₀ three) a b ∙ ap (λ (y : List ℕ). labelPut g y k q l₀ three) two in
+        record { full = λ x. clash refl x; same = λ x. clash refl x; done = λ x. (w, is-w, e₄ ∙ written t₃ three-done) }

@@ -15,18 +15,25 @@ ghost use Rattle.forms.specs.Forms.{geometryOf};
 ghost use Rattle.writing.specs.Writing.{fivesPut, fourPut};
 ghost use Rattle.commit.specs.Commit.{Committed, Draft, Gone, Left};
 
+// How many slots a record asks for: one where it has none.
+fn asks(k: usize) -> usize
+    ensures { λ r. ⌜ (r ≡ asks k) × (r ≤ 1) ⌝ }
+{
+    if k == 0 {
+        return 1;
+    }
+    0
+}
+
 // How many slots a label asks for: one for its format 1 where it has none, one for its format 3 where it needs it.
 fn asked_for(slot: usize, third: usize, few: bool) -> usize
     ensures { λ r. ⌜ (r ≡ asks slot + cond few 0 (asks third)) × (r ≤ 2) ⌝ }
 {
-    let first: usize = if slot == 0 { 1 } else { 0 };
+    let first = asks(slot);
     if few {
         return first;
     }
-    if third == 0 {
-        return first + 1;
-    }
-    first
+    first + asks(third)
 }
 
 // The slot of a format 3 that is freed, since three extents or fewer need none.
@@ -63,14 +70,7 @@ fn third_slot(slot: usize, third: usize, few: bool, given: [u16; 2]) -> usize
 }
 
 // Writes the chain of format 5s, and the format 4 last.
-fn finish(
-    table: &mut [u8],
-    g: Geometry,
-    map: &[u64],
-    empty: &[u64],
-    chain: &[u16],
-    need: usize,
-)
+fn finish(table: &mut [u8], g: Geometry, map: &[u64], empty: &[u64], chain: &[u16], need: usize)
     requires { ⌜ Limits (geometryOf g) × (length (now table) ≡ 140 * slots (geometryOf g)) × (tracks (geometryOf g) ≤ 64 * length (now map)) × (length (now empty) ≡ 8) ⌝ }
     requires { ⌜ (need ≤ length (now chain)) × All (λ k. k < slots (geometryOf g)) (take need (now chain)) ⌝ }
     ensures { λ _. ⌜ now (table .exit) ≡ fourPut (geometryOf g) (fivesPut (geometryOf g) (now (table .entry)) (fives (take need (now (chain .entry))) (freeFrom (now (map .entry)) (tracks (geometryOf g)) 0))) (total (freeFrom (now (empty .entry)) (slots (geometryOf g)) 0)) ⌝ }
@@ -94,7 +94,8 @@ pub fn put_set(
     one: [u8; 140],
     three: [u8; 140],
 ) -> bool
-    requires { ⌜ (tracks (geometryOf g) ≤ 64 * length (now map)) × (length (now empty) ≡ 8) × Draft (geometryOf g) (now table) (now map) (now empty) was slot third few one three ⌝ }
+    requires { ⌜ Limits (geometryOf g) × (length (now table) ≡ 140 * slots (geometryOf g)) × (tracks (geometryOf g) ≤ 64 * length (now map)) × (length (now empty) ≡ 8) × (was ≤ 468) × (slot < slots (geometryOf g)) × (third < slots (geometryOf g)) ⌝ }
+    requires { ⌜ Draft (geometryOf g) (now table) (now map) (now empty) was slot third few one three ⌝ }
     ensures { λ r. ⌜ ((d : Draft (geometryOf g) (now (table .entry)) (now (map .entry)) (now (empty .entry)) was slot third few one three) → Committed d (now (table .exit)) r) ⌝ }
 {
     let n = (g.tracks * g.records) as usize;
@@ -126,7 +127,8 @@ pub fn drop_set(
     slot: usize,
     third: usize,
 ) -> bool
-    requires { ⌜ (tracks (geometryOf g) ≤ 64 * length (now map)) × (length (now empty) ≡ 8) × Left (geometryOf g) (now table) (now map) (now empty) was slot third ⌝ }
+    requires { ⌜ Limits (geometryOf g) × (length (now table) ≡ 140 * slots (geometryOf g)) × (tracks (geometryOf g) ≤ 64 * length (now map)) × (length (now empty) ≡ 8) × (was ≤ 468) × (slot < slots (geometryOf g)) × (third < slots (geometryOf g)) ⌝ }
+    requires { ⌜ Left (geometryOf g) (now table) (now map) (now empty) was slot third ⌝ }
     ensures { λ r. ⌜ ((d : Left (geometryOf g) (now (table .entry)) (now (map .entry)) (now (empty .entry)) was slot third) → Gone d (now (table .exit)) r) ⌝ }
 {
     let n = (g.tracks * g.records) as usize;

@@ -33,7 +33,7 @@ same-length c = search needs
 
 -- src/lib.rt:66:1
 returns : tie.Need-returns
-returns c = ?
+returns c = rw (c .before .before .put-four .ensures, c .before .before .before .before .before .before .before .before .put-chain .ensures, c .before .before .before .before .count-free .ensures .0)
 
 pub finish-spec : {M : Type 1} → statement M
 finish-spec =

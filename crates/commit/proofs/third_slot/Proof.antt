@@ -1,3 +1,5 @@
+use Rattle.commit.proofs.Small.{third-first, third-second}
+use mathlib.Core.Path.{_∙_}
 use borrow.Author.Needs.{needs}
 use Rattle.commit.proofs.third_slot.Statement.{statement}
 use Rattle.commit.proofs.third_slot.Tie as tie
@@ -19,7 +21,7 @@ slot-or-requires c κs = search needs
 
 -- src/lib.rt:50:9
 returns-2 : tie.Need-returns-2
-returns-2 c = ?
+returns-2 c = c .slot-or .ensures ∙ third-second (c .before .before .before .args .slot) (c .before .before .before .args .third) (c .before .before .before .args .few) (c .before .before .before .args .t4) (c .before .before .if1 .left) (c .before .if2 .taken)
 
 -- src/lib.rt:52:20
 array-read-slot-or-2 : tie.Need-array-read-slot-or-2
@@ -31,7 +33,7 @@ slot-or-requires-2 c κs = search needs
 
 -- src/lib.rt:43:1
 returns-3 : tie.Need-returns-3
-returns-3 c = ?
+returns-3 c = c .slot-or2 .ensures ∙ third-first (c .before .before .before .args .slot) (c .before .before .before .args .third) (c .before .before .before .args .few) (c .before .before .before .args .t4) (c .before .before .if1 .left) (c .before .if2 .left)
 
 pub third-slot-spec : {M : Type 1} → statement M
 third-slot-spec =
