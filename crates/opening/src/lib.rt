@@ -64,5 +64,11 @@ pub fn third(one: &[u8], g: Geometry) -> usize
     requires { ⌜ (length (now one) ≡ 140) × Limits (geometryOf g) ⌝ }
     ensures { λ r. ⌜ (r ≡ namedThird (geometryOf g) (now (one .entry))) × (r < slots (geometryOf g)) ⌝ }
 {
-    fields::slot_of(&one[135..140], g.heads, g.records, g.start, (g.tracks * g.records) as usize)
+    fields::slot_of(
+        &one[135..140],
+        g.heads,
+        g.records,
+        g.start,
+        (g.tracks * g.records) as usize,
+    )
 }
