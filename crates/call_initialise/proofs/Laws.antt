@@ -8,7 +8,7 @@ use borrow.Author.Tests.{eq-eqb, ne-eqb}
 use lib.Dec.{eqb}
 use lib.ListN.{length, length-replicate, take}
 use Rattle.model.specs.Basics.{bit, filter, upFrom, zeros}
-use Rattle.model.specs.Model.{Geometry, Run, Volume, free, held, slots, tally, tracks, unused, used}
+use Rattle.model.specs.Model.{Geometry, Run, free, held, slots, tally, tracks, unused, used}
 use Rattle.model.proofs.Lists.{length-upFrom}
 use Rattle.rules.specs.Entries.{fresh, initialise, lent, result}
 use Rattle.rules.specs.Layout.{encode, format4, format5}
@@ -52,9 +52,6 @@ all-but-two n h = let e : n ≡ suc (suc (n - 2)) = omega arith in ap (λ (k : �
 -- ---- slot 1, slot 0, and zeros
 
 module _ (g : Geometry) (lim : Limits g) where
-  w : Volume
-  w = fresh g
-
   valid : Valid (fresh g)
   valid = fresh-valid g (→limits g lim)
 

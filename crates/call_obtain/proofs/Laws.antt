@@ -1,8 +1,8 @@
 -- Obtain's 280 bytes, and the call as a whole. Assumes nothing.
-use mathlib.Core.Path.{_≡_, refl, sym, ap, ap₂, _∙_, subst}
+use mathlib.Core.Path.{_≡_, refl, sym, ap, ap₂, _∙_}
 use mathlib.Core.Bool.{Bool, true, false, cond, _&&_}
 use mathlib.Core.List.{List, _++_, append-nil}
-use Prim.Native.Nat.{ℕ, zero, suc, _*_, _≤_, _<_}
+use Prim.Native.Nat.{ℕ, zero, suc, _≤_}
 use native.Mathlib.Omega.{arith}
 use borrow.Author.Tests.{eq-eqb, ne-eqb}
 use lib.Dec.{T, eqb, eqb→eq}
@@ -17,15 +17,15 @@ use Rattle.rules.specs.Entries.{lent, perform, result, written}
 use Rattle.rules.specs.Layout.{format1, format3}
 use Rattle.rules.specs.Reading.{read}
 use Rattle.rules.specs.Slots.{found}
-use Rattle.rules.specs.Table.{goodName}
+use Rattle.rules.specs.Table.{goodName, taken}
 use Rattle.rules.proofs.Valid.{Limits}
 use Rattle.fields.specs.Records.{putRecord, slotBytes}
 use Rattle.names.specs.Find.{findSlot}
 use Rattle.label_check.specs.Label.{namedThird}
-use Rattle.opening.specs.Opening.{foundSlot, openNumber}
-use Rattle.opening.proofs.Laws.{LabelIn, found-label, third-is}
-use Rattle.opening.proofs.Lookup.{found-none, found-slot, lookup}
-use Rattle.opening.proofs.Numbers.{opened-good, opened-ready, opened-taken, passed, refused}
+use Rattle.opening.specs.Opening.{openNumber}
+use Rattle.opening.proofs.Laws.{LabelIn, ready, third-is}
+use Rattle.opening.proofs.Lookup.{not-there, there}
+use Rattle.opening.proofs.Numbers.{opened-good, opened-taken, passed, refused}
 use Rattle.call_obtain.specs.Third.{orZeros}
 
 -- ---- the bytes
@@ -90,45 +90,25 @@ module _ (t name l a : List ℕ) (ok : Bool) (r : ℕ) (long : ok ≡ (eqb (leng
     pub bad-name : goodName name ≡ false → result 4 (lent t a l) ≡ perform (lent t a l) (obtain name)
     bad-name h = sym (ap (written (lent t a l)) (refused-4 h)) ∙ ruled
 
-    module _ (g : Geometry) (eg : g ≡ read t .geometry) (h : goodName name ≡ true) where
-      pub limits-so : Limits g
-      limits-so = subst Limits (sym eg) (opened-ready t ok r number z .limits)
+    pub is-taken : T (taken t)
+    is-taken = opened-taken t ok (sym z ∙ number)
 
-      pub table-long : length t ≡ 140 * slots g
-      table-long = let x = opened-ready t ok r number z .long in let s : slots g ≡ slots (read t .geometry) = ap slots eg in omega arith
-
+    module _ (h : goodName name ≡ true) (g : Geometry) (eg : g ≡ read t .geometry) where
       rule-is : rule (read t) (obtain name) ≡ obtain₁ (read t) (found (read t) name)
       unfolding rule
       rule-is = rw h
 
-      looked-up : findSlot t name (slots g) ≡ foundSlot (found (read t) name)
-      looked-up = ap (λ (x : Geometry). findSlot t name (slots x)) eg ∙ lookup t (opened-taken t ok (sym z ∙ number)) name
-
       pub not-found : Nothing ≡ findSlot t name (slots g) → result 5 (lent t a l) ≡ perform (lent t a l) (obtain name)
-      not-found e =
-          let n = found-none (read t) name (sym looked-up ∙ sym e) in
-          sym (ap (written (lent t a l)) (rule-is ∙ ap (obtain₁ (read t)) n)) ∙ ruled
+      not-found e = sym (ap (written (lent t a l)) (rule-is ∙ ap (obtain₁ (read t)) (not-there t is-taken g eg name e))) ∙ ruled
 
       pub obtained : (k : ℕ) (l′ a′ : List ℕ) → Slot k ≡ findSlot t name (slots g) → l′ ≡ slotBytes t k ++ orZeros t (namedThird g (slotBytes t k)) → a′ ≡ zeros 24
           → result 0 (lent t a′ l′) ≡ perform (lent t a l) (obtain name)
       obtained k l′ a′ e el ea =
-          let x = opened-ready t ok r number z in
-          let f = found-slot (read t) name k (sym looked-up ∙ sym e) in
-          let m = f .0 in
-          let y = found-label t (read t) x name m (f .1) in
+          let x = ready t is-taken in
+          let f = there t is-taken g eg name k e in
+          let m = f .label in
           let q : l′ ≡ format1 (read t .geometry) m ++ cond (eqb (m .slot3) 0) (zeros 140) (format3 (read t .geometry) m)
-          = el ∙ ap₂ (λ (i : ℕ) (u : Geometry). slotBytes t i ++ orZeros t (namedThird u (slotBytes t i))) (sym (f .2)) eg ∙ label-bytes t (read t .geometry) name m (x .limits) y in
+          = el ∙ ap₂ (λ (i : ℕ) (u : Geometry). slotBytes t i ++ orZeros t (namedThird u (slotBytes t i))) (sym (f .slot)) eg ∙ label-bytes t (read t .geometry) name m (x .limits) (f .records) in
           (λ i. result 0 (lent (x .bytes i) (ea i) (q i)))
-          ∙ sym (ap (written (lent t a l)) (rule-is ∙ ap (obtain₁ (read t)) (f .1)))
+          ∙ sym (ap (written (lent t a l)) (rule-is ∙ ap (obtain₁ (read t)) (f .same)))
           ∙ ruled
-
-      -- the slot found is in the table
-      pub found-inside : (k : ℕ) → Slot k ≡ findSlot t name (slots g) → k < slots g
-      found-inside k e =
-          let x = opened-ready t ok r number z in
-          let f = found-slot (read t) name k (sym looked-up ∙ sym e) in
-          let y = found-label t (read t) x name (f .0) (f .1) in
-          let s : slots g ≡ slots (read t .geometry) = ap slots eg in
-          let w = y .inside in
-          let v = f .2 in
-          omega arith

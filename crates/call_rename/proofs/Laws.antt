@@ -1,9 +1,9 @@
 -- Rename as a whole: its refusals in their order, and the table after it. Assumes nothing.
-use mathlib.Core.Path.{_≡_, refl, sym, ap, ap₂, _∙_, subst}
+use mathlib.Core.Path.{_≡_, refl, sym, ap, ap₂, _∙_}
 use mathlib.Core.Bool.{Bool, true, false, not, cond, _&&_}
 use mathlib.Core.Option.{some}
 use mathlib.Core.List.{List, [], _∷_}
-use Prim.Native.Nat.{ℕ, _*_, _<_}
+use Prim.Native.Nat.{ℕ}
 use native.Mathlib.Omega.{arith}
 use borrow.Author.Tests.{eq-eqb, eqb-false, eqb-true, ne-eqb}
 use lib.Dec.{T, eqb, eqb→eq}
@@ -20,14 +20,13 @@ use Rattle.rules.specs.Reading.{read}
 use Rattle.rules.specs.Slots.{found, insertLabel, withName, without}
 use Rattle.rules.specs.Table.{goodName, named, taken}
 use Rattle.rules.proofs.Labels.{Unlike, unlike-any}
-use Rattle.rules.proofs.Valid.{Limits}
 use Rattle.fields.specs.Records.{putRecord, slotBytes}
 use Rattle.names.specs.Find.{findSlot, isNothing}
 use Rattle.labels.specs.Labels.{Format1}
 use Rattle.labels.proofs.Following.{good-is}
 use Rattle.opening.specs.Opening.{foundSlot, openNumber}
-use Rattle.opening.proofs.Laws.{LabelIn, Ready, found-label, ready}
-use Rattle.opening.proofs.Lookup.{found-none, found-slot, lookup}
+use Rattle.opening.proofs.Laws.{Ready, ready}
+use Rattle.opening.proofs.Lookup.{FoundAt, looked-up, not-there, there}
 use Rattle.opening.proofs.Numbers.{opened-good, opened-taken, passed, refused}
 use Rattle.call_rename.specs.Refusal.{earlyNumber, renameLengths}
 use Rattle.call_rename.proofs.Renamed.{renamed}
@@ -119,57 +118,39 @@ module _ (t old new a : List ℕ) (r : ℕ) (number : r ≡ earlyNumber t old ne
     new-long = eqb→eq (length new) 44 (and-r (eqb (length old) 44) _ (and-r (eqb (length a) 24) _ all-long))
 
     module _ (g : Geometry) (eg : g ≡ read t .geometry) where
-      pub limits-so : Limits g
-      limits-so = subst Limits (sym eg) (is-ready .limits)
-
-      pub table-long : length t ≡ 140 * slots g
-      table-long = let x = is-ready .long in let s : slots g ≡ slots (read t .geometry) = ap slots eg in omega arith
-
-      looked-up : (name : List ℕ) → findSlot t name (slots g) ≡ foundSlot (found (read t) name)
-      looked-up name = ap (λ (x : Geometry). findSlot t name (slots x)) eg ∙ lookup t is-taken name
-
       pub not-found : Nothing ≡ findSlot t old (slots g) → result 5 (lent t a []) ≡ perform (lent t a []) (rename old new)
       not-found e =
-          let n = found-none (read t) old (sym (looked-up old) ∙ sym e) in
-          sym (ap (written (lent t a [])) (rule-is names-good ∙ ap (rename₁ (read t) old new) n)) ∙ ruled opened
+          sym (ap (written (lent t a [])) (rule-is names-good ∙ ap (rename₁ (read t) old new) (not-there t is-taken g eg old e))) ∙ ruled opened
 
       module _ (k : ℕ) (e : Slot k ≡ findSlot t old (slots g)) where
-        abbrev it : (l : Label) × (found (read t) old ≡ some l) × (l .slot ≡ k)
-        it = found-slot (read t) old k (sym (looked-up old) ∙ sym e)
+        it : FoundAt t (read t) old k
+        it = there t is-taken g eg old k e
 
-        abbrev l : Label
-        l = it .0
+        module _ (known : Bool) (d : known ≡ not (isNothing (findSlot t new (slots g)))) where
+          any-so : any (named new) (read t .labels) ≡ known
+          any-so = any-is new (read t .labels) ∙ ap (λ (x : Found). not (isNothing x)) (sym (looked-up t is-taken g eg new)) ∙ sym d
 
-        label : LabelIn t (read t .geometry) old l
-        label = found-label t (read t) is-ready old l (it .1)
-
-        pub found-inside : k < slots g
-        found-inside = let s : slots g ≡ slots (read t .geometry) = ap slots eg in let w = label .inside in let v = it .2 in omega arith
-
-        module _ (there : Bool) (d : there ≡ not (isNothing (findSlot t new (slots g)))) where
-          any-so : any (named new) (read t .labels) ≡ there
-          any-so = any-is new (read t .labels) ∙ ap (λ (x : Found). not (isNothing x)) (sym (looked-up new)) ∙ sym d
-
-          rule-6 : there ≡ true → rename₁ (read t) old new (some l) ≡ refuse 6
+          rule-6 : known ≡ true → rename₁ (read t) old new (some (it .label)) ≡ refuse 6
           rule-6 p = rw (any-so, p)
 
-          rule-0 : there ≡ false
-              → rename₁ (read t) old new (some l) ≡ accept nothing (record { geometry = read t .geometry; labels = insertLabel (withName new l) (without old (read t .labels)); chain = read t .chain })
+          rule-0 : known ≡ false
+              → rename₁ (read t) old new (some (it .label)) ≡ accept nothing (record { geometry = read t .geometry; labels = insertLabel (withName new (it .label)) (without old (read t .labels)); chain = read t .chain })
           rule-0 p = rw (any-so, p)
 
-          pub duplicate : there ≡ true → result 6 (lent t a []) ≡ perform (lent t a []) (rename old new)
-          duplicate p = sym (ap (written (lent t a [])) (rule-is names-good ∙ ap (rename₁ (read t) old new) (it .1) ∙ rule-6 p)) ∙ ruled opened
+          pub duplicate : known ≡ true → result 6 (lent t a []) ≡ perform (lent t a []) (rename old new)
+          duplicate p = sym (ap (written (lent t a [])) (rule-is names-good ∙ ap (rename₁ (read t) old new) (it .same) ∙ rule-6 p)) ∙ ruled opened
 
-          pub done : there ≡ false → (t′ a′ : List ℕ) → ((g : Geometry) (l : Label) → Format1 g l (slotBytes t k) → t′ ≡ putRecord t k (format1 g (withName new l))) → a′ ≡ zeros 24
+          pub done : known ≡ false → (t′ a′ : List ℕ) → ((g : Geometry) (l : Label) → Format1 g l (slotBytes t k) → t′ ≡ putRecord t k (format1 g (withName new l))) → a′ ≡ zeros 24
               → result 0 (lent t′ a′ []) ≡ perform (lent t a []) (rename old new)
           done p t′ a′ put ea =
               let v = read t in
               let G = v .geometry in
-              let x : Format1 G l (slotBytes t k) = good-is G l (slotBytes t k) (label .good) (sym (label .one) ∙ ap (slotBytes t) (it .2)) in
+              let l = it .label in
+              let x : Format1 G l (slotBytes t k) = good-is G l (slotBytes t k) (it .records .good) (sym (it .records .one) ∙ ap (slotBytes t) (it .slot)) in
               let u : Unlike new (v .labels) = unlike-any new (v .labels) (any-so ∙ p) in
               let n : T (goodName new) = and-r (goodName old) _ (true-is names-good) in
-              let q = renamed v (is-ready .valid) old l (it .1) new new-long n u (label .inside) in
-              let y = put G l x ∙ ap₂ (λ (b : List ℕ) (i : ℕ). putRecord b i (format1 G (withName new l))) (is-ready .bytes) (sym (it .2)) ∙ q in
+              let q = renamed v (is-ready .valid) old l (it .same) new new-long n u (it .records .inside) in
+              let y = put G l x ∙ ap₂ (λ (b : List ℕ) (i : ℕ). putRecord b i (format1 G (withName new l))) (is-ready .bytes) (sym (it .slot)) ∙ q in
               ap₂ (λ (b c : List ℕ). result 0 (lent b c [])) y ea
-              ∙ sym (ap (written (lent t a [])) (rule-is names-good ∙ ap (rename₁ (read t) old new) (it .1) ∙ rule-0 p))
+              ∙ sym (ap (written (lent t a [])) (rule-is names-good ∙ ap (rename₁ (read t) old new) (it .same) ∙ rule-0 p))
               ∙ ruled opened

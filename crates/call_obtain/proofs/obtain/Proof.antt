@@ -1,4 +1,5 @@
-use Rattle.call_obtain.proofs.Laws.{answer-long, bad-name, found-inside, labels-long, limits-so, not-found, not-opened, obtained, table-long}
+use Rattle.call_obtain.proofs.Laws.{answer-long, bad-name, labels-long, not-found, not-opened, obtained}
+use Rattle.opening.proofs.Lookup.{limits-of, table-long, there-inside}
 use Rattle.opening.proofs.Numbers.{opened-taken}
 use Rattle.forms.specs.Forms.{geometryOf}
 use native.Mathlib.Omega.{arith}
@@ -41,15 +42,15 @@ geometry-requires c κs = opened-taken (c .before .before .before .before .befor
 
 -- src/lib.rt:53:46
 mul-find : tie.Need-mul-find
-mul-find c = omega (arith, limits-so (c .before .before .before .before .before .before .before .before .before .before .before .before .before .before .before .args .table .now) (c .before .before .before .before .before .before .before .before .before .before .before .before .before .before .before .args .name .now) (c .before .before .before .before .before .before .before .before .before .before .before .before .before .before .before .args .labels .now) (c .before .before .before .before .before .before .before .before .before .before .before .before .before .before .before .args .answer .now) _ _ (c .before .before .before .before .before .before .before .before .before .before .and-another .ensures) (c .before .before .before .before .before .before .before .«open» .ensures .number) (c .before .before .before .before .if1 .left) (geometryOf (c .before .geometry .result)) (c .before .geometry .ensures) (sym (c .before .before .before .name-ok .ensures) ∙ c .before .before .if2 .taken) .most)
+mul-find c = omega (arith, limits-of (c .before .before .before .before .before .before .before .before .before .before .before .before .before .before .before .args .table .now) (opened-taken (c .before .before .before .before .before .before .before .before .before .before .before .before .before .before .before .args .table .now) _ (sym (c .before .before .before .before .if1 .left) ∙ c .before .before .before .before .before .before .before .«open» .ensures .number)) (geometryOf (c .before .geometry .result)) (c .before .geometry .ensures) .most)
 
 -- src/lib.rt:53:45
 cast-find : tie.Need-cast-find
-cast-find c = omega (arith, limits-so (c .before .before .before .before .before .before .before .before .before .before .before .before .before .before .before .args .table .now) (c .before .before .before .before .before .before .before .before .before .before .before .before .before .before .before .args .name .now) (c .before .before .before .before .before .before .before .before .before .before .before .before .before .before .before .args .labels .now) (c .before .before .before .before .before .before .before .before .before .before .before .before .before .before .before .args .answer .now) _ _ (c .before .before .before .before .before .before .before .before .before .before .and-another .ensures) (c .before .before .before .before .before .before .before .«open» .ensures .number) (c .before .before .before .before .if1 .left) (geometryOf (c .before .geometry .result)) (c .before .geometry .ensures) (sym (c .before .before .before .name-ok .ensures) ∙ c .before .before .if2 .taken) .most)
+cast-find c = omega (arith, limits-of (c .before .before .before .before .before .before .before .before .before .before .before .before .before .before .before .args .table .now) (opened-taken (c .before .before .before .before .before .before .before .before .before .before .before .before .before .before .before .args .table .now) _ (sym (c .before .before .before .before .if1 .left) ∙ c .before .before .before .before .before .before .before .«open» .ensures .number)) (geometryOf (c .before .geometry .result)) (c .before .geometry .ensures) .most)
 
 -- src/lib.rt:53:26
 find-requires : tie.Need-find-requires
-find-requires c κs = omega (arith, table-long (c .before .before .before .before .before .before .before .before .before .before .before .before .before .before .before .args .table .now) (c .before .before .before .before .before .before .before .before .before .before .before .before .before .before .before .args .name .now) (c .before .before .before .before .before .before .before .before .before .before .before .before .before .before .before .args .labels .now) (c .before .before .before .before .before .before .before .before .before .before .before .before .before .before .before .args .answer .now) _ _ (c .before .before .before .before .before .before .before .before .before .before .and-another .ensures) (c .before .before .before .before .before .before .before .«open» .ensures .number) (c .before .before .before .before .if1 .left) (geometryOf (c .before .geometry .result)) (c .before .geometry .ensures) (sym (c .before .before .before .name-ok .ensures) ∙ c .before .before .if2 .taken))
+find-requires c κs = omega (arith, table-long (c .before .before .before .before .before .before .before .before .before .before .before .before .before .before .before .args .table .now) (opened-taken (c .before .before .before .before .before .before .before .before .before .before .before .before .before .before .before .args .table .now) _ (sym (c .before .before .before .before .if1 .left) ∙ c .before .before .before .before .before .before .before .«open» .ensures .number)) (geometryOf (c .before .geometry .result)) (c .before .geometry .ensures))
 
 -- src/lib.rt:53:21
 enum-known-k : tie.Need-enum-known-k
@@ -61,11 +62,13 @@ enum-told c = search needs
 
 -- src/lib.rt:54:9
 returns-3 : tie.Need-returns-3
-returns-3 c = not-found (c .before .before .before .before .before .before .before .before .before .before .before .before .before .before .before .before .before .before .args .table .now) (c .before .before .before .before .before .before .before .before .before .before .before .before .before .before .before .before .before .before .args .name .now) (c .before .before .before .before .before .before .before .before .before .before .before .before .before .before .before .before .before .before .args .labels .now) (c .before .before .before .before .before .before .before .before .before .before .before .before .before .before .before .before .before .before .args .answer .now) _ _ (c .before .before .before .before .before .before .before .before .before .before .before .before .before .and-another .ensures) (c .before .before .before .before .before .before .before .before .before .before .«open» .ensures .number) (c .before .before .before .before .before .before .before .if1 .left) (geometryOf (c .before .before .before .before .geometry .result)) (c .before .before .before .before .geometry .ensures) (sym (c .before .before .before .before .before .before .name-ok .ensures) ∙ c .before .before .before .before .before .if2 .taken) (sym (c .enum-told .given .1) ∙ c .before .before .find .ensures)
+returns-3 c = not-found (c .before .before .before .before .before .before .before .before .before .before .before .before .before .before .before .before .before .before .args .table .now) (c .before .before .before .before .before .before .before .before .before .before .before .before .before .before .before .before .before .before .args .name .now) (c .before .before .before .before .before .before .before .before .before .before .before .before .before .before .before .before .before .before .args .labels .now) (c .before .before .before .before .before .before .before .before .before .before .before .before .before .before .before .before .before .before .args .answer .now) _ _ (c .before .before .before .before .before .before .before .before .before .before .before .before .before .and-another .ensures) (c .before .before .before .before .before .before .before .before .before .before .«open» .ensures .number) (c .before .before .before .before .before .before .before .if1 .left) (sym (c .before .before .before .before .before .before .name-ok .ensures) ∙ c .before .before .before .before .before .if2 .taken) (geometryOf (c .before .before .before .before .geometry .result)) (c .before .before .before .before .geometry .ensures) (sym (c .enum-told .given .1) ∙ c .before .before .find .ensures)
 
 -- src/lib.rt:56:5
 put-labels-requires : tie.Need-put-labels-requires
-put-labels-requires c κs = (limits-so (c .before .before .before .before .before .before .before .before .before .before .before .before .before .before .before .before .before .before .before .before .args .table .now) (c .before .before .before .before .before .before .before .before .before .before .before .before .before .before .before .before .before .before .before .before .args .name .now) (c .before .before .before .before .before .before .before .before .before .before .before .before .before .before .before .before .before .before .before .before .args .labels .now) (c .before .before .before .before .before .before .before .before .before .before .before .before .before .before .before .before .before .before .before .before .args .answer .now) _ _ (c .before .before .before .before .before .before .before .before .before .before .before .before .before .before .before .and-another .ensures) (c .before .before .before .before .before .before .before .before .before .before .before .before .«open» .ensures .number) (c .before .before .before .before .before .before .before .before .before .if1 .left) (geometryOf (c .before .before .before .before .before .before .geometry .result)) (c .before .before .before .before .before .before .geometry .ensures) (sym (c .before .before .before .before .before .before .before .before .name-ok .ensures) ∙ c .before .before .before .before .before .before .before .if2 .taken), table-long (c .before .before .before .before .before .before .before .before .before .before .before .before .before .before .before .before .before .before .before .before .args .table .now) (c .before .before .before .before .before .before .before .before .before .before .before .before .before .before .before .before .before .before .before .before .args .name .now) (c .before .before .before .before .before .before .before .before .before .before .before .before .before .before .before .before .before .before .before .before .args .labels .now) (c .before .before .before .before .before .before .before .before .before .before .before .before .before .before .before .before .before .before .before .before .args .answer .now) _ _ (c .before .before .before .before .before .before .before .before .before .before .before .before .before .before .before .and-another .ensures) (c .before .before .before .before .before .before .before .before .before .before .before .before .«open» .ensures .number) (c .before .before .before .before .before .before .before .before .before .if1 .left) (geometryOf (c .before .before .before .before .before .before .geometry .result)) (c .before .before .before .before .before .before .geometry .ensures) (sym (c .before .before .before .before .before .before .before .before .name-ok .ensures) ∙ c .before .before .before .before .before .before .before .if2 .taken), found-inside (c .before .before .before .before .before .before .before .before .before .before .before .before .before .before .before .before .before .before .before .before .args .table .now) (c .before .before .before .before .before .before .before .before .before .before .before .before .before .before .before .before .before .before .before .before .args .name .now) (c .before .before .before .before .before .before .before .before .before .before .before .before .before .before .before .before .before .before .before .before .args .labels .now) (c .before .before .before .before .before .before .before .before .before .before .before .before .before .before .before .before .before .before .before .before .args .answer .now) _ _ (c .before .before .before .before .before .before .before .before .before .before .before .before .before .before .before .and-another .ensures) (c .before .before .before .before .before .before .before .before .before .before .before .before .«open» .ensures .number) (c .before .before .before .before .before .before .before .before .before .if1 .left) (geometryOf (c .before .before .before .before .before .before .geometry .result)) (c .before .before .before .before .before .before .geometry .ensures) (sym (c .before .before .before .before .before .before .before .before .name-ok .ensures) ∙ c .before .before .before .before .before .before .before .if2 .taken) _ (sym (c .before .before .k .given .1) ∙ c .before .before .before .before .find .ensures), labels-long (c .before .before .before .before .before .before .before .before .before .before .before .before .before .before .before .before .before .before .before .before .args .table .now) (c .before .before .before .before .before .before .before .before .before .before .before .before .before .before .before .before .before .before .before .before .args .name .now) (c .before .before .before .before .before .before .before .before .before .before .before .before .before .before .before .before .before .before .before .before .args .labels .now) (c .before .before .before .before .before .before .before .before .before .before .before .before .before .before .before .before .before .before .before .before .args .answer .now) _ _ (c .before .before .before .before .before .before .before .before .before .before .before .before .before .before .before .and-another .ensures) (c .before .before .before .before .before .before .before .before .before .before .before .before .«open» .ensures .number) (c .before .before .before .before .before .before .before .before .before .if1 .left))
+put-labels-requires c κs =
+    let x = opened-taken (c .before .before .before .before .before .before .before .before .before .before .before .before .before .before .before .before .before .before .before .before .args .table .now) _ (sym (c .before .before .before .before .before .before .before .before .before .if1 .left) ∙ c .before .before .before .before .before .before .before .before .before .before .before .before .«open» .ensures .number) in
+    (limits-of (c .before .before .before .before .before .before .before .before .before .before .before .before .before .before .before .before .before .before .before .before .args .table .now) x (geometryOf (c .before .before .before .before .before .before .geometry .result)) (c .before .before .before .before .before .before .geometry .ensures), table-long (c .before .before .before .before .before .before .before .before .before .before .before .before .before .before .before .before .before .before .before .before .args .table .now) x (geometryOf (c .before .before .before .before .before .before .geometry .result)) (c .before .before .before .before .before .before .geometry .ensures), there-inside (c .before .before .before .before .before .before .before .before .before .before .before .before .before .before .before .before .before .before .before .before .args .table .now) x (geometryOf (c .before .before .before .before .before .before .geometry .result)) (c .before .before .before .before .before .before .geometry .ensures) (c .before .before .before .before .before .before .before .before .before .before .before .before .before .before .before .before .before .before .before .before .args .name .now) _ (sym (c .before .before .k .given .1) ∙ c .before .before .before .before .find .ensures), labels-long (c .before .before .before .before .before .before .before .before .before .before .before .before .before .before .before .before .before .before .before .before .args .table .now) (c .before .before .before .before .before .before .before .before .before .before .before .before .before .before .before .before .before .before .before .before .args .name .now) (c .before .before .before .before .before .before .before .before .before .before .before .before .before .before .before .before .before .before .before .before .args .labels .now) (c .before .before .before .before .before .before .before .before .before .before .before .before .before .before .before .before .before .before .before .before .args .answer .now) _ _ (c .before .before .before .before .before .before .before .before .before .before .before .before .before .before .before .and-another .ensures) (c .before .before .before .before .before .before .before .before .before .before .before .before .«open» .ensures .number) (c .before .before .before .before .before .before .before .before .before .if1 .left))
 
 -- src/lib.rt:57:5
 put-nothing-requires : tie.Need-put-nothing-requires
@@ -81,7 +84,7 @@ same-length-2 c = search needs
 
 -- src/lib.rt:39:1
 returns-4 : tie.Need-returns-4
-returns-4 c = obtained (c .before .before .before .before .before .before .before .before .before .before .before .before .before .before .before .before .before .before .before .before .before .before .before .before .before .before .before .args .table .now) (c .before .before .before .before .before .before .before .before .before .before .before .before .before .before .before .before .before .before .before .before .before .before .before .before .before .before .before .args .name .now) (c .before .before .before .before .before .before .before .before .before .before .before .before .before .before .before .before .before .before .before .before .before .before .before .before .before .before .before .args .labels .now) (c .before .before .before .before .before .before .before .before .before .before .before .before .before .before .before .before .before .before .before .before .before .before .before .before .before .before .before .args .answer .now) _ _ (c .before .before .before .before .before .before .before .before .before .before .before .before .before .before .before .before .before .before .before .before .before .before .and-another .ensures) (c .before .before .before .before .before .before .before .before .before .before .before .before .before .before .before .before .before .before .before .«open» .ensures .number) (c .before .before .before .before .before .before .before .before .before .before .before .before .before .before .before .before .if1 .left) (geometryOf (c .before .before .before .before .before .before .before .before .before .before .before .before .before .geometry .result)) (c .before .before .before .before .before .before .before .before .before .before .before .before .before .geometry .ensures) (sym (c .before .before .before .before .before .before .before .before .before .before .before .before .before .before .before .name-ok .ensures) ∙ c .before .before .before .before .before .before .before .before .before .before .before .before .before .before .if2 .taken) _ _ _ (sym (c .before .before .before .before .before .before .before .before .before .k .given .1) ∙ c .before .before .before .before .before .before .before .before .before .before .before .find .ensures) (c .before .before .before .before .before .before .put-labels .ensures) (c .before .before .put-nothing .ensures)
+returns-4 c = obtained (c .before .before .before .before .before .before .before .before .before .before .before .before .before .before .before .before .before .before .before .before .before .before .before .before .before .before .before .args .table .now) (c .before .before .before .before .before .before .before .before .before .before .before .before .before .before .before .before .before .before .before .before .before .before .before .before .before .before .before .args .name .now) (c .before .before .before .before .before .before .before .before .before .before .before .before .before .before .before .before .before .before .before .before .before .before .before .before .before .before .before .args .labels .now) (c .before .before .before .before .before .before .before .before .before .before .before .before .before .before .before .before .before .before .before .before .before .before .before .before .before .before .before .args .answer .now) _ _ (c .before .before .before .before .before .before .before .before .before .before .before .before .before .before .before .before .before .before .before .before .before .before .and-another .ensures) (c .before .before .before .before .before .before .before .before .before .before .before .before .before .before .before .before .before .before .before .«open» .ensures .number) (c .before .before .before .before .before .before .before .before .before .before .before .before .before .before .before .before .if1 .left) (sym (c .before .before .before .before .before .before .before .before .before .before .before .before .before .before .before .name-ok .ensures) ∙ c .before .before .before .before .before .before .before .before .before .before .before .before .before .before .if2 .taken) (geometryOf (c .before .before .before .before .before .before .before .before .before .before .before .before .before .geometry .result)) (c .before .before .before .before .before .before .before .before .before .before .before .before .before .geometry .ensures) _ _ _ (sym (c .before .before .before .before .before .before .before .before .before .k .given .1) ∙ c .before .before .before .before .before .before .before .before .before .before .before .find .ensures) (c .before .before .before .before .before .before .put-labels .ensures) (c .before .before .put-nothing .ensures)
 
 pub obtain-spec : {M : Type 1} → statement M
 obtain-spec =

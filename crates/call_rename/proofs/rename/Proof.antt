@@ -1,5 +1,6 @@
-use Rattle.call_rename.proofs.Laws.{answer-long, done, duplicate, found-inside, is-taken, limits-so, new-long, not-begun, not-found, table-long}
+use Rattle.call_rename.proofs.Laws.{answer-long, done, duplicate, is-taken, new-long, not-begun, not-found}
 use Rattle.forms.specs.Forms.{geometryOf}
+use Rattle.opening.proofs.Lookup.{limits-of, table-long, there-inside}
 use native.Mathlib.Omega.{arith}
 use mathlib.Core.Path.{sym, ap, _∙_}
 use borrow.Author.Needs.{needs}
@@ -24,15 +25,15 @@ geometry-requires c κs = is-taken (c .before .before .before .before .before .b
 
 -- src/lib.rt:65:14
 mul-n : tie.Need-mul-n
-mul-n c = omega (arith, limits-so (c .before .before .before .before .before .before .before .before .before .before .args .table .now) (c .before .before .before .before .before .before .before .before .before .before .args .old .now) (c .before .before .before .before .before .before .before .before .before .before .args .new .now) (c .before .before .before .before .before .before .before .before .before .before .args .answer .now) _ (c .before .before .before .before .early .ensures) (c .before .before .before .if1 .left) (geometryOf (c .before .geometry .result)) (c .before .geometry .ensures) .most)
+mul-n c = omega (arith, limits-of (c .before .before .before .before .before .before .before .before .before .before .args .table .now) (is-taken (c .before .before .before .before .before .before .before .before .before .before .args .table .now) (c .before .before .before .before .before .before .before .before .before .before .args .old .now) (c .before .before .before .before .before .before .before .before .before .before .args .new .now) (c .before .before .before .before .before .before .before .before .before .before .args .answer .now) _ (c .before .before .before .before .early .ensures) (c .before .before .before .if1 .left)) (geometryOf (c .before .geometry .result)) (c .before .geometry .ensures) .most)
 
 -- src/lib.rt:65:13
 cast-n : tie.Need-cast-n
-cast-n c = omega (arith, limits-so (c .before .before .before .before .before .before .before .before .before .before .args .table .now) (c .before .before .before .before .before .before .before .before .before .before .args .old .now) (c .before .before .before .before .before .before .before .before .before .before .args .new .now) (c .before .before .before .before .before .before .before .before .before .before .args .answer .now) _ (c .before .before .before .before .early .ensures) (c .before .before .before .if1 .left) (geometryOf (c .before .geometry .result)) (c .before .geometry .ensures) .most)
+cast-n c = omega (arith, limits-of (c .before .before .before .before .before .before .before .before .before .before .args .table .now) (is-taken (c .before .before .before .before .before .before .before .before .before .before .args .table .now) (c .before .before .before .before .before .before .before .before .before .before .args .old .now) (c .before .before .before .before .before .before .before .before .before .before .args .new .now) (c .before .before .before .before .before .before .before .before .before .before .args .answer .now) _ (c .before .before .before .before .early .ensures) (c .before .before .before .if1 .left)) (geometryOf (c .before .geometry .result)) (c .before .geometry .ensures) .most)
 
 -- src/lib.rt:66:26
 find-requires : tie.Need-find-requires
-find-requires c κs = omega (arith, table-long (c .before .before .before .before .before .before .before .before .before .before .before .args .table .now) (c .before .before .before .before .before .before .before .before .before .before .before .args .old .now) (c .before .before .before .before .before .before .before .before .before .before .before .args .new .now) (c .before .before .before .before .before .before .before .before .before .before .before .args .answer .now) _ (c .before .before .before .before .before .early .ensures) (c .before .before .before .before .if1 .left) (geometryOf (c .before .before .geometry .result)) (c .before .before .geometry .ensures))
+find-requires c κs = omega (arith, table-long (c .before .before .before .before .before .before .before .before .before .before .before .args .table .now) (is-taken (c .before .before .before .before .before .before .before .before .before .before .before .args .table .now) (c .before .before .before .before .before .before .before .before .before .before .before .args .old .now) (c .before .before .before .before .before .before .before .before .before .before .before .args .new .now) (c .before .before .before .before .before .before .before .before .before .before .before .args .answer .now) _ (c .before .before .before .before .before .early .ensures) (c .before .before .before .before .if1 .left)) (geometryOf (c .before .before .geometry .result)) (c .before .before .geometry .ensures))
 
 -- src/lib.rt:66:21
 enum-known-k : tie.Need-enum-known-k
@@ -52,7 +53,7 @@ returns-2 c = not-found (c .before .before .before .before .before .before .befo
 
 -- src/lib.rt:69:8
 on-volume-requires : tie.Need-on-volume-requires
-on-volume-requires c κs = omega (arith, table-long (c .before .before .before .before .before .before .before .before .before .before .before .before .before .before .before .before .args .table .now) (c .before .before .before .before .before .before .before .before .before .before .before .before .before .before .before .before .args .old .now) (c .before .before .before .before .before .before .before .before .before .before .before .before .before .before .before .before .args .new .now) (c .before .before .before .before .before .before .before .before .before .before .before .before .before .before .before .before .args .answer .now) _ (c .before .before .before .before .before .before .before .before .before .before .early .ensures) (c .before .before .before .before .before .before .before .before .before .if1 .left) (geometryOf (c .before .before .before .before .before .before .before .geometry .result)) (c .before .before .before .before .before .before .before .geometry .ensures))
+on-volume-requires c κs = omega (arith, table-long (c .before .before .before .before .before .before .before .before .before .before .before .before .before .before .before .before .args .table .now) (is-taken (c .before .before .before .before .before .before .before .before .before .before .before .before .before .before .before .before .args .table .now) (c .before .before .before .before .before .before .before .before .before .before .before .before .before .before .before .before .args .old .now) (c .before .before .before .before .before .before .before .before .before .before .before .before .before .before .before .before .args .new .now) (c .before .before .before .before .before .before .before .before .before .before .before .before .before .before .before .before .args .answer .now) _ (c .before .before .before .before .before .before .before .before .before .before .early .ensures) (c .before .before .before .before .before .before .before .before .before .if1 .left)) (geometryOf (c .before .before .before .before .before .before .before .geometry .result)) (c .before .before .before .before .before .before .before .geometry .ensures))
 
 -- src/lib.rt:70:9
 same-length-3 : tie.Need-same-length-3
@@ -64,7 +65,9 @@ returns-3 c = duplicate (c .before .before .before .before .before .before .befo
 
 -- src/lib.rt:72:5
 put-name-requires : tie.Need-put-name-requires
-put-name-requires c κs = (omega (arith, table-long (c .before .before .before .before .before .before .before .before .before .before .before .before .before .before .before .before .before .before .before .args .table .now) (c .before .before .before .before .before .before .before .before .before .before .before .before .before .before .before .before .before .before .before .args .old .now) (c .before .before .before .before .before .before .before .before .before .before .before .before .before .before .before .before .before .before .before .args .new .now) (c .before .before .before .before .before .before .before .before .before .before .before .before .before .before .before .before .before .before .before .args .answer .now) _ (c .before .before .before .before .before .before .before .before .before .before .before .before .before .early .ensures) (c .before .before .before .before .before .before .before .before .before .before .before .before .if1 .left) (geometryOf (c .before .before .before .before .before .before .before .before .before .before .geometry .result)) (c .before .before .before .before .before .before .before .before .before .before .geometry .ensures), found-inside (c .before .before .before .before .before .before .before .before .before .before .before .before .before .before .before .before .before .before .before .args .table .now) (c .before .before .before .before .before .before .before .before .before .before .before .before .before .before .before .before .before .before .before .args .old .now) (c .before .before .before .before .before .before .before .before .before .before .before .before .before .before .before .before .before .before .before .args .new .now) (c .before .before .before .before .before .before .before .before .before .before .before .before .before .before .before .before .before .before .before .args .answer .now) _ (c .before .before .before .before .before .before .before .before .before .before .before .before .before .early .ensures) (c .before .before .before .before .before .before .before .before .before .before .before .before .if1 .left) (geometryOf (c .before .before .before .before .before .before .before .before .before .before .geometry .result)) (c .before .before .before .before .before .before .before .before .before .before .geometry .ensures) _ (sym (c .before .before .before .before .before .k .given .1) ∙ c .before .before .before .before .before .before .before .find .ensures)), new-long (c .before .before .before .before .before .before .before .before .before .before .before .before .before .before .before .before .before .before .before .args .table .now) (c .before .before .before .before .before .before .before .before .before .before .before .before .before .before .before .before .before .before .before .args .old .now) (c .before .before .before .before .before .before .before .before .before .before .before .before .before .before .before .before .before .before .before .args .new .now) (c .before .before .before .before .before .before .before .before .before .before .before .before .before .before .before .before .before .before .before .args .answer .now) _ (c .before .before .before .before .before .before .before .before .before .before .before .before .before .early .ensures) (c .before .before .before .before .before .before .before .before .before .before .before .before .if1 .left))
+put-name-requires c κs =
+    let x = is-taken (c .before .before .before .before .before .before .before .before .before .before .before .before .before .before .before .before .before .before .before .args .table .now) (c .before .before .before .before .before .before .before .before .before .before .before .before .before .before .before .before .before .before .before .args .old .now) (c .before .before .before .before .before .before .before .before .before .before .before .before .before .before .before .before .before .before .before .args .new .now) (c .before .before .before .before .before .before .before .before .before .before .before .before .before .before .before .before .before .before .before .args .answer .now) _ (c .before .before .before .before .before .before .before .before .before .before .before .before .before .early .ensures) (c .before .before .before .before .before .before .before .before .before .before .before .before .if1 .left) in
+    (omega (arith, table-long (c .before .before .before .before .before .before .before .before .before .before .before .before .before .before .before .before .before .before .before .args .table .now) x (geometryOf (c .before .before .before .before .before .before .before .before .before .before .geometry .result)) (c .before .before .before .before .before .before .before .before .before .before .geometry .ensures), there-inside (c .before .before .before .before .before .before .before .before .before .before .before .before .before .before .before .before .before .before .before .args .table .now) x (geometryOf (c .before .before .before .before .before .before .before .before .before .before .geometry .result)) (c .before .before .before .before .before .before .before .before .before .before .geometry .ensures) (c .before .before .before .before .before .before .before .before .before .before .before .before .before .before .before .before .before .before .before .args .old .now) _ (sym (c .before .before .before .before .before .k .given .1) ∙ c .before .before .before .before .before .before .before .find .ensures)), new-long (c .before .before .before .before .before .before .before .before .before .before .before .before .before .before .before .before .before .before .before .args .table .now) (c .before .before .before .before .before .before .before .before .before .before .before .before .before .before .before .before .before .before .before .args .old .now) (c .before .before .before .before .before .before .before .before .before .before .before .before .before .before .before .before .before .before .before .args .new .now) (c .before .before .before .before .before .before .before .before .before .before .before .before .before .before .before .before .before .before .before .args .answer .now) _ (c .before .before .before .before .before .before .before .before .before .before .before .before .before .early .ensures) (c .before .before .before .before .before .before .before .before .before .before .before .before .if1 .left))
 
 -- src/lib.rt:73:5
 put-nothing-requires : tie.Need-put-nothing-requires
