@@ -6,8 +6,12 @@ pub mod call;
 pub mod cases;
 pub mod coverage;
 pub mod desk;
+#[cfg(feature = "stand-in")]
+pub mod exported;
 pub mod generate;
 pub mod ledger;
+#[cfg(feature = "library")]
+pub mod library;
 #[cfg(feature = "proved")]
 pub mod proved;
 pub mod reference;
