@@ -2,12 +2,14 @@
 //! needed to test the one against the other. See README.md.
 
 pub mod audit;
+pub mod beside;
 pub mod call;
 pub mod cases;
 pub mod coverage;
 pub mod desk;
 #[cfg(feature = "stand-in")]
 pub mod exported;
+pub mod faulty;
 pub mod generate;
 pub mod ledger;
 #[cfg(feature = "library")]

@@ -32,9 +32,7 @@ extern "C" {
         table: *const u8, table_len: usize, name: *const u8, name_len: usize, labels: *mut u8,
         labels_len: usize, answer: *mut u8, answer_len: usize,
     ) -> u32;
-    fn vtoc_lspace(
-        table: *const u8, table_len: usize, answer: *mut u8, answer_len: usize,
-    ) -> u32;
+    fn vtoc_lspace(table: *const u8, table_len: usize, answer: *mut u8, answer_len: usize) -> u32;
 }
 
 /// The library. An empty buffer goes over as a null pointer, as it may from a host in C.
