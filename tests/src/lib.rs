@@ -16,6 +16,8 @@ pub mod ledger;
 pub mod library;
 #[cfg(feature = "proved")]
 pub mod proved;
+pub mod recording;
 pub mod reference;
+pub mod replay;
 pub mod timing;
 pub mod volumes;
