@@ -20,7 +20,7 @@
  * WHAT THE HOST OWES, since no proof sees it
  *   - The buffers of one call do not overlap, not by a byte (`restrict` below). The same name may be lent to two calls, but in
  *     vtoc_rename the old and the new name are two buffers.
- *   - A pointer points to as many bytes as the length after it says; with length 0 nothing is read or written through it.
+ *   - A pointer points to as many bytes as the length after it says; with length 0 it may be null.
  *   - Nobody else writes a lent buffer while the call runs, or reads one that the call may write.
  *   - Between two calls nobody but the host's own reading and writing of the volume changes the table. A table changed in some
  *     other way is refused (VTOC_E_UNSOUND) or, where it still meets every rule of the layout, taken as it now is.

@@ -3,10 +3,11 @@
 //! Prints what was called and answered; fails at the first difference, or where too little was
 //! seen. A planted fault must make it fail.
 
+use std::path::Path;
 use std::process::ExitCode;
 
 use vtoc_tests::beside::both;
-use vtoc_tests::call::{Buffers, Call, Manager};
+use vtoc_tests::call::{Buffers, Call, Manager, Reference};
 use vtoc_tests::cases::sequences;
 use vtoc_tests::coverage::Coverage;
 use vtoc_tests::desk::Row;
@@ -17,6 +18,7 @@ use vtoc_tests::generate::rng::Rng;
 use vtoc_tests::generate::session::{Origin, Session, Trial};
 use vtoc_tests::generate::shapes::Shape;
 use vtoc_tests::library::Library;
+use vtoc_tests::replay::Player;
 use vtoc_tests::volumes::{many_extents, many_names, medium, small};
 
 /// Calls in all where no number is given, the number from which on a run must have seen
@@ -81,6 +83,21 @@ impl<M: Manager> Beside<'_, M> {
         Ok(())
     }
 
+    /// The stored recording, through the library; the table is its own from call to call.
+    fn recorded(&mut self) -> Result<(), String> {
+        let path = Path::new(env!("CARGO_MANIFEST_DIR")).join("../crates/replay/stdin");
+        let recording = std::fs::read(&path).map_err(|e| format!("{}: {e}", path.display()))?;
+        let (mut one, mut other) = (Player::new(self.library), Player::new(&Reference));
+        for (k, record) in recording.as_chunks().0.iter().enumerate() {
+            let (is, must) = (one.play(record), other.play(record));
+            if is != must || one.table != other.table {
+                let [is, must] = [is, must].map(|line| String::from_utf8_lossy(&line).into_owned());
+                return Err(format!("record {k} of crates/replay/stdin\n  {is}  {must}"));
+            }
+        }
+        Ok(())
+    }
+
     fn grids(&mut self) -> Result<(), String> {
         let grids = [
             ("lengths", grids::lengths()),
@@ -126,6 +143,7 @@ impl<M: Manager> Beside<'_, M> {
     fn run(&mut self, calls: usize, seed: u64) -> Result<(), String> {
         let mut rng = Rng::new(seed);
         self.scripted()?;
+        self.recorded()?;
         self.grids()?;
         self.damaged(&mut rng)?;
         for (table, place) in [
