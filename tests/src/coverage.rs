@@ -194,20 +194,27 @@ impl Coverage {
 
 impl fmt::Display for Coverage {
     fn fmt(&self, f: &mut fmt::Formatter) -> fmt::Result {
-        write!(f, "{:<12}", "result")?;
-        (0..=12).try_for_each(|result| write!(f, "{result:>6}"))?;
+        write!(f, "{:<12}{:>8}", "result", "all")?;
+        (0..=12).try_for_each(|result| write!(f, "{result:>7}"))?;
         writeln!(f)?;
+        let sum = |wanted: &dyn Fn(usize, u32) -> bool| -> usize {
+            let seen = self.results.iter();
+            seen.filter(|(&(call, result), _)| wanted(call, result)).map(|(_, count)| count).sum()
+        };
         for (call, name) in CALL_NAMES.iter().enumerate() {
-            write!(f, "{name:<12}")?;
+            write!(f, "{name:<12}{:>8}", sum(&|of, _| of == call))?;
             for result in 0..=12 {
                 match self.results.get(&(call, result)) {
-                    Some(count) => write!(f, "{count:>6}")?,
-                    None if RESULTS[call].contains(&result) => write!(f, "{:>6}", "NONE")?,
-                    None => write!(f, "{:>6}", "-")?,
+                    Some(count) => write!(f, "{count:>7}")?,
+                    None if RESULTS[call].contains(&result) => write!(f, "{:>7}", "NONE")?,
+                    None => write!(f, "{:>7}", "-")?,
                 }
             }
             writeln!(f)?;
         }
+        write!(f, "{:<12}{:>8}", "all", sum(&|_, _| true))?;
+        (0..=12).try_for_each(|result| write!(f, "{:>7}", sum(&|_, of| of == result)))?;
+        writeln!(f)?;
         for feature in FEATURES.iter().chain(&VOLUMES) {
             writeln!(f, "{:>8}  {feature}", self.features.get(feature).unwrap_or(&0))?;
         }

@@ -25,7 +25,7 @@ use vtoc_tests::volumes::{many_extents, many_names, medium, small};
 /// everything, and the fewest with each result of each call.
 const CALLS: usize = 250_000;
 const WHOLE: usize = 100_000;
-const EACH: usize = 25;
+const EACH: usize = 10;
 
 /// Both sides, and what they were asked.
 struct Beside<'a, M> {
