@@ -64,9 +64,9 @@ static void print_track(uint32_t track)
 /* The pieces of a grant, from the answer. */
 static void print_pieces(void)
 {
-    for (uint32_t i = 0; i < vtoc_pieces(answer); i++) {
-        printf("      piece %lu: %lu tracks from track ", (unsigned long)i + 1, (unsigned long)vtoc_piece_count(answer, i));
-        print_track(vtoc_piece_start(answer, i));
+    for (uint32_t i = 0; i < vtoc_answer_pieces(answer); i++) {
+        printf("      piece %lu: %lu tracks from track ", (unsigned long)i + 1, (unsigned long)vtoc_answer_count(answer, i));
+        print_track(vtoc_answer_start(answer, i));
         printf("\n");
     }
 }
@@ -143,7 +143,7 @@ static void release(const char *text, uint32_t tt, uint32_t r, uint32_t wanted)
     result = vtoc_release(table, sizeof table, name, sizeof name, vtoc_ttr(tt, r), answer, sizeof answer);
     expect(result, wanted);
     if (result == VTOC_OK)
-        printf("      %lu tracks given back\n", (unsigned long)vtoc_tracks(answer));
+        printf("      %lu tracks given back\n", (unsigned long)vtoc_answer_tracks(answer));
 }
 
 static void scratch(const char *text, uint32_t wanted)
@@ -155,7 +155,7 @@ static void scratch(const char *text, uint32_t wanted)
     result = vtoc_scratch(table, sizeof table, name, sizeof name, answer, sizeof answer);
     expect(result, wanted);
     if (result == VTOC_OK)
-        printf("      %lu tracks given back\n", (unsigned long)vtoc_tracks(answer));
+        printf("      %lu tracks given back\n", (unsigned long)vtoc_answer_tracks(answer));
 }
 
 static void rename_set(const char *old_text, const char *new_text, uint32_t wanted)
@@ -184,15 +184,18 @@ static void obtain(const char *text)
     }
 }
 
+static unsigned long space_number(uint32_t which)
+{
+    return vtoc_answer_space(answer, which);
+}
+
 static void space(void)
 {
     say("space inquiry");
     expect(vtoc_lspace(table, sizeof table, answer, sizeof answer), VTOC_OK);
     printf("      free: %lu cylinders and %lu tracks in %lu extents, the longest %lu cylinders and %lu tracks; %lu records\n",
-           (unsigned long)vtoc_space(answer, VTOC_SPACE_CYLINDERS), (unsigned long)vtoc_space(answer, VTOC_SPACE_ODD_TRACKS),
-           (unsigned long)vtoc_space(answer, VTOC_SPACE_EXTENTS),
-           (unsigned long)vtoc_space(answer, VTOC_SPACE_LONGEST_CYLINDERS),
-           (unsigned long)vtoc_space(answer, VTOC_SPACE_LONGEST_ODD), (unsigned long)vtoc_space(answer, VTOC_SPACE_RECORDS));
+           space_number(VTOC_SPACE_CYLINDERS), space_number(VTOC_SPACE_ODD_TRACKS), space_number(VTOC_SPACE_EXTENTS),
+           space_number(VTOC_SPACE_LONGEST_CYLINDERS), space_number(VTOC_SPACE_LONGEST_ODD), space_number(VTOC_SPACE_RECORDS));
 }
 
 /* ---- The week ------------------------------------------------------------------------------------------------------------ */
@@ -222,7 +225,7 @@ int main(int count, char **arguments)
     scratch("SURVEY.TRIAL", VTOC_OK);
     say("two gaps now lie between the other files, and the strip grows into both");
     extend("SURVEY.STRIP01", VTOC_OK);
-    check(vtoc_pieces(answer) == 2 && vtoc_tracks(answer) == 24 * HEADS, "24 cylinders in two pieces");
+    check(vtoc_answer_pieces(answer) == 2 && vtoc_answer_tracks(answer) == 24 * HEADS, "24 cylinders in two pieces");
     extend("SURVEY.NAV", VTOC_E_NO_SECONDARY);
 
     printf("Wednesday: the flight has a number\n");
@@ -240,7 +243,7 @@ int main(int count, char **arguments)
     freed_track = 243 * HEADS + (1350 - 60 * HEADS); /* the first one after the strip's second extent */
     say("56 tracks fit the gap that the release left behind the strip, and are granted there:");
     allocate("SURVEY.INDEX", VTOC_TRACKS, 0, 56, 8, VTOC_OK);
-    check(vtoc_pieces(answer) == 1 && vtoc_piece_start(answer, 0) == freed_track && vtoc_piece_count(answer, 0) == 56,
+    check(vtoc_answer_pieces(answer) == 1 && vtoc_answer_start(answer, 0) == freed_track && vtoc_answer_count(answer, 0) == 56,
           "SURVEY.INDEX has the very tracks that the strip gave back");
 
     printf("Friday: room for the next week\n");

@@ -185,7 +185,7 @@ uint32_t vtoc_obtain(const uint8_t *VTOC_RESTRICT table, size_t table_length, co
                      size_t answer_length);
 
 /*
- * Says how much is free: the answer has the six numbers of vtoc_space, below. It is also the quickest way to ask whether a
+ * Says how much is free: the answer has the six numbers of vtoc_answer_space, below. It is also the quickest way to ask whether a
  * table is taken at all. Refusals: 2, 3.
  */
 uint32_t vtoc_lspace(const uint8_t *VTOC_RESTRICT table, size_t table_length, uint8_t *VTOC_RESTRICT answer,
@@ -194,25 +194,25 @@ uint32_t vtoc_lspace(const uint8_t *VTOC_RESTRICT table, size_t table_length, ui
 /* ---- Readers of the answer. Each is for an answer of 24 bytes that a call with result VTOC_OK has written. --------------- */
 
 /* allocate and extend: tracks granted. release and scratch: tracks given back. */
-static inline uint32_t vtoc_tracks(const uint8_t *answer)
+static inline uint32_t vtoc_answer_tracks(const uint8_t *answer)
 {
     return (uint32_t)answer[0] << 8 | answer[1];
 }
 
 /* allocate and extend: the number of pieces, 1 to 5. */
-static inline uint32_t vtoc_pieces(const uint8_t *answer)
+static inline uint32_t vtoc_answer_pieces(const uint8_t *answer)
 {
     return answer[2];
 }
 
 /* The first track of piece i, from 0; 0 where there is no such piece. */
-static inline uint32_t vtoc_piece_start(const uint8_t *answer, uint32_t i)
+static inline uint32_t vtoc_answer_start(const uint8_t *answer, uint32_t i)
 {
     return i < VTOC_MOST_PIECES ? (uint32_t)answer[3 + 4 * i] << 8 | answer[4 + 4 * i] : 0;
 }
 
 /* The tracks of piece i, from 0; 0 where there is no such piece. */
-static inline uint32_t vtoc_piece_count(const uint8_t *answer, uint32_t i)
+static inline uint32_t vtoc_answer_count(const uint8_t *answer, uint32_t i)
 {
     return i < VTOC_MOST_PIECES ? (uint32_t)answer[5 + 4 * i] << 8 | answer[6 + 4 * i] : 0;
 }
@@ -225,7 +225,7 @@ static inline uint32_t vtoc_piece_count(const uint8_t *answer, uint32_t i)
 #define VTOC_SPACE_LONGEST_ODD 4       /* and its tracks left over */
 #define VTOC_SPACE_RECORDS 5           /* free records (format 0s) */
 
-static inline uint32_t vtoc_space(const uint8_t *answer, uint32_t number)
+static inline uint32_t vtoc_answer_space(const uint8_t *answer, uint32_t number)
 {
     return number <= VTOC_SPACE_RECORDS ? (uint32_t)answer[2 * number] << 8 | answer[2 * number + 1] : 0;
 }

@@ -6,7 +6,7 @@
 use std::path::Path;
 use std::process::ExitCode;
 
-use vtoc_tests::beside::both;
+use vtoc_tests::beside::{both, Rooms};
 use vtoc_tests::call::{Buffers, Call, Manager, Reference};
 use vtoc_tests::cases::sequences;
 use vtoc_tests::coverage::Coverage;
@@ -31,17 +31,33 @@ const EACH: usize = 10;
 struct Beside<'a, M> {
     library: &'a M,
     coverage: Coverage,
-    shifts: Rng,
+    rooms: Rooms,
+    sides: Sides,
     calls: usize,
 }
 
-impl<M: Manager> Beside<'_, M> {
+/// At which end of its room each buffer lies: at random, or, for a library with a planted fault,
+/// so that a byte written after the table or before the answer is seen and does not end the run.
+enum Sides {
+    Any(Rng),
+    Planted,
+}
+
+impl<'a, M: Manager> Beside<'a, M> {
+    fn new(library: &'a M, sides: Sides) -> Beside<'a, M> {
+        Beside { library, coverage: Coverage::default(), rooms: Rooms::new(), sides, calls: 0 }
+    }
+
     /// Makes a call of both and counts it; the table as it was left.
     fn call(
         &mut self, call: &Call, buffers: &Buffers, origin: Origin, place: &str,
     ) -> Result<Vec<u8>, String> {
-        let shift = self.shifts.word() as usize;
-        let answered = both(self.library, call, buffers, shift).map_err(|difference| {
+        let sides = match &mut self.sides {
+            Sides::Any(rng) => rng.word(),
+            Sides::Planted => 0b10,
+        };
+        let rooms = &mut self.rooms;
+        let answered = both(self.library, call, buffers, rooms, sides).map_err(|difference| {
             format!("{difference}\n  {place}, call {}: {call:02X?}", self.calls)
         })?;
         self.calls += 1;
@@ -181,9 +197,8 @@ impl<M: Manager> Beside<'_, M> {
 
 /// Each fault planted in the library must be noticed within a short run.
 fn notices(fault: vtoc_tests::faulty::Fault) -> bool {
-    let library = &Faulty { manager: &Library, fault };
-    let coverage = Coverage::default();
-    let mut beside = Beside { library, coverage, shifts: Rng::new(1), calls: 0 };
+    let library = Faulty { manager: &Library, fault };
+    let mut beside = Beside::new(&library, Sides::Planted);
     beside.life(Session::new(1), 300, "planted").is_err()
 }
 
@@ -208,9 +223,8 @@ fn arguments() -> Option<Arguments> {
     Some(found)
 }
 
-fn report<M: Manager>(library: &M, calls: usize, seed: u64) -> ExitCode {
-    let coverage = Coverage::default();
-    let mut beside = Beside { library, coverage, shifts: Rng::new(seed), calls: 0 };
+fn report<M: Manager>(library: &M, sides: Sides, calls: usize, seed: u64) -> ExitCode {
+    let mut beside = Beside::new(library, sides);
     let outcome = beside.run(calls, seed);
     print!("{}", beside.coverage);
     println!("calls {}, seed {seed}", beside.calls);
@@ -237,7 +251,7 @@ fn main() -> ExitCode {
             eprintln!("faults: {FAULTS:?}");
             return ExitCode::from(2);
         };
-        return report(&Faulty { manager: &Library, fault }, calls, seed);
+        return report(&Faulty { manager: &Library, fault }, Sides::Planted, calls, seed);
     }
     for fault in FAULTS {
         if !notices(fault) {
@@ -246,5 +260,5 @@ fn main() -> ExitCode {
         }
     }
     println!("planted faults {}, all noticed", FAULTS.len());
-    report(&Library, calls, seed)
+    report(&Library, Sides::Any(Rng::new(seed)), calls, seed)
 }
