@@ -5,6 +5,7 @@
 
 use std::path::Path;
 use std::process::ExitCode;
+use std::sync::atomic::{AtomicPtr, Ordering};
 
 use vtoc_tests::beside::{both, Rooms};
 use vtoc_tests::call::{Buffers, Call, Manager, Reference};
@@ -26,6 +27,28 @@ use vtoc_tests::volumes::{many_extents, many_names, medium, small};
 const CALLS: usize = 250_000;
 const WHOLE: usize = 100_000;
 const EACH: usize = 10;
+
+/// The call being made, for `past_a_buffer`.
+static CURRENT: AtomicPtr<Call> = AtomicPtr::new(std::ptr::null_mut());
+
+extern "C" {
+    fn signal(number: i32, handler: extern "C" fn(i32)) -> usize;
+    fn _exit(status: i32) -> !;
+}
+
+/// Says which call read or wrote a page that it may not, and ends the program.
+extern "C" fn past_a_buffer(_: i32) {
+    // SAFETY: the call is borrowed by the function that is making it.
+    let call = unsafe { CURRENT.load(Ordering::Relaxed).as_ref() };
+    println!("DIFFERENCE: a read or write past a lent buffer\n  {call:02X?}");
+    unsafe { _exit(1) }
+}
+
+fn watch_for_signals() {
+    const SIGSEGV: i32 = 11;
+    // SAFETY: the handler ends the program.
+    unsafe { signal(SIGSEGV, past_a_buffer) };
+}
 
 /// Both sides, and what they were asked.
 struct Beside<'a, M> {
@@ -57,6 +80,7 @@ impl<'a, M: Manager> Beside<'a, M> {
             Sides::Planted => 0b10,
         };
         let rooms = &mut self.rooms;
+        CURRENT.store((call as *const Call).cast_mut(), Ordering::Relaxed);
         let answered = both(self.library, call, buffers, rooms, sides).map_err(|difference| {
             format!("{difference}\n  {place}, call {}: {call:02X?}", self.calls)
         })?;
@@ -246,6 +270,7 @@ fn main() -> ExitCode {
         eprintln!("usage: calls [--calls N] [--seed S] [--plant FAULT]");
         return ExitCode::from(2);
     };
+    watch_for_signals();
     if let Some(text) = plant {
         let Some(&fault) = FAULTS.iter().find(|fault| format!("{fault:?}") == text) else {
             eprintln!("faults: {FAULTS:?}");
