@@ -7,15 +7,7 @@ ghost use Rattle.probe.specs.Number.{checkNumber};
 pub extern "C" fn vtoc_probe_check(table: &[u8]) -> u32
     ensures { λ r. ⌜ r ≡ checkNumber (now (table .entry)) ⌝ }
 {
-    let len = table.len();
-    if len % 140 != 0 {
-        return 2;
-    }
-    let n = len / 140;
-    if n < 3 {
-        return 2;
-    }
-    if n > 468 {
+    if table_check::good_length(table) {} else {
         return 2;
     }
     let mut map = [0u64; 1024];

@@ -1,3 +1,5 @@
+pub mod Lengths
 pub mod Read
 pub mod Pieces
 pub mod Whole
+pub mod Free

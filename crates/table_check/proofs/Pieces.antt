@@ -51,11 +51,19 @@ none-below n (x ∷ xs) h = (
 )
 
 -- a slot whose record has 140 bytes is in the table
-in-table : (rs : List (List ℕ)) (k : ℕ) → length (recordAt rs k) ≡ 140 → k < length rs
+pub in-table : (rs : List (List ℕ)) (k : ℕ) → length (recordAt rs k) ≡ 140 → k < length rs
 in-table rs k e =
     elim (decLe (length rs) k) [
       | yes u ↦ absurd (let q = ap length (List·getD-eq-default rs [] {n = k} u) in omega arith)
       | no u ↦ lt-of-not-le u
+    ]
+
+-- the format 3 of a label is, too; slot 0 stands for none
+pub third-below : (g : Geometry) (rs : List (List ℕ)) (l : Label) → 1 ≤ length rs → LabelOk g rs l → l .slot3 < length rs
+third-below g rs l pos x =
+    elim (decLe 1 (l .slot3)) [
+      | yes u ↦ in-table rs (l .slot3) (ap length (sym (x .three u)) ∙ length-3 g l)
+      | no u ↦ omega arith
     ]
 
 one-below : (n k : ℕ) → (1 ≤ k → k < n) → All (λ j. j < n) (oneSlot k)

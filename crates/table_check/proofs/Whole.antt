@@ -105,10 +105,10 @@ refused t f = by (taken t) (λ e. absurd (f (true-is e))) (λ e. sym e)
 no-maps : (t m s : List ℕ) → (T (taken t) → ⊥) → Checked t m m s s false
 no-maps t m s f = record { longMap = refl; longSlots = refl; told = refused t f; shown = λ q. clash {b = false} q refl }
 
-taken-long : (t : List ℕ) → T (taken t) → length t ≡ slots (read t .geometry) * 140
+pub taken-long : (t : List ℕ) → T (taken t) → length t ≡ slots (read t .geometry) * 140
 taken-long t x = let p = taken-is t x in ap length (sym (p .1)) ∙ length-encode (read t) (p .0)
 
-geometry-read : (t : List ℕ) → 140 ≤ length t → read t .geometry ≡ readGeometry (slotBytes t 0)
+pub geometry-read : (t : List ℕ) → 140 ≤ length t → read t .geometry ≡ readGeometry (slotBytes t 0)
 unfolding read readRecords
 geometry-read t u = ap readGeometry (chop-slot (length t / 140) t 0 (omega arith))
 

@@ -5,14 +5,29 @@ ghost use mathlib.Core.Bool.{false};
 ghost use Prim.Native.Nat.{_*_};
 ghost use lib.ListN.{length};
 ghost use Rattle.model.specs.Model.{slots};
+ghost use Rattle.rules.specs.Table.{goodLength};
 ghost use Rattle.rules.proofs.Valid.{Limits};
 ghost use Rattle.fields.specs.Records.{slotBytes};
 ghost use Rattle.forms.specs.Forms.{geometryOf};
 ghost use Rattle.names.specs.Find.{isLabel};
 ghost use Rattle.table_check.specs.Check.{Checked, Contents, MapsBegun, RestTold};
 
+// Whether a table has a length that a table can have.
+pub fn good_length(table: &[u8]) -> bool
+    ensures { λ r. ⌜ r ≡ goodLength (now (table .entry)) ⌝ }
+{
+    if table.len() % 140 != 0 {
+        return false;
+    }
+    let n = table.len() / 140;
+    if n < 3 {
+        return false;
+    }
+    n <= 468
+}
+
 // Begins the maps of free tracks and free slots: the label track, the VTOC and slot 0 are not free.
-fn begin_maps(g: Geometry, map: &mut [u64], empty: &mut [u64])
+pub fn begin_maps(g: Geometry, map: &mut [u64], empty: &mut [u64])
     requires { ⌜ Limits (geometryOf g) × (length (now map) ≡ 1024) × (length (now empty) ≡ 8) ⌝ }
     ensures { λ _. ⌜ MapsBegun (geometryOf g) (now (map .entry)) (now (map .exit)) (now (empty .entry)) (now (empty .exit)) ⌝ }
 {

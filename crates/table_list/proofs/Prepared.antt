@@ -1,39 +1,36 @@
 -- A taken table is ready to be listed, and its parts make the listing. Assumes nothing.
-use mathlib.Core.Path.{_≡_, refl, sym, ap, ap₂, _∙_, subst}
+use mathlib.Core.Path.{_≡_, sym, ap, _∙_, subst}
 use mathlib.Core.Bool.{Bool, true, false}
-use mathlib.Core.List.{List, [], _∷_, _++_}
-use Prim.Native.Nat.{ℕ, _+_, _*_, _/_, _%_, _≤_, _<_}
+use mathlib.Core.List.{List, [], _∷_}
+use Prim.Native.Nat.{ℕ, _*_, _≤_}
 use native.Mathlib.Omega.{arith}
-use native.Mathlib.Decide.{decLe, ℕ-discrete}
-use borrow.Author.Tests.{eq-eqb, ne-eqb, le-leb, lt-leb}
-use native.Mathlib.Nat.{lt-of-not-le}
-use lib.Dec.{T, leb}
-use lib.ListN.{List·getD-eq-default, length, take}
-use Rattle.model.specs.Basics.{flat, within}
-use Rattle.model.specs.Model.{Geometry, Label, Volume, format0s, free, gaps, held, runsOf, slots, tally, total, tracks, unused, used}
-use Rattle.model.proofs.Lists.{All, by, clash, true-is}
+use lib.Dec.{T}
+use lib.ListN.{length}
+use Rattle.model.specs.Basics.{flat}
+use Rattle.model.specs.Model.{Geometry, Volume, format0s, free, runsOf, slots, total, tracks, used}
+use Rattle.model.proofs.Lists.{All, by}
 use Rattle.rules.specs.Listing.{dataLine, freeLine, listing, listingOf, refusalLine, slotLine, volumeLine}
-use Rattle.rules.specs.Reading.{chop, read, readGeometry, readRecords, recordAt}
+use Rattle.rules.specs.Reading.{read, readGeometry, recordAt}
 use Rattle.rules.specs.Table.{goodLength, taken}
-use Rattle.rules.proofs.LabelBack.{length-3}
 use Rattle.rules.proofs.Taken.{length-encode, taken-is}
-use Rattle.rules.proofs.Valid.{Limits, Valid}
+use Rattle.rules.proofs.Valid.{Valid}
 use Rattle.sound.specs.Sound.{LabelOk, Sound}
 use Rattle.sound.proofs.Meaning.{recordsOf, taken-sound}
 use Rattle.tracks.specs.Map.{freeFrom}
-use Rattle.tracks.proofs.Held.{free-gaps}
 use Rattle.fields.specs.Records.{slotBytes}
-use Rattle.fields.proofs.Slots.{chop-slot, length-chop}
+use Rattle.fields.proofs.Slots.{chop-slot}
 use Rattle.table.specs.Labels.{labelsBelow}
 use Rattle.table.proofs.Scan.{unit-tally}
-use Rattle.spare.specs.Spare.{Spared, ZeroBelow}
-use Rattle.spare.proofs.Laws.{count-unused}
-use Rattle.table_check.specs.Check.{Shown, volumeAt}
-use Rattle.table_check.proofs.Read.{records-are, volume-is}
-use Rattle.listing.specs.Text.{Line, Written, volumeText}
+use Rattle.listing.specs.Text.{Written, volumeText}
 use Rattle.listing.proofs.Decimals.{then}
 use Rattle.listing.proofs.Extents.{good-proper, tracks-most}
 use Rattle.listing.proofs.Volumes.{volume-text}
+use Rattle.spare.specs.Spare.{Spared, ZeroBelow}
+use Rattle.table_check.specs.Check.{Shown, volumeAt}
+use Rattle.table_check.proofs.Free.{empty-shown, free-shown}
+use Rattle.table_check.proofs.Pieces.{third-below}
+use Rattle.table_check.proofs.Read.{records-are, volume-is}
+use Rattle.table_check.proofs.Whole.{geometry-read}
 use Rattle.table_list.specs.Whole.{Listable, Ready}
 use Rattle.table_list.proofs.Laws.{reads, widen}
 
@@ -42,34 +39,6 @@ use Rattle.table_list.proofs.Laws.{reads, widen}
 all-two : {A : Type 0} (P Q R : A → Type 0) → ((x : A) → P x → Q x → R x) → (xs : List A) → All P xs → All Q xs → All R xs
 all-two P Q R f [] a b = tt
 all-two P Q R f (x ∷ xs) a b = (f x (a .0) (b .0), all-two P Q R f xs (a .1) (b .1))
-
-in-table : (rs : List (List ℕ)) (k : ℕ) → length (recordAt rs k) ≡ 140 → k < length rs
-in-table rs k e =
-    elim (decLe (length rs) k) [
-      | yes u ↦ absurd (let q = ap length (List·getD-eq-default rs [] {n = k} u) in omega arith)
-      | no u ↦ lt-of-not-le u
-    ]
-
-third-below : (g : Geometry) (rs : List (List ℕ)) (l : Label) → 1 ≤ length rs → LabelOk g rs l → l .slot3 < length rs
-third-below g rs l pos x =
-    elim (decLe 1 (l .slot3)) [
-      | yes u ↦ in-table rs (l .slot3) (ap length (sym (x .three u)) ∙ length-3 g l)
-      | no u ↦ omega arith
-    ]
-
-geometry-read : (t : List ℕ) → 140 ≤ length t → read t .geometry ≡ readGeometry (slotBytes t 0)
-unfolding read readRecords
-geometry-read t u = ap readGeometry (chop-slot (length t / 140) t 0 (omega arith))
-
-free-is : (g : Geometry) (t m s : List ℕ) → Shown (volumeAt g t) m s → freeFrom m (tracks g) 0 ≡ free g (labelsBelow g t (slots g))
-unfolding free
-free-is g t m s x = free-gaps m (tracks g) (held g (labelsBelow g t (slots g))) (x .freeTracks)
-
-spare-are : (g : Geometry) (t m s : List ℕ) → Shown (volumeAt g t) m s → total (freeFrom s (slots g) 0) ≡ length (format0s (volumeAt g t))
-unfolding format0s
-spare-are g t m s x =
-    let us = used (volumeAt g t .labels) (volumeAt g t .chain) in
-    count-unused s (slots g) us (λ k u. let a = x .freeSlots k u in let c = unit-tally k us in omega arith)
 
 module _ (g : Geometry) (t m s : List ℕ) (len : length t ≡ 140 * slots g) (v : read t ≡ volumeAt g t) (valid : Valid (volumeAt g t)) (sound : Sound (recordsOf t) (volumeAt g t)) (shown : Shown (volumeAt g t) m s) where
   pub ready-so : Ready g t m s
@@ -90,12 +59,12 @@ module _ (g : Geometry) (t m s : List ℕ) (len : length t ≡ 140 * slots g) (v
               third = let p = sound .many in let z = sound .limits .least in let w = third-below g rs l (omega arith) x in omega arith;
             })
             (labelsBelow g t (slots g)) (sound .labels) (tracks-most (volumeAt g t) valid);
-        freeTracks = free-is g t m s shown;
+        freeTracks = free-shown (volumeAt g t) m s shown;
         zero = λ k u f.
             let a = shown .freeSlots k u in
             let c = unit-tally k us in
             sym (chop-slot (slots g) t k u) ∙ ap (λ (x : List (List ℕ)). recordAt x k) (sym (records-are g t len)) ∙ sound .rest k u (omega arith);
-        freeSlots = spare-are g t m s shown;
+        freeSlots = empty-shown (volumeAt g t) m s shown;
       }
 
 pub ready : (t m s : List ℕ) (g : Geometry) → T (taken t) → Shown (read t) m s → g ≡ readGeometry (slotBytes t 0) → Ready g t m s
@@ -143,28 +112,3 @@ not-taken t h k = rw (h, k)
 pub is-taken : (t : List ℕ) → goodLength t ≡ true → taken t ≡ true → listingOf (read t) ≡ listing t
 unfolding listing
 is-taken t h k = rw (h, k)
-
--- ---- lengths
-
-pub odd-length : (t : List ℕ) → (length t % 140 ≡ 0 → ⊥) → false ≡ goodLength t
-unfolding goodLength
-odd-length t f = rw (ne-eqb (length t % 140) 0 f)
-
-pub few-records : (t : List ℕ) → length t % 140 ≡ 0 → length t / 140 < 3 → false ≡ goodLength t
-unfolding goodLength
-few-records t e u = rw (eq-eqb (length t % 140) 0 e, lt-leb 3 (length t / 140) u)
-
-pub some-records : (t : List ℕ) → length t % 140 ≡ 0 → 3 ≤ length t / 140 → leb (length t / 140) 468 ≡ goodLength t
-unfolding goodLength
-some-records t e u = rw (eq-eqb (length t % 140) 0 e, le-leb 3 (length t / 140) u)
-
-pub good-long : (t : List ℕ) → goodLength t ≡ true → 140 ≤ length t
-good-long t h =
-    elim (decLe 140 (length t)) [
-      | yes u ↦ u
-      | no u ↦
-          elim (ℕ-discrete (length t % 140) 0) [
-            | yes e ↦ clash h (sym (few-records t e (let w = lt-of-not-le u in omega arith)))
-            | no e ↦ clash h (sym (odd-length t e))
-          ]
-    ]

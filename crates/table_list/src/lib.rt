@@ -8,7 +8,6 @@ ghost use Rattle.model.specs.Model.{slots};
 ghost use Rattle.model.proofs.Lists.{All};
 ghost use Rattle.rules.specs.Listing.{dataLine, freeLine, listing, listingOf, slotLine};
 ghost use Rattle.rules.specs.Reading.{read, slotAt};
-ghost use Rattle.rules.specs.Table.{goodLength};
 ghost use Rattle.rules.proofs.Valid.{Limits};
 ghost use Rattle.tracks.specs.Map.{freeFrom};
 ghost use Rattle.forms.specs.Forms.{geometryOf};
@@ -142,26 +141,12 @@ fn list_taken(table: &[u8], g: Geometry, map: &[u64], empty: &[u64], out: &mut [
     put_slots(out, c, spares.count)
 }
 
-// Whether a table has a length that a table can have.
-fn good_length(table: &[u8]) -> bool
-    ensures { λ r. ⌜ r ≡ goodLength (now (table .entry)) ⌝ }
-{
-    if table.len() % 140 != 0 {
-        return false;
-    }
-    let n = table.len() / 140;
-    if n < 3 {
-        return false;
-    }
-    n <= 468
-}
-
 // Writes the listing of any table, taken or not, and gives back its length. The maps are room to work in.
 pub fn list(table: &[u8], map: &mut [u64], empty: &mut [u64], out: &mut [u8]) -> usize
     requires { ⌜ (length (now map) ≡ 1024) × (length (now empty) ≡ 8) × (1000000 ≤ length (now out)) ⌝ }
     ensures { λ r. ⌜ (length (now (out .exit)) ≡ length (now (out .entry))) × (take r (now (out .exit)) ≡ listing (now (table .entry))) × (r ≤ 1000000) ⌝ }
 {
-    if good_length(table) {} else {
+    if table_check::good_length(table) {} else {
         return listing::refusal_line(out, 2);
     }
     if table_check::check(table, map, empty) {} else {

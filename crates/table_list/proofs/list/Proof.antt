@@ -3,7 +3,8 @@ use native.Mathlib.Omega.{arith}
 use Rattle.forms.specs.Forms.{geometryOf}
 use Rattle.model.proofs.Lists.{true-is}
 use Rattle.rules.specs.Reading.{readGeometry}
-use Rattle.table_list.proofs.Prepared.{good-long, is-taken, not-taken, ready, wrong-length}
+use Rattle.table_list.proofs.Prepared.{is-taken, not-taken, ready, wrong-length}
+use Rattle.table_check.proofs.Lengths.{good-long}
 use borrow.Author.Needs.{needs}
 use Rattle.table_list.proofs.list.Statement.{statement}
 use Rattle.table_list.proofs.list.Tie as tie
@@ -13,7 +14,7 @@ use Rattle.fields.proofs.record_at.Reads as record-at-reads
 use Rattle.forms.proofs.geometry_of.Reads as geometry-of-reads
 use Rattle.listing.proofs.refusal_line.Reads as refusal-line-reads
 use Rattle.table_check.proofs.check.Reads as check-reads
-use Rattle.table_list.proofs.good_length.Reads as good-length-reads
+use Rattle.table_check.proofs.good_length.Reads as good-length-reads
 use Rattle.table_list.proofs.list_taken.Reads as list-taken-reads
 
 -- src/lib.rt:156:8

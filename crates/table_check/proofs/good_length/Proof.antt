@@ -1,8 +1,8 @@
-use Rattle.table_list.proofs.Prepared.{odd-length, few-records, some-records}
-use Rattle.table_list.proofs.good_length.Statement.{statement}
-use Rattle.table_list.proofs.good_length.Tie as tie
-use Rattle.table_list.proofs.good_length.Reads as reads
-use Rattle.table_list.proofs.good_length.Lts as lts
+use Rattle.table_check.proofs.Lengths.{few-records, odd-length, some-records}
+use Rattle.table_check.proofs.good_length.Statement.{statement}
+use Rattle.table_check.proofs.good_length.Tie as tie
+use Rattle.table_check.proofs.good_length.Reads as reads
+use Rattle.table_check.proofs.good_length.Lts as lts
 
 -- src/lib.rt:136:9
 returns : tie.Need-returns

@@ -1,0 +1,95 @@
+-- The answer bytes grow from the front, zeros after them. Assumes nothing.
+use mathlib.Core.Path.{_≡_, refl, sym, ap, ap₂, _∙_}
+use mathlib.Core.List.{List, [], _∷_, _++_, append-assoc, append-nil, map}
+use Prim.Native.Nat.{ℕ, _+_, _*_, _/_, _%_, _≤_, _<_}
+use native.Mathlib.Nat.{mul-suc, mul-zero}
+use native.Mathlib.Numerals.{add-one}
+use native.Mathlib.Omega.{arith}
+use lib.ListN.{drop, drop-of-length-le, getD, length, length-append, length-take, take}
+use lib.Seq.{take-length, take-suc}
+use Rattle.model.specs.Basics.{be2, fill, flat, zeros}
+use Rattle.model.specs.Model.{Run, total}
+use Rattle.rules.specs.Calls.{answer, givenBack, granted, numbers}
+use Rattle.grant.specs.Grant.{row}
+use Rattle.records.specs.Put.{putAt}
+use Rattle.records.proofs.Filling.{put-fill}
+use Rattle.records.proofs.Putting.{put-then}
+use Rattle.answers.specs.Bytes24.{pieceBytes}
+
+-- all of it is copied
+pub copied : (r o : List ℕ) → length o ≡ length r → take (length r) r ++ drop (length r) o ≡ r
+copied r o e =
+    ap₂ (λ (x y : List ℕ). x ++ y) (take-length r) (drop-of-length-le o {i = length r} (omega arith)) ∙ append-nil r
+
+-- ---- one after the other
+
+module _ {A : Type 0} (f : A → List ℕ) where
+  flat-snoc : (xs : List A) (x : A) → flat f (xs ++ x ∷ []) ≡ flat f xs ++ f x
+  flat-snoc [] x = append-nil (f x)
+  flat-snoc (y ∷ ys) x = ap (λ (l : List ℕ). f y ++ l) (flat-snoc ys x) ∙ sym (append-assoc (f y) (flat f ys) (f x))
+
+  module _ (w : ℕ) (wide : (x : A) → length (f x) ≡ w) where
+    flat-length : (xs : List A) → length (flat f xs) ≡ w * length xs
+    flat-length [] = sym (mul-zero w)
+    flat-length (x ∷ xs) = length-append (f x) (flat f xs) ∙ ap₂ (λ (a b : ℕ). a + b) (wide x) (flat-length xs) ∙ omega (arith, mul-suc w (length xs))
+
+    -- THE NEXT ONE, behind `front` and i of them
+    flat-put : (n : ℕ) (front : List ℕ) (xs : List A) (d : A) (i at : ℕ) → i < length xs → at ≡ length front + w * i → at + w ≤ n
+        → putAt (fill n (front ++ flat f (take i xs))) at (f (getD xs i d)) ≡ fill n (front ++ flat f (take (i + 1) xs))
+    flat-put n front xs d i at u e h =
+        let a = length-take i xs in
+        let m : length (take i xs) ≡ i = omega arith in
+        let l : length (front ++ flat f (take i xs)) ≡ at = length-append front (flat f (take i xs)) ∙ ap (λ (k : ℕ). length front + k) (flat-length (take i xs) ∙ ap (λ (k : ℕ). w * k) m) ∙ sym e in
+        let k = wide (getD xs i d) in
+        ap (λ (o : ℕ). putAt (fill n (front ++ flat f (take i xs))) o (f (getD xs i d))) (sym l)
+        ∙ put-fill n (front ++ flat f (take i xs)) (f (getD xs i d)) (omega arith)
+        ∙ ap (fill n)
+        (append-assoc front (flat f (take i xs)) (f (getD xs i d))
+        ∙ ap (λ (x : List ℕ). front ++ x) (sym (flat-snoc (take i xs) (getD xs i d)) ∙ ap (flat f) (sym (take-suc xs i d u) ∙ ap (λ (k : ℕ). take k xs) (sym (add-one i)))))
+
+-- ---- numbers
+
+-- the first i numbers
+unfoldable pub numbersTo : List ℕ → ℕ → List ℕ
+numbersTo ns i = fill 24 ([] ++ flat be2 (take i ns))
+
+pub numbers-none : (ns : List ℕ) → zeros 24 ≡ numbersTo ns 0
+unfolding numbersTo
+numbers-none ns = refl
+
+pub numbers-next : (ns : List ℕ) (i : ℕ) → i < length ns → length ns ≡ 6 → putAt (numbersTo ns i) (2 * i) (be2 (getD ns i 0)) ≡ numbersTo ns (i + 1)
+unfolding numbersTo
+numbers-next ns i u e = flat-put be2 2 (λ x. refl) 24 [] ns 0 i (2 * i) u (omega arith) (omega arith)
+
+pub numbers-all : (ns : List ℕ) (i : ℕ) → length ns ≡ 6 → 6 ≤ i → numbersTo ns i ≡ answer (numbers ns)
+unfolding numbersTo
+numbers-all ns i e h = ap (λ (x : List ℕ). fill 24 (flat be2 x)) (lib.Seq.take-all i ns (omega arith))
+
+pub back-is : (n : ℕ) → putAt (zeros 24) 0 (be2 n) ≡ answer (givenBack n)
+unfolding putAt
+back-is n = refl
+
+-- ---- pieces
+
+-- t tracks, k pieces, and the first i of these
+unfoldable pub piecesTo : ℕ → ℕ → List (List ℕ) → ℕ → List ℕ
+piecesTo t k ps i = fill 24 ((t / 256 ∷ t % 256 ∷ k ∷ []) ++ flat pieceBytes (take i ps))
+
+pub pieces-none : (t k : ℕ) (ps : List (List ℕ)) → lib.ListN.set (putAt (zeros 24) 0 (be2 t)) 2 k ≡ piecesTo t k ps 0
+unfolding piecesTo putAt
+pieces-none t k ps = refl
+
+pub pieces-next : (t k : ℕ) (ps : List (List ℕ)) (i : ℕ) → i < length ps → length ps ≡ 5 → putAt (piecesTo t k ps i) (3 + 4 * i) (pieceBytes (getD ps i [])) ≡ piecesTo t k ps (i + 1)
+unfolding piecesTo
+pieces-next t k ps i u e = flat-put pieceBytes 4 (λ x. refl) 24 (t / 256 ∷ t % 256 ∷ k ∷ []) ps [] i (3 + 4 * i) u (omega arith) (omega arith)
+
+flat-rows : (ps : List Run) → flat pieceBytes (map row ps) ≡ flat (λ p. be2 (p .start) ++ be2 (p .count)) ps
+flat-rows [] = refl
+flat-rows (p ∷ ps) = ap (λ (x : List ℕ). be2 (p .start) ++ be2 (p .count) ++ x) (flat-rows ps)
+
+pub pieces-all : (t k : ℕ) (gs : List (List ℕ)) (i : ℕ) → i ≤ k → k ≤ i → (ps : List Run) → length ps ≡ k → total ps ≡ t → take k gs ≡ map row ps → piecesTo t k gs i ≡ answer (granted ps)
+unfolding piecesTo
+pieces-all t k gs i u w ps l e h =
+    let q : i ≡ k = omega arith in
+    let r : flat pieceBytes (take i gs) ≡ flat (λ p. be2 (p .start) ++ be2 (p .count)) ps = ap (λ (x : ℕ). flat pieceBytes (take x gs)) q ∙ ap (flat pieceBytes) h ∙ flat-rows ps in
+    rw (r, ← e, ← l)

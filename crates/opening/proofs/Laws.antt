@@ -1,0 +1,79 @@
+-- What holds of a table that is taken. Assumes nothing.
+use mathlib.Core.Path.{_≡_, sym, ap, _∙_, subst}
+use mathlib.Core.Option.{some}
+use mathlib.Core.List.{List}
+use Prim.Native.Nat.{ℕ, _*_, _≤_, _<_}
+use native.Mathlib.Omega.{arith}
+use lib.Dec.{T}
+use lib.ListN.{length}
+use Rattle.model.specs.Model.{Geometry, Label, Volume, slots}
+use Rattle.model.proofs.Lists.{find-All, same→eq, true-is}
+use Rattle.rules.specs.Layout.{encode, format1, format3}
+use Rattle.rules.specs.Reading.{chop, read, readGeometry}
+use Rattle.rules.specs.Slots.{found}
+use Rattle.rules.specs.Table.{named, taken}
+use Rattle.rules.proofs.Keyed.{find-pass}
+use Rattle.rules.proofs.LabelBack.{length-1}
+use Rattle.rules.proofs.Taken.{taken-is}
+use Rattle.rules.proofs.Valid.{GoodLabel, Limits, Valid}
+use Rattle.sound.specs.Sound.{LabelOk, Sound}
+use Rattle.sound.proofs.Meaning.{taken-sound}
+use Rattle.fields.specs.Records.{slotBytes}
+use Rattle.fields.proofs.Slots.{chop-slot, length-chop}
+use Rattle.table_check.proofs.Pieces.{in-table, third-below}
+use Rattle.table_check.proofs.Read.{records-are}
+use Rattle.table_check.proofs.Whole.{geometry-read, taken-long}
+
+-- the table t is taken, as the volume v
+pub record Ready (t : List ℕ) (v : Volume) : Type 0 where
+  pub valid : Valid v
+  pub bytes : t ≡ encode v
+  pub sound : Sound (chop (slots (v .geometry)) t) v
+  pub limits : Limits (v .geometry)
+  pub long : length t ≡ 140 * slots (v .geometry)
+  pub slot0 : readGeometry (slotBytes t 0) ≡ v .geometry
+
+pub ready : (t : List ℕ) → T (taken t) → Ready t (read t)
+ready t x =
+    let p = taken-is t x in
+    let y = taken-sound t x in
+    let least = y .limits .least in
+    let l = taken-long t x in
+    let n : length t ≡ 140 * slots (read t .geometry) = omega arith in
+    record {
+      valid = p .0;
+      bytes = sym (p .1);
+      sound = subst (λ (rs : List (List ℕ)). Sound rs (read t)) (records-are (read t .geometry) t n) y;
+      limits = y .limits;
+      long = n;
+      slot0 = sym (geometry-read t (omega arith));
+    }
+
+-- ---- a data set that is found
+
+-- its label l, in the table t of geometry g
+pub record LabelIn (t : List ℕ) (g : Geometry) (n : List ℕ) (l : Label) : Type 0 where
+  pub good : GoodLabel g l
+  pub name : l .name ≡ n
+  pub inside : l .slot < slots g
+  pub inside3 : l .slot3 < slots g
+  pub one : slotBytes t (l .slot) ≡ format1 g l
+  pub three : 1 ≤ l .slot3 → slotBytes t (l .slot3) ≡ format3 g l
+
+pub found-label : (t : List ℕ) (v : Volume) → Ready t v → (name : List ℕ) (l : Label) → found v name ≡ some l → LabelIn t (v .geometry) name l
+found-label t v h name l e =
+    let g = v .geometry in
+    let rs = chop (slots g) t in
+    let x = find-All (LabelOk g rs) (named name) (v .labels) l (h .sound .labels) e in
+    let many = length-chop (slots g) t in
+    let least = h .limits .least in
+    let a : l .slot < slots g = let w = in-table rs (l .slot) (ap length (sym (x .one)) ∙ length-1 g l (x .good)) in omega arith in
+    let b : l .slot3 < slots g = let w = third-below g rs l (omega arith) x in omega arith in
+    record {
+      good = x .good;
+      name = same→eq (l .name) name (true-is (find-pass (named name) (v .labels) l e));
+      inside = a;
+      inside3 = b;
+      one = sym (x .one ∙ chop-slot (slots g) t (l .slot) a);
+      three = λ p. sym (x .three p ∙ chop-slot (slots g) t (l .slot3) b);
+    }

@@ -1,0 +1,48 @@
+-- The lookup in a taken table finds the slot of the data set that the rules find. Assumes nothing.
+use mathlib.Core.Path.{_≡_, refl, sym, ap, ap₂, _∙_}
+use mathlib.Core.Bool.{Bool, true, false, cond, _&&_}
+use mathlib.Core.List.{List, [], _∷_}
+use Prim.Native.Nat.{ℕ, suc, _+_, _/_, _<_}
+use native.Mathlib.Nat.{add-zero, zero-add}
+use native.Mathlib.Omega.{arith}
+use lib.Dec.{T}
+use lib.ListN.{getD, length}
+use Rattle.names.specs.declared.Found.{Found}
+use Rattle.names.specs.declared.Found.the-variants.{Slot}
+use Rattle.model.specs.Basics.{find, keepIf, same}
+use Rattle.model.specs.Model.{Geometry, Label, slots}
+use Rattle.model.proofs.Lists.{by}
+use Rattle.rules.specs.Reading.{chop, read, readLabel, readLabels, readRecords}
+use Rattle.rules.specs.Slots.{found}
+use Rattle.rules.specs.Table.{named, taken}
+use Rattle.fields.specs.Records.{slotBytes}
+use Rattle.fields.proofs.Slots.{chop-slot, length-chop}
+use Rattle.names.specs.Find.{findSlot, firstNamed, isLabel, isNamed, nameOf}
+use Rattle.opening.specs.Opening.{foundSlot}
+use Rattle.opening.proofs.Laws.{ready}
+
+module _ (g : Geometry) (R : List (List ℕ)) (name : List ℕ) where
+  -- a record that is no label, one that has another name, and one that has this
+  kept : (k : ℕ) (r : List ℕ) (ls : List Label) (a : Bool) → foundSlot (find (named name) (keepIf a (readLabel g R k r) ls)) ≡ cond (a && same (nameOf r) name) (Slot k) (foundSlot (find (named name) ls))
+  unfolding readLabel
+  kept k r ls true = by (same (nameOf r) name) (λ h. rw h) (λ h. rw h)
+  kept k r ls false = refl
+
+  first-read : (t : List ℕ) (more : List (List ℕ)) (k : ℕ) → ((i : ℕ) → i < length more → getD more i [] ≡ slotBytes t (k + i)) → firstNamed t name k (length more) ≡ foundSlot (find (named name) (readLabels g R k more))
+  unfolding firstNamed isNamed
+  first-read t [] k h = refl
+  first-read t (r ∷ more) k h =
+      let e : slotBytes t k ≡ r = sym (h 0 (omega arith) ∙ ap (slotBytes t) (add-zero k)) in
+      let i = first-read t more (suc k) (λ i u. h (suc i) (omega arith) ∙ ap (slotBytes t) (let q : k + suc i ≡ suc k + i = omega arith in q)) in
+      ap₂ (λ (x : List ℕ) (f : Found). cond (isNamed x name) (Slot k) f) e i ∙ sym (kept k r (readLabels g R (suc k) more) (isLabel r))
+
+records-found : (t : List ℕ) (n : ℕ) → n ≡ length t / 140 → (name : List ℕ) → findSlot t name n ≡ foundSlot (found (read t) name)
+unfolding read readRecords findSlot
+records-found t n e name =
+    let R = chop (length t / 140) t in
+    let l = length-chop (length t / 140) t in
+    let q : n ≡ length R = e ∙ sym l in
+    ap (firstNamed t name 0) q ∙ first-read (read t .geometry) R name t R 0 (λ i u. chop-slot (length t / 140) t i (omega arith) ∙ ap (slotBytes t) (sym (zero-add i)))
+
+pub lookup : (t : List ℕ) → T (taken t) → (name : List ℕ) → findSlot t name (slots (read t .geometry)) ≡ foundSlot (found (read t) name)
+lookup t x name = let l = ready t x .long in records-found t (slots (read t .geometry)) (let q : slots (read t .geometry) ≡ length t / 140 = omega arith in q) name

@@ -1,0 +1,56 @@
+// What each call but initialise does first: the lengths, the check of the table, and the geometry of a table that is taken.
+use forms::Geometry;
+ghost use mathlib.Core.Path.{_≡_};
+ghost use mathlib.Core.Bool.{_&&_};
+ghost use lib.Dec.{T, eqb};
+ghost use lib.ListN.{length};
+ghost use Rattle.rules.specs.Reading.{read};
+ghost use Rattle.rules.specs.Table.{taken};
+ghost use Rattle.forms.specs.Forms.{geometryOf};
+ghost use Rattle.opening.specs.Opening.{Opened};
+
+// Whether the answer and a name have the lengths that they must have.
+pub fn answer_and_name(answer: usize, name: usize) -> bool
+    ensures { λ r. ⌜ r ≡ (eqb answer 24 && eqb name 44) ⌝ }
+{
+    if answer != 24 {
+        return false;
+    }
+    name == 44
+}
+
+// The same, and whether one more buffer has the length n.
+pub fn and_another(answer: usize, name: usize, other: usize, n: usize) -> bool
+    ensures { λ r. ⌜ r ≡ (eqb answer 24 && (eqb name 44 && eqb other n)) ⌝ }
+{
+    if answer_and_name(answer, name) {} else {
+        return false;
+    }
+    other == n
+}
+
+// 0 for a taken table, 2 for a wrong length, else 3; `lengths` tells whether the other buffers have theirs. The maps show
+// the free tracks and slots where it is 0, and hold nothing of use where it is not.
+pub fn open(table: &[u8], lengths: bool, map: &mut [u64], empty: &mut [u64]) -> u32
+    requires { ⌜ (length (now map) ≡ 1024) × (length (now empty) ≡ 8) ⌝ }
+    ensures { λ r. ⌜ Opened (now (table .entry)) lengths (now (map .entry)) (now (map .exit)) (now (empty .entry)) (now (empty .exit)) r ⌝ }
+{
+    if table_check::good_length(table) {} else {
+        return 2;
+    }
+    if lengths {} else {
+        return 2;
+    }
+    if table_check::check(table, map, empty) {} else {
+        return 3;
+    }
+    0
+}
+
+// The geometry of a taken table, from its format 4.
+pub fn geometry(table: &[u8]) -> Geometry
+    requires { ⌜ T (taken (now table)) ⌝ }
+    ensures { λ r. ⌜ geometryOf r ≡ read (now (table .entry)) .geometry ⌝ }
+{
+    forms::geometry_of(fields::record_at(table, 0))
+}

@@ -1,0 +1,148 @@
+-- The loops that write slots, turn by turn. Assumes nothing.
+use mathlib.Core.Path.{_≡_, refl, sym, ap, _∙_}
+use mathlib.Core.List.{List, [], _∷_}
+use Prim.Native.Nat.{ℕ, zero, suc, _+_, _-_, _*_, _≤_, _<_}
+use native.Mathlib.Numerals.{add-one}
+use native.Mathlib.Omega.{arith}
+use lib.ListN.{length, take, drop, getD, length-take, drop-of-length-le, List·getD-eq-default}
+use lib.Seq.{drop-cons, getD-take}
+use Rattle.model.specs.Basics.{part, zeros}
+use Rattle.model.specs.Model.{Geometry, Label, Run, tracks}
+use Rattle.model.proofs.Lists.{All}
+use Rattle.rules.specs.Layout.{fields5, fives, format5, headOr0}
+use Rattle.rules.specs.Slots.{withSlots}
+use Rattle.rules.proofs.Fields.{length-whole}
+use Rattle.rules.proofs.TableBack.{lengths5, lens5}
+use Rattle.tracks.specs.Map.{freeFrom}
+use Rattle.fields.specs.Records.{putRecord}
+use Rattle.fields.proofs.Rows.{rest}
+use Rattle.fields.proofs.Slots.{put-length}
+use Rattle.records.specs.Fives.{Fills}
+use Rattle.labels.specs.Labels.{Format1}
+use Rattle.writing.specs.Writing.{chainEntry, cleared, fivesPut, labelPut}
+
+-- ---- zeros
+
+part-next : (c : List ℕ) (i b : ℕ) → i < b → b ≤ length c → part i (b - i) c ≡ getD c i 0 ∷ part (i + 1) (b - (i + 1)) c
+part-next c i b u v =
+    let e : b - i ≡ suc (b - (i + 1)) = omega arith in
+    ap (λ (n : ℕ). take n (drop i c)) e ∙ ap (take (suc (b - (i + 1)))) (drop-cons c i 0 (omega arith)) ∙ ap (λ (j : ℕ). getD c i 0 ∷ take (b - (i + 1)) (drop j c)) (sym (add-one i))
+
+pub record Clearing (t₀ c : List ℕ) (a b : ℕ) (t : List ℕ) (i : ℕ) : Type 0 where
+  pub upTo : i ≤ b
+  pub long : length t ≡ length t₀
+  pub inside : All (λ k. 140 * k + 140 ≤ length t₀) (part i (b - i) c)
+  pub rest : cleared t (part i (b - i) c) ≡ cleared t₀ (part a (b - a) c)
+
+pub clear-begin : (t c : List ℕ) (a b : ℕ) → a ≤ b → All (λ k. 140 * k + 140 ≤ length t) (part a (b - a) c) → Clearing t c a b t a
+clear-begin t c a b u h = record { upTo = u; long = refl; inside = h; rest = refl }
+
+module _ (t₀ c : List ℕ) (a b : ℕ) (t : List ℕ) (i : ℕ) (s : Clearing t₀ c a b t i) (u : i < b) (v : b ≤ length c) where
+  here : All (λ k. 140 * k + 140 ≤ length t₀) (getD c i 0 ∷ part (i + 1) (b - (i + 1)) c)
+  here = rw (part-next c i b u v) at (s .inside)
+
+  pub clear-slot : 140 * getD c i 0 + 140 ≤ length t
+  clear-slot = let h = here .0 in let l = s .long in omega arith
+
+  clear-rest : cleared (putRecord t (getD c i 0) (zeros 140)) (part (i + 1) (b - (i + 1)) c) ≡ cleared t₀ (part a (b - a) c)
+  unfolding cleared
+  clear-rest = sym (ap (cleared t) (part-next c i b u v)) ∙ s .rest
+
+  pub clear-next : Clearing t₀ c a b (putRecord t (getD c i 0) (zeros 140)) (i + 1)
+  clear-next = record { upTo = omega arith; long = put-length t (getD c i 0) (zeros 140) refl clear-slot ∙ s .long; inside = here .1; rest = clear-rest }
+
+pub clear-end : (t₀ c : List ℕ) (a b : ℕ) (t : List ℕ) (i : ℕ) → Clearing t₀ c a b t i → b ≤ i → t ≡ cleared t₀ (part a (b - a) c)
+unfolding cleared
+clear-end t₀ c a b t i s h = ap (λ (n : ℕ). cleared t (take n (drop i c))) (let e : 0 ≡ b - i = omega arith in e) ∙ s .rest
+
+-- ---- a label
+
+pub label-alone : (g : Geometry) (t : List ℕ) (k q : ℕ) (l : Label) (one three : List ℕ) → q ≡ 0 → Format1 g (withSlots k q l) one → putRecord t k one ≡ labelPut g t k q l three
+unfolding labelPut
+label-alone g t k zero l one three e f = ap (putRecord t k) (f .bytes)
+label-alone g t k (suc q) l one three e f = absurd (omega arith)
+
+pub label-both : (g : Geometry) (t : List ℕ) (k q : ℕ) (l : Label) (one three : List ℕ) → (q ≡ 0 → ⊥) → Format1 g (withSlots k q l) one
+    → putRecord (putRecord t k one) q three ≡ labelPut g t k q l three
+unfolding labelPut
+label-both g t k zero l one three n f = absurd (n refl)
+label-both g t k (suc q) l one three n f = ap (λ (r : List ℕ). putRecord (putRecord t k r) (suc q) three) (f .bytes)
+
+-- ---- the chain
+
+pub entry-in : (c : List ℕ) (i n : ℕ) → i < n → n ≤ length c → getD c i 0 ≡ chainEntry (take n c) i
+unfolding chainEntry
+entry-in c i n u v = sym (getD-take n c i 0 u)
+
+pub entry-past : (c : List ℕ) (i n : ℕ) → n ≤ i → 0 ≡ chainEntry (take n c) i
+unfolding chainEntry
+entry-past c i n u = sym (List·getD-eq-default (take n c) 0 {n = i} (let e = length-take n c in omega arith))
+
+pub record Chaining (g : Geometry) (m ks t₀ t : List ℕ) (at i : ℕ) : Type 0 where
+  pub upTo : i ≤ length ks
+  pub atUp : at ≤ tracks g
+  pub long : length t ≡ length t₀
+  pub rest : fivesPut g t (fives (drop i ks) (freeFrom m (tracks g) at)) ≡ fivesPut g t₀ (fives ks (freeFrom m (tracks g) 0))
+
+pub chain-begin : (g : Geometry) (m ks t : List ℕ) → Chaining g m ks t t 0 0
+chain-begin g m ks t = record { upTo = omega arith; atUp = omega arith; long = refl; rest = refl }
+
+entry-is : (ks : List ℕ) (i : ℕ) → getD ks i 0 ≡ chainEntry ks i
+unfolding chainEntry
+entry-is ks i = refl
+
+head-is : (ks : List ℕ) (i : ℕ) → headOr0 (drop i ks) ≡ chainEntry ks i
+unfolding chainEntry
+head-is [] zero = refl
+head-is [] (suc i) = refl
+head-is (k ∷ ks) zero = refl
+head-is (k ∷ ks) (suc i) = head-is ks i ∙ sym (entry-is ks i)
+
+pub entry-below : (n : ℕ) (ks : List ℕ) (i : ℕ) → 1 ≤ n → All (λ k. k < n) ks → chainEntry ks i < n
+unfolding chainEntry
+entry-below n [] i p h = omega arith
+entry-below n (k ∷ ks) zero p h = h .0
+entry-below n (k ∷ ks) (suc i) p h = let r = entry-below n ks i p (h .1) in let e = entry-is ks i in omega arith
+
+five-long : (g : Geometry) (f : List Run) (k : ℕ) → length (format5 g f k) ≡ 140
+unfolding format5
+five-long g f k = length-whole lengths5 (fields5 g f k) (lens5 g f k)
+
+one-more : (g : Geometry) (t : List ℕ) (k : ℕ) (ks : List ℕ) (f : List Run)
+    → fivesPut g (putRecord t k (format5 g (take 26 f) (headOr0 ks))) (fives ks (drop 26 f)) ≡ fivesPut g t (fives (k ∷ ks) f)
+unfolding fivesPut
+one-more g t k ks f = refl
+
+module _ (g : Geometry) (m ks t₀ t : List ℕ) (at i : ℕ) (s : Chaining g m ks t₀ t at i) (u : i < length ks)
+    (made linked : List ℕ) (next : ℕ) (f : Fills g m (tracks g) at made next)
+    (l : (f : List Run) (old : ℕ) → made ≡ format5 g f old → linked ≡ format5 g f (chainEntry ks (i + 1))) where
+  abbrev free : List Run
+  free = freeFrom m (tracks g) at
+
+  is-linked : linked ≡ format5 g (take 26 free) (chainEntry ks (i + 1))
+  is-linked = l (take 26 free) 0 (f .bytes)
+
+  pub chain-next : 140 * chainEntry ks i + 140 ≤ length t → Chaining g m ks t₀ (putRecord t (chainEntry ks i) linked) next (i + 1)
+  chain-next fits =
+      record {
+        upTo = omega arith;
+        atUp = f .upTo;
+        long = put-length t (chainEntry ks i) linked (ap length is-linked ∙ five-long g (take 26 free) (chainEntry ks (i + 1))) fits ∙ s .long;
+        rest = rest-law;
+      }
+    where
+      first : drop i ks ≡ chainEntry ks i ∷ drop (i + 1) ks
+      first = drop-cons ks i 0 u ∙ ap (λ (k : ℕ). k ∷ drop (suc i) ks) (entry-is ks i) ∙ ap (λ (j : ℕ). chainEntry ks i ∷ drop j ks) (sym (add-one i))
+
+      rest-law : fivesPut g (putRecord t (chainEntry ks i) linked) (fives (drop (i + 1) ks) (freeFrom m (tracks g) next)) ≡ fivesPut g t₀ (fives ks (freeFrom m (tracks g) 0))
+      rest-law =
+          ap (λ (r : List ℕ). fivesPut g (putRecord t (chainEntry ks i) r) (fives (drop (i + 1) ks) (freeFrom m (tracks g) next)))
+          (is-linked ∙ ap (format5 g (take 26 free)) (sym (head-is ks (i + 1))))
+          ∙ ap (λ (x : List Run). fivesPut g (putRecord t (chainEntry ks i) (format5 g (take 26 free) (headOr0 (drop (i + 1) ks)))) (fives (drop (i + 1) ks) x)) (f .rest)
+          ∙ one-more g t (chainEntry ks i) (drop (i + 1) ks) free
+          ∙ ap (λ (x : List ℕ). fivesPut g t (fives x free)) (sym first)
+          ∙ s .rest
+
+pub chain-end : (g : Geometry) (m ks t₀ t : List ℕ) (at i : ℕ) → Chaining g m ks t₀ t at i → length ks ≤ i → t ≡ fivesPut g t₀ (fives ks (freeFrom m (tracks g) 0))
+unfolding fivesPut
+chain-end g m ks t₀ t at i s u = ap (λ (x : List ℕ). fivesPut g t (fives x (freeFrom m (tracks g) at))) (sym (drop-of-length-le ks {i = i} u)) ∙ s .rest

@@ -1,0 +1,93 @@
+// Slots of a table written: zeros, a label's records, the chain of format 5s, the format 4.
+use forms::Geometry;
+ghost use mathlib.Core.Path.{_≡_};
+ghost use Prim.Native.Nat.{_+_, _-_, _*_, _≤_, _<_};
+ghost use lib.ListN.{length, take};
+ghost use Rattle.model.specs.Basics.{part};
+ghost use Rattle.model.specs.Model.{Label, slots, tracks};
+ghost use Rattle.model.proofs.Lists.{All};
+ghost use Rattle.rules.specs.Layout.{fives};
+ghost use Rattle.rules.proofs.Valid.{Limits};
+ghost use Rattle.tracks.specs.Map.{freeFrom};
+ghost use Rattle.forms.specs.Forms.{geometryOf};
+ghost use Rattle.labels.specs.Labels.{Format1};
+ghost use Rattle.writing.specs.Writing.{chainEntry, cleared, fivesPut, fourPut, labelPut};
+
+// A slot's number as an index.
+fn wide(k: u16) -> usize
+    ensures { λ r. ⌜ r ≡ k ⌝ }
+{
+    k as usize
+}
+
+// Puts zeros into the slots that stand in the list from place a up to place b.
+pub fn clear(table: &mut [u8], list: &[u16], a: usize, b: usize)
+    requires { ⌜ (a ≤ b) × (b ≤ length (now list)) × All (λ k. 140 * k + 140 ≤ length (now table)) (part a (b - a) (now list)) ⌝ }
+    ensures { λ _. ⌜ now (table .exit) ≡ cleared (now (table .entry)) (part a (b - a) (now (list .entry))) ⌝ }
+{
+    let zeros = [0u8; 140];
+    let mut i = a;
+    while i < b {
+        fields::put_record(table, wide(list[i]), &zeros);
+        i += 1;
+    }
+}
+
+// Puts a label's format 1 into slot k, and its format 3 into slot q, 0 for none, to which the format 1 is linked.
+pub fn put_label(
+    table: &mut [u8],
+    g: Geometry,
+    k: usize,
+    q: usize,
+    one: [u8; 140],
+    three: [u8; 140],
+)
+    requires { ⌜ Limits (geometryOf g) × (length (now table) ≡ 140 * slots (geometryOf g)) × (k < slots (geometryOf g)) × (q < slots (geometryOf g)) ⌝ }
+    ensures { λ _. ⌜ ((l : Label) → Format1 (geometryOf g) l one → now (table .exit) ≡ labelPut (geometryOf g) (now (table .entry)) k q l three) ⌝ }
+{
+    let linked = labels::set_link3(one, g, q);
+    fields::put_record(table, k, &linked);
+    if q != 0 {
+        fields::put_record(table, q, &three);
+    }
+}
+
+// Slot number i of a chain of n members, 0 behind its end.
+fn member(chain: &[u16], i: usize, n: usize) -> usize
+    requires { ⌜ n ≤ length (now chain) ⌝ }
+    ensures { λ r. ⌜ r ≡ chainEntry (take n (now (chain .entry))) i ⌝ }
+{
+    if i < n {
+        return wide(chain[i]);
+    }
+    0
+}
+
+// Puts the format 5s: the free extents that the map shows, into the first n slots of the chain.
+pub fn put_chain(table: &mut [u8], g: Geometry, map: &[u64], chain: &[u16], n: usize)
+    requires { ⌜ Limits (geometryOf g) × (length (now table) ≡ 140 * slots (geometryOf g)) × (tracks (geometryOf g) ≤ 64 * length (now map)) ⌝ }
+    requires { ⌜ (n ≤ length (now chain)) × All (λ k. k < slots (geometryOf g)) (take n (now chain)) ⌝ }
+    ensures { λ _. ⌜ now (table .exit) ≡ fivesPut (geometryOf g) (now (table .entry)) (fives (take n (now (chain .entry))) (freeFrom (now (map .entry)) (tracks (geometryOf g)) 0)) ⌝ }
+{
+    let t = (g.cylinders * g.heads) as usize;
+    let mut at: usize = 0;
+    let mut i: usize = 0;
+    while i < n {
+        let filled = records::five(map, t, at, g);
+        let made = filled.rec;
+        let linked = records::with_next(made, g, member(chain, i + 1, n));
+        fields::put_record(table, member(chain, i, n), &linked);
+        at = filled.next;
+        i += 1;
+    }
+}
+
+// Puts the format 4, which tells of the highest slot with a format 1 and of the number of format 0s.
+pub fn put_four(table: &mut [u8], g: Geometry, empty: usize)
+    requires { ⌜ Limits (geometryOf g) × (length (now table) ≡ 140 * slots (geometryOf g)) × (empty < 65536) ⌝ }
+    ensures { λ _. ⌜ now (table .exit) ≡ fourPut (geometryOf g) (now (table .entry)) empty ⌝ }
+{
+    let highest = spare::highest(table, (g.tracks * g.records) as usize);
+    let four = records::four(g, highest, empty);
+    fields::put_record(table, 0, &four);
+}
