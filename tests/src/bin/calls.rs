@@ -191,6 +191,7 @@ impl<'a, M: Manager> Beside<'a, M> {
             (many_names(), "many names"),
             (many_extents(), "many extents"),
             (grids::sixteen(), "sixteen extents"),
+            (grids::tight(), "tight"),
         ] {
             for shape in [Shape::Cylinders, Shape::Worn] {
                 self.life(Session::on(rng.word(), &table, shape), 300, place)?;

@@ -136,7 +136,7 @@ pub fn amounts() -> Vec<Row> {
 /// Release at every track of every set of a few volumes, and past it.
 pub fn ttrs() -> Vec<Row> {
     let mut rows = vec![];
-    for table in [base(), scattered(100, 4, 20, 1, 2, 26), sixteen()] {
+    for table in [base(), scattered(100, 4, 20, 1, 2, 26), sixteen(), tight()] {
         for set in glance(&table).expect("sound").sets {
             let tts = (0..=set.tracks() + 2).chain([65_534, 65_535]);
             let ttrs = tts.flat_map(|tt| [0, 1, 2, 255].map(|r| tt << 8 | r));
@@ -178,6 +178,17 @@ pub fn sixteen() -> Vec<u8> {
         let k = open(&table);
         place(&mut table, &format!("FILL.N{k}"), 0, 0, 1, 0);
     }
+    table
+}
+
+/// A full VTOC and 26 free extents: one more needs a format 5 for which there is no slot. Four sets
+/// of three tracks stand side by side at the end of the volume.
+pub fn tight() -> Vec<u8> {
+    let mut table = scattered(100, 2, 31, 1, 1, 25);
+    for i in 0..4 {
+        place(&mut table, &format!("BIG.N{i}"), 2, 188 + 3 * i, 3, 0);
+    }
+    assert_eq!((open(&table), glance(&table).expect("sound").holes.len()), (0, 26));
     table
 }
 
