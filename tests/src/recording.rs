@@ -61,7 +61,12 @@ impl Recording {
             let digits = &line[6..54];
             let byte = |i: usize| u8::from_str_radix(&digits[2 * i..2 * i + 2], 16).expect("hex");
             let answer: Vec<u8> = (0..24).map(byte).collect();
-            self.coverage.count_effect(call, &before, &self.table().to_vec(), &answer);
+            self.coverage.count_effect(
+                call,
+                &before,
+                &self.player.table[..self.table_len],
+                &answer,
+            );
         }
     }
 

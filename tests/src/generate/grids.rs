@@ -4,7 +4,8 @@
 use super::glance::glance;
 use crate::call::{Buffers, Call};
 use crate::desk::{attributes, attributes_of};
-use crate::volumes::{fresh, name, place, scattered, small};
+use crate::reference::{extend, release, scratch};
+use crate::volumes::{fresh, name, open_slots, place, scattered, small};
 
 /// A call and the buffers to make it with.
 pub type Row = (Call, Buffers);
@@ -149,10 +150,8 @@ pub fn ttrs() -> Vec<Row> {
     rows
 }
 
-/// A volume on which sets with 2 to 16 extents of one to three tracks lie between others, the
-/// VTOC is full, and a set with a hole on each side of it can go.
+/// Sets of 16, 9 and 4 extents between others, more than 26 free extents, and a full VTOC.
 pub fn sixteen() -> Vec<u8> {
-    use crate::reference::{extend, release, scratch};
     let mut table = fresh(90, 4, 42, 1, 1);
     let mut answer = [0; 24];
     // Three sets grow side by side to 16, 9 and 4 extents; no two extents of one touch.
@@ -174,8 +173,8 @@ pub fn sixteen() -> Vec<u8> {
     place(&mut table, "REST", 2, 211, 149, 0);
     assert_eq!(release(&mut table, &name("REST"), 0x1001, &mut answer), 0);
     assert_eq!(scratch(&mut table, &name("WALL"), &mut answer), 0);
-    while open(&table) > 0 {
-        let k = open(&table);
+    while open_slots(&table) > 0 {
+        let k = open_slots(&table);
         place(&mut table, &format!("FILL.N{k}"), 0, 0, 1, 0);
     }
     table
@@ -188,12 +187,8 @@ pub fn tight() -> Vec<u8> {
     for i in 0..4 {
         place(&mut table, &format!("BIG.N{i}"), 2, 188 + 3 * i, 3, 0);
     }
-    assert_eq!((open(&table), glance(&table).expect("sound").holes.len()), (0, 26));
+    assert_eq!((open_slots(&table), glance(&table).expect("sound").holes.len()), (0, 26));
     table
-}
-
-fn open(table: &[u8]) -> usize {
-    crate::volumes::open_slots(table)
 }
 
 /// Initialise with every combination of numbers at the limits; the table has the length that
