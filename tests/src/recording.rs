@@ -50,7 +50,7 @@ impl Recording {
 
     /// Records a call and counts it.
     fn call(&mut self, call: &Call, record: &Record, origin: Origin) {
-        let before = self.table().to_vec();
+        let mut before = self.table().to_vec();
         let line = String::from_utf8(self.enter(record)).expect("ASCII");
         let result = line[3..5].parse().expect("a number");
         match origin {
@@ -61,6 +61,10 @@ impl Recording {
             let digits = &line[6..54];
             let byte = |i: usize| u8::from_str_radix(&digits[2 * i..2 * i + 2], 16).expect("hex");
             let answer: Vec<u8> = (0..24).map(byte).collect();
+            if let Call::Initialise { .. } = call {
+                // What was there before need not be a table.
+                before = self.table().to_vec();
+            }
             self.coverage.count_effect(
                 call,
                 &before,
