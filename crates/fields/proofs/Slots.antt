@@ -9,7 +9,6 @@ use lib.ListN.{length, take, drop, getD, set, length-append, length-take, length
 use lib.Seq.{drop-drop, take-at, take-all, take-length, take-append-le, drop-append-le, drop-append-add, getD-set-same, getD-set-other, ext-getD}
 use borrow.Rule.Slice.PartMut.{putMid, midOf}
 use Rattle.model.specs.Basics.{part}
-use Rattle.rules.specs.Layout.{whole}
 use Rattle.rules.specs.Reading.{chop, recordAt}
 use Rattle.fields.specs.Records.{putRecord, slotBytes}
 
@@ -98,10 +97,3 @@ chop-put n t k r len all h =
       | yes e ↦ ap (slotBytes (putRecord t k r)) e ∙ put-same t k r len (omega arith) ∙ sym (ap (λ (x : ℕ). getD (set (chop n t) k r) x []) e ∙ getD-set-same (chop n t) k r [] (omega arith))
       | no e ↦ put-other t k r len (omega arith) j e ∙ sym (chop-slot n t j (omega arith)) ∙ sym (getD-set-other (chop n t) k j r [] e)
     ])
-
--- the records make up the table
-pub whole-chop : (n : ℕ) (t : List ℕ) → length t ≡ 140 * n → whole (chop n t) ≡ t
-whole-chop zero [] e = refl
-whole-chop zero (x ∷ t) e = absurd (omega arith)
-whole-chop (suc n) t e =
-    ap (λ (x : List ℕ). take 140 t ++ x) (whole-chop n (drop 140 t) (length-drop 140 t ∙ omega arith)) ∙ take-append-drop 140 t

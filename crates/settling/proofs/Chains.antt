@@ -10,11 +10,9 @@ use Rattle.model.specs.Basics.{part}
 use Rattle.model.specs.Model.{Geometry, Run, Volume, free, slots, tally, times, used}
 use Rattle.model.proofs.Lists.{All, All-left}
 use Rattle.model.proofs.Runs.{times-total}
-use Rattle.rules.specs.Layout.{fields5, fives, format5, headOr0, link}
+use Rattle.rules.specs.Layout.{fives, format5, headOr0, link}
 use Rattle.rules.specs.Reading.{chop}
-use Rattle.rules.proofs.Fields.{field-at}
 use Rattle.rules.proofs.Settle.{used-tally}
-use Rattle.rules.proofs.TableBack.{lengths5, lens5}
 use Rattle.rules.proofs.Test.{→in}
 use Rattle.rules.proofs.Valid.{Limits}
 use Rattle.rules.proofs.FreeBack.{five-link}

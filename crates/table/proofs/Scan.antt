@@ -54,11 +54,7 @@ look-label g t m m′ s s′ k r e x = rw e (record {
 
 -- ---- slots as runs of one
 
-pub unit-sum : (k : ℕ) (ks : List ℕ) → times k (units ks) ≡ sumOf (λ j. bit (covers (run j 1) k)) ks
-unit-sum k [] = refl
-unit-sum k (j ∷ ks) = let i = unit-sum k ks in omega arith
-
-pub unit-hit : (j k : ℕ) → bit (covers (run j 1) k) ≡ bit (eqb j k)
+unit-hit : (j k : ℕ) → bit (covers (run j 1) k) ≡ bit (eqb j k)
 unit-hit j k =
     by (eqb j k)
     (λ e. let q : j ≡ k = eqb-true _ _ e in hit-in (run j 1) k (omega arith) (omega arith) ∙ sym (ap bit e))
@@ -91,13 +87,13 @@ module _ (g : Geometry) (t m m′ m″ s s′ s″ : List ℕ) (ls ks : List Lab
   slots-same : (us : List Run) (k : ℕ) → times k (units (flat slotsOf ks) ++ (units (flat slotsOf ls) ++ us)) ≡ times k (units (flat slotsOf (ls ++ ks)) ++ us)
   slots-same us k =
       let F : Run → ℕ = λ q. bit (covers q k) in
-      let G : ℕ → ℕ = λ j. bit (covers (run j 1) k) in
+      let G : ℕ → ℕ = λ j. bit (eqb j k) in
       let a = sum-append F (units (flat slotsOf ks)) (units (flat slotsOf ls) ++ us) in
       let b = sum-append F (units (flat slotsOf ls)) us in
       let c = sum-append F (units (flat slotsOf (ls ++ ks))) us in
-      let p = unit-sum k (flat slotsOf ks) in
-      let q = unit-sum k (flat slotsOf ls) in
-      let w = unit-sum k (flat slotsOf (ls ++ ks)) in
+      let p = unit-tally k (flat slotsOf ks) in
+      let q = unit-tally k (flat slotsOf ls) in
+      let w = unit-tally k (flat slotsOf (ls ++ ks)) in
       let d = sum-flat G slotsOf (ls ++ ks) in
       let e = sum-append (λ l. sumOf G (slotsOf l)) ls ks in
       let f = sum-flat G slotsOf ls in
@@ -164,12 +160,12 @@ gone-wrong g t m m′ s s′ ls ks x =
           omega arith)
           (λ k v.
           let F : Run → ℕ = λ q. bit (covers q k) in
-          let G : ℕ → ℕ = λ j. bit (covers (run j 1) k) in
+          let G : ℕ → ℕ = λ j. bit (eqb j k) in
           let p = w k v in
           let c = sum-append F (units (flat slotsOf (ls ++ ks))) us in
           let b = sum-append F (units (flat slotsOf ls)) us in
-          let y = unit-sum k (flat slotsOf ls) in
-          let z = unit-sum k (flat slotsOf (ls ++ ks)) in
+          let y = unit-tally k (flat slotsOf ls) in
+          let z = unit-tally k (flat slotsOf (ls ++ ks)) in
           let d = sum-flat G slotsOf (ls ++ ks) in
           let i = sum-append (λ l. sumOf G (slotsOf l)) ls ks in
           let f = sum-flat G slotsOf ls in

@@ -1,4 +1,4 @@
-// Whether a table is taken.
+// The labels of a table, slot by slot: tested, and taken out of the maps of free tracks and slots.
 use forms::Geometry;
 ghost use mathlib.Core.Path.{_≡_};
 ghost use mathlib.Core.Bool.{false};
