@@ -95,15 +95,23 @@ pub fn allocate(
         let slot = volume.take_slot();
         volume.sets.insert(slot);
         write_format_1(&mut records[slot], name, attributes, amount.unit(), secondary);
-        let mut set = DataSet::fresh(slot);
-        if needs_format_3 {
-            let slot = volume.take_slot();
-            set.attach_format_3(&volume, records, slot);
-        }
-        set.append(&volume, records, amount.extent_type(), grant.pieces());
-        volume.close(records);
-        Ok(granted(&grant))
+        let set = DataSet::fresh(slot);
+        Ok(append(&mut volume, records, set, needs_format_3, amount, &grant))
     })
+}
+
+/// Appends the pieces to a set, which gets a format 3 first where it needs one, and closes the volume.
+fn append(
+    volume: &mut Volume, records: &mut [Record], mut set: DataSet, needs_format_3: bool,
+    amount: Amount, grant: &Grant,
+) -> Answer {
+    if needs_format_3 {
+        let slot = volume.take_slot();
+        set.attach_format_3(volume, records, slot);
+    }
+    set.append(volume, records, amount.extent_type(), grant.pieces());
+    volume.close(records);
+    granted(grant)
 }
 
 /// A format 1 without extents, its TTR zero.
@@ -141,7 +149,7 @@ fn extend_set(records: &mut [Record], name: &Name) -> Result<Answer, Refusal> {
         _ => Amount::Tracks(secondary),
     };
     let grant = amount.choose(&volume)?;
-    let mut set = DataSet::read(&volume, records, slot);
+    let set = DataSet::read(&volume, records, slot);
     let extents = set.extents().len() + grant.pieces().len();
     if extents > MAX_EXTENTS {
         return Err(Refusal::Extents);
@@ -151,11 +159,5 @@ fn extend_set(records: &mut [Record], name: &Name) -> Result<Answer, Refusal> {
     volume.slots_suffice(0, usize::from(needs_format_3))?;
 
     volume.trim_chain(records);
-    if needs_format_3 {
-        let slot = volume.take_slot();
-        set.attach_format_3(&volume, records, slot);
-    }
-    set.append(&volume, records, amount.extent_type(), grant.pieces());
-    volume.close(records);
-    Ok(granted(&grant))
+    Ok(append(&mut volume, records, set, needs_format_3, amount, &grant))
 }
