@@ -49,6 +49,17 @@ pub const FEATURES: [&str; 36] = [
 /// Kinds of volume that a run must see.
 pub const VOLUMES: [&str; 4] = ["H = 1", "D = 1", "VTOC not at track 1", "sixteen extents"];
 
+/// What a long run on volumes of all sizes must see besides.
+pub const WIDE: [&str; 7] = [
+    "scratch on a full VTOC",
+    "more than 26 free extents",
+    "more than 52 free extents",
+    "more than 1,000 free extents",
+    "more than 60,000 tracks",
+    "468 records",
+    "400 data sets",
+];
+
 #[derive(Clone, Debug, Default)]
 pub struct Coverage {
     pub results: BTreeMap<(usize, u32), usize>,
@@ -75,6 +86,9 @@ impl Coverage {
     pub fn count_effect(&mut self, call: &Call, before: &[u8], after: &[u8], answer: &[u8]) {
         let (Some(old), Some(new)) = (glance(before), glance(after)) else { return };
         self.volume(&new);
+        if matches!(call, Call::Scratch { .. }) && old.open.is_empty() {
+            self.saw(WIDE[0]);
+        }
         let pieces = usize::from(answer[2]);
         match call {
             Call::Allocate { kind, .. } => {
@@ -108,7 +122,11 @@ impl Coverage {
         let long = glance.sets.iter().any(|set| set.extents.len() == 16);
         let g = glance.geometry;
         let facts = [g.heads == 1, g.per_track == 1, g.vtoc_start > 1, long];
-        for (fact, feature) in facts.into_iter().zip(VOLUMES) {
+        let (holes, sets) = (glance.holes.len(), glance.sets.len());
+        let many = [holes > 26, holes > 52, holes > 1000];
+        let large = [g.tracks() > 60_000, g.slots() == 468, sets >= 400];
+        let wide = many.into_iter().chain(large).zip(WIDE[1..].iter().copied());
+        for (fact, feature) in facts.into_iter().zip(VOLUMES).chain(wide) {
             if fact {
                 self.saw(feature);
             }
@@ -166,24 +184,44 @@ impl Coverage {
     }
 }
 
+impl Coverage {
+    /// What is missing of `WIDE`.
+    pub fn missing_wide(&self) -> Vec<String> {
+        let missing = WIDE.iter().filter(|&f| !self.features.contains_key(f));
+        missing.map(|f| f.to_string()).collect()
+    }
+}
+
 impl fmt::Display for Coverage {
     fn fmt(&self, f: &mut fmt::Formatter) -> fmt::Result {
-        write!(f, "{:<12}", "result")?;
-        (0..=12).try_for_each(|result| write!(f, "{result:>6}"))?;
+        write!(f, "{:<12}{:>8}", "result", "all")?;
+        (0..=12).try_for_each(|result| write!(f, "{result:>7}"))?;
         writeln!(f)?;
+        let sum = |wanted: &dyn Fn(usize, u32) -> bool| -> usize {
+            let seen = self.results.iter();
+            seen.filter(|(&(call, result), _)| wanted(call, result)).map(|(_, count)| count).sum()
+        };
         for (call, name) in CALL_NAMES.iter().enumerate() {
-            write!(f, "{name:<12}")?;
+            write!(f, "{name:<12}{:>8}", sum(&|of, _| of == call))?;
             for result in 0..=12 {
                 match self.results.get(&(call, result)) {
-                    Some(count) => write!(f, "{count:>6}")?,
-                    None if RESULTS[call].contains(&result) => write!(f, "{:>6}", "NONE")?,
-                    None => write!(f, "{:>6}", "-")?,
+                    Some(count) => write!(f, "{count:>7}")?,
+                    None if RESULTS[call].contains(&result) => write!(f, "{:>7}", "NONE")?,
+                    None => write!(f, "{:>7}", "-")?,
                 }
             }
             writeln!(f)?;
         }
+        write!(f, "{:<12}{:>8}", "all", sum(&|_, _| true))?;
+        (0..=12).try_for_each(|result| write!(f, "{:>7}", sum(&|_, of| of == result)))?;
+        writeln!(f)?;
         for feature in FEATURES.iter().chain(&VOLUMES) {
             writeln!(f, "{:>8}  {feature}", self.features.get(feature).unwrap_or(&0))?;
+        }
+        for feature in WIDE {
+            if let Some(count) = self.features.get(feature) {
+                writeln!(f, "{count:>8}  {feature}")?;
+            }
         }
         Ok(())
     }

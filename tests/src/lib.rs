@@ -2,14 +2,22 @@
 //! needed to test the one against the other. See README.md.
 
 pub mod audit;
+pub mod beside;
 pub mod call;
 pub mod cases;
 pub mod coverage;
 pub mod desk;
+#[cfg(feature = "stand-in")]
+pub mod exported;
+pub mod faulty;
 pub mod generate;
 pub mod ledger;
+#[cfg(feature = "library")]
+pub mod library;
 #[cfg(feature = "proved")]
 pub mod proved;
+pub mod recording;
 pub mod reference;
+pub mod replay;
 pub mod timing;
 pub mod volumes;

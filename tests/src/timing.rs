@@ -21,6 +21,32 @@ pub fn time_both(mut one: impl FnMut(), mut other: impl FnMut()) -> [f64; 2] {
     best
 }
 
+/// The same for two works that change a table: each run gets a copy of its own, made outside the
+/// timed part. `batches` of them.
+pub fn time_both_on_copies(
+    table: &[u8], batches: usize, mut one: impl FnMut(&mut [u8]), mut other: impl FnMut(&mut [u8]),
+) -> [f64; 2] {
+    // So many that a batch is long enough to time, so few that the copies stay in the cache.
+    let count = (COPIED / table.len()).clamp(1, 200);
+    let mut copies = vec![table.to_vec(); count];
+    let mut best = [f64::MAX; 2];
+    for _ in 0..batches {
+        best[0] = best[0].min(batch_on_copies(table, &mut copies, &mut one));
+        best[1] = best[1].min(batch_on_copies(table, &mut copies, &mut other));
+    }
+    best
+}
+
+/// Bytes of all copies together.
+const COPIED: usize = 262_144;
+
+fn batch_on_copies(table: &[u8], copies: &mut [Vec<u8>], work: &mut impl FnMut(&mut [u8])) -> f64 {
+    copies.iter_mut().for_each(|copy| copy.copy_from_slice(table));
+    let start = Instant::now();
+    copies.iter_mut().for_each(|copy| work(copy));
+    start.elapsed().as_secs_f64() * 1e6 / copies.len() as f64
+}
+
 fn runs_in_batch(work: &mut impl FnMut()) -> u32 {
     let once = batch(work, 1) * 1e-6;
     ((0.003 / once.max(1e-8)) as u32).clamp(1, 100_000)

@@ -14,6 +14,7 @@ use Rattle.rules.specs.Reading.{chop, follow, recordAt, slotAt}
 use Rattle.rules.proofs.Fields.{field-at}
 use Rattle.rules.proofs.TableBack.{lens5, lengths5}
 use Rattle.rules.proofs.Valid.{Limits}
+use Rattle.rules.proofs.FreeBack.{five-link}
 use Rattle.sound.specs.Sound.{FiveOk}
 use Rattle.tracks.specs.Map.{Shows, Taken, freeFrom}
 use Rattle.tracks.proofs.Held.{shows-same}
@@ -202,10 +203,6 @@ fewer g t m f k s s′ r h o e =
     omega arith
 
 -- ---- the tests make a member
-
-five-link : (g : Geometry) (f : List Run) (k : ℕ) → part 135 5 (format5 g f k) ≡ link g k
-unfolding format5
-five-link g f k = field-at 4 lengths5 (fields5 g f k) (lens5 g f k) (omega arith)
 
 same-true : (a b : List ℕ) → same a b ≡ true → a ≡ b
 same-true a b e = same→eq a b (true-is e)

@@ -30,7 +30,7 @@ granted-pieces b u n f = go (choose n (candidates u f))
     go none = refl
     go (some ps) = ap (λ (x : List Extent). some x) (each ps)
 
-overs-extents : (b : ℕ) (ps : List Run) → overs (map (extent b) ps) ≡ ps
+pub overs-extents : (b : ℕ) (ps : List Run) → overs (map (extent b) ps) ≡ ps
 overs-extents b [] = refl
 overs-extents b (p ∷ ps) = ap (λ (x : List Run). p ∷ x) (overs-extents b ps)
 

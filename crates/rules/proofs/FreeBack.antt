@@ -113,7 +113,7 @@ link-zero g k =
     ends true false c d = refl
     ends false b c d = refl
 
-five-link : (g : Geometry) (f : List Run) (k : ℕ) → part 135 5 (format5 g f k) ≡ link g k
+pub five-link : (g : Geometry) (f : List Run) (k : ℕ) → part 135 5 (format5 g f k) ≡ link g k
 unfolding format5
 five-link g f k = field-at 4 lengths5 (fields5 g f k) (lens5 g f k) (omega arith)
 

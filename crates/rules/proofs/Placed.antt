@@ -23,16 +23,16 @@ use Rattle.rules.proofs.Valid.{GoodExtent, GoodLabel, Valid, held-times
 
 -- ---- the slots that a label asked for
 
-abbrev slot′ : ℕ → List ℕ → ℕ
+abbrev pub slot′ : ℕ → List ℕ → ℕ
 slot′ s es = slotOr s (getD es 0 0)
 
-abbrev third′ : Bool → ℕ → ℕ → List ℕ → ℕ
+abbrev pub third′ : Bool → ℕ → ℕ → List ℕ → ℕ
 third′ b s th es = cond b 0 (slotOr th (getD es (asks s) 0))
 
-record Fits (b : Bool) (s th : ℕ) (es : List ℕ) : Type 0 where
-  slots : (k : ℕ) → tally k (oneSlot (slot′ s es) ++ oneSlot (third′ b s th es)) ≡ tally k (oneSlot s ++ oneSlot th) + tally k es
-  first : 1 ≤ slot′ s es
-  many : b ≡ false → 1 ≤ third′ b s th es
+pub record Fits (b : Bool) (s th : ℕ) (es : List ℕ) : Type 0 where
+  pub slots : (k : ℕ) → tally k (oneSlot (slot′ s es) ++ oneSlot (third′ b s th es)) ≡ tally k (oneSlot s ++ oneSlot th) + tally k es
+  pub first : 1 ≤ slot′ s es
+  pub many : b ≡ false → 1 ≤ third′ b s th es
 
 fits-few-new : (es : List ℕ) → length es ≡ 1 → All (λ e. 1 ≤ e) es → Fits true 0 0 es
 fits-few-new [] e a = absurd (omega arith)
@@ -68,7 +68,7 @@ fits-none : (s th : ℕ) (es : List ℕ) → length es ≡ 0 → Fits false (suc
 fits-none s th [] e = record { slots = λ k. omega arith; first = omega arith; many = λ q. omega arith }
 fits-none s th (x ∷ es) e = absurd (omega arith)
 
-fits : (b : Bool) (s th : ℕ) (es : List ℕ) → (b ≡ true → th ≡ 0) → length es ≡ asks s + cond b 0 (asks th) → All (λ e. 1 ≤ e) es → Fits b s th es
+pub fits : (b : Bool) (s th : ℕ) (es : List ℕ) → (b ≡ true → th ≡ 0) → length es ≡ asks s + cond b 0 (asks th) → All (λ e. 1 ≤ e) es → Fits b s th es
 fits true zero zero es h e a = fits-few-new es e a
 fits true (suc s) zero es h e a = fits-few-old s es e
 fits true zero (suc th) es h e a = absurd (omega (arith, h refl))

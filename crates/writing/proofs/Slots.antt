@@ -5,9 +5,9 @@ use Prim.Native.Nat.{ℕ, zero, suc, _+_, _-_, _*_, _≤_, _<_}
 use native.Mathlib.Numerals.{add-one}
 use native.Mathlib.Omega.{arith}
 use lib.ListN.{length, take, drop, getD, length-take, drop-of-length-le, List·getD-eq-default}
-use lib.Seq.{drop-cons, getD-take}
-use Rattle.model.specs.Basics.{part, zeros}
-use Rattle.model.specs.Model.{Geometry, Label, Run, tracks}
+use lib.Seq.{drop-cons, getD-take, slice, slice-cons}
+use Rattle.model.specs.Basics.{zeros}
+use Rattle.model.specs.Model.{Geometry, Label, Run, oneSlot, tracks}
 use Rattle.model.proofs.Lists.{All}
 use Rattle.rules.specs.Layout.{fields5, fives, format5, headOr0}
 use Rattle.rules.specs.Slots.{withSlots}
@@ -23,37 +23,44 @@ use Rattle.writing.specs.Writing.{chainEntry, cleared, fivesPut, labelPu
 
 -- ---- zeros
 
-part-next : (c : List ℕ) (i b : ℕ) → i < b → b ≤ length c → part i (b - i) c ≡ getD c i 0 ∷ part (i + 1) (b - (i + 1)) c
-part-next c i b u v =
-    let e : b - i ≡ suc (b - (i + 1)) = omega arith in
-    ap (λ (n : ℕ). take n (drop i c)) e ∙ ap (take (suc (b - (i + 1)))) (drop-cons c i 0 (omega arith)) ∙ ap (λ (j : ℕ). getD c i 0 ∷ take (b - (i + 1)) (drop j c)) (sym (add-one i))
+slice-next : (c : List ℕ) (i b : ℕ) → i < b → b ≤ length c → slice i b c ≡ getD c i 0 ∷ slice (i + 1) b c
+slice-next c i b u v = slice-cons i b c 0 u v ∙ ap (λ (j : ℕ). getD c i 0 ∷ slice j b c) (sym (add-one i))
 
 pub record Clearing (t₀ c : List ℕ) (a b : ℕ) (t : List ℕ) (i : ℕ) : Type 0 where
-  pub upTo : i ≤ b
   pub long : length t ≡ length t₀
-  pub inside : All (λ k. 140 * k + 140 ≤ length t₀) (part i (b - i) c)
-  pub rest : cleared t (part i (b - i) c) ≡ cleared t₀ (part a (b - a) c)
+  pub inside : All (λ k. 140 * k + 140 ≤ length t₀) (slice i b c)
+  pub rest : cleared t (slice i b c) ≡ cleared t₀ (slice a b c)
 
-pub clear-begin : (t c : List ℕ) (a b : ℕ) → a ≤ b → All (λ k. 140 * k + 140 ≤ length t) (part a (b - a) c) → Clearing t c a b t a
-clear-begin t c a b u h = record { upTo = u; long = refl; inside = h; rest = refl }
+pub clear-begin : (t c : List ℕ) (a b : ℕ) → All (λ k. 140 * k + 140 ≤ length t) (slice a b c) → Clearing t c a b t a
+clear-begin t c a b h = record { long = refl; inside = h; rest = refl }
 
 module _ (t₀ c : List ℕ) (a b : ℕ) (t : List ℕ) (i : ℕ) (s : Clearing t₀ c a b t i) (u : i < b) (v : b ≤ length c) where
-  here : All (λ k. 140 * k + 140 ≤ length t₀) (getD c i 0 ∷ part (i + 1) (b - (i + 1)) c)
-  here = rw (part-next c i b u v) at (s .inside)
+  here : All (λ k. 140 * k + 140 ≤ length t₀) (getD c i 0 ∷ slice (i + 1) b c)
+  here = rw (slice-next c i b u v) at (s .inside)
 
   pub clear-slot : 140 * getD c i 0 + 140 ≤ length t
   clear-slot = let h = here .0 in let l = s .long in omega arith
 
-  clear-rest : cleared (putRecord t (getD c i 0) (zeros 140)) (part (i + 1) (b - (i + 1)) c) ≡ cleared t₀ (part a (b - a) c)
+  clear-rest : cleared (putRecord t (getD c i 0) (zeros 140)) (slice (i + 1) b c) ≡ cleared t₀ (slice a b c)
   unfolding cleared
-  clear-rest = sym (ap (cleared t) (part-next c i b u v)) ∙ s .rest
+  clear-rest = sym (ap (cleared t) (slice-next c i b u v)) ∙ s .rest
 
   pub clear-next : Clearing t₀ c a b (putRecord t (getD c i 0) (zeros 140)) (i + 1)
-  clear-next = record { upTo = omega arith; long = put-length t (getD c i 0) (zeros 140) refl clear-slot ∙ s .long; inside = here .1; rest = clear-rest }
+  clear-next = record { long = put-length t (getD c i 0) (zeros 140) refl clear-slot ∙ s .long; inside = here .1; rest = clear-rest }
 
-pub clear-end : (t₀ c : List ℕ) (a b : ℕ) (t : List ℕ) (i : ℕ) → Clearing t₀ c a b t i → b ≤ i → t ≡ cleared t₀ (part a (b - a) c)
+pub clear-end : (t₀ c : List ℕ) (a b : ℕ) (t : List ℕ) (i : ℕ) → Clearing t₀ c a b t i → b ≤ i → t ≡ cleared t₀ (slice a b c)
 unfolding cleared
-clear-end t₀ c a b t i s h = ap (λ (n : ℕ). cleared t (take n (drop i c))) (let e : 0 ≡ b - i = omega arith in e) ∙ s .rest
+clear-end t₀ c a b t i s h = ap (cleared t) (sym (drop-of-length-le (take b c) {i = i} (let e = length-take b c in omega arith))) ∙ s .rest
+
+pub clear-none : (t : List ℕ) (k : ℕ) → k ≡ 0 → t ≡ cleared t (oneSlot k)
+unfolding cleared
+clear-none t zero e = refl
+clear-none t (suc k) e = absurd (omega arith)
+
+pub clear-one : (t : List ℕ) (k : ℕ) → (k ≡ 0 → ⊥) → putRecord t k (zeros 140) ≡ cleared t (oneSlot k)
+unfolding cleared
+clear-one t zero e = absurd (e refl)
+clear-one t (suc k) e = refl
 
 -- ---- a label
 

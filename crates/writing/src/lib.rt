@@ -1,10 +1,10 @@
 // Slots of a table written: zeros, a label's records, the chain of format 5s, the format 4.
 use forms::Geometry;
 ghost use mathlib.Core.Path.{_≡_};
-ghost use Prim.Native.Nat.{_+_, _-_, _*_, _≤_, _<_};
+ghost use Prim.Native.Nat.{_+_, _*_, _≤_, _<_};
 ghost use lib.ListN.{length, take};
-ghost use Rattle.model.specs.Basics.{part};
-ghost use Rattle.model.specs.Model.{Label, slots, tracks};
+ghost use lib.Seq.{slice};
+ghost use Rattle.model.specs.Model.{Label, oneSlot, slots, tracks};
 ghost use Rattle.model.proofs.Lists.{All};
 ghost use Rattle.rules.specs.Layout.{fives};
 ghost use Rattle.rules.proofs.Valid.{Limits};
@@ -22,8 +22,8 @@ fn wide(k: u16) -> usize
 
 // Puts zeros into the slots that stand in the list from place a up to place b.
 pub fn clear(table: &mut [u8], list: &[u16], a: usize, b: usize)
-    requires { ⌜ (a ≤ b) × (b ≤ length (now list)) × All (λ k. 140 * k + 140 ≤ length (now table)) (part a (b - a) (now list)) ⌝ }
-    ensures { λ _. ⌜ now (table .exit) ≡ cleared (now (table .entry)) (part a (b - a) (now (list .entry))) ⌝ }
+    requires { ⌜ (b ≤ length (now list)) × All (λ k. 140 * k + 140 ≤ length (now table)) (slice a b (now list)) ⌝ }
+    ensures { λ _. ⌜ now (table .exit) ≡ cleared (now (table .entry)) (slice a b (now (list .entry))) ⌝ }
 {
     let zeros = [0u8; 140];
     let mut i = a;
@@ -31,6 +31,18 @@ pub fn clear(table: &mut [u8], list: &[u16], a: usize, b: usize)
         fields::put_record(table, wide(list[i]), &zeros);
         i += 1;
     }
+}
+
+// Puts zeros into slot k, 0 for none.
+pub fn clear_slot(table: &mut [u8], k: usize)
+    requires { ⌜ 140 * k + 140 ≤ length (now table) ⌝ }
+    ensures { λ _. ⌜ now (table .exit) ≡ cleared (now (table .entry)) (oneSlot k) ⌝ }
+{
+    if k == 0 {
+        return;
+    }
+    let zeros = [0u8; 140];
+    fields::put_record(table, k, &zeros);
 }
 
 // Puts a label's format 1 into slot k, and its format 3 into slot q, 0 for none, to which the format 1 is linked.

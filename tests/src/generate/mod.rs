@@ -4,6 +4,7 @@ mod aim;
 mod brink;
 pub mod damage;
 pub mod glance;
+pub mod grids;
 mod hostile;
 pub mod names;
 pub mod rng;

@@ -18,7 +18,7 @@ abbrev μ-loop : tie.MeasureT-loop
 
 -- src/lib.rt:30:5
 loop-holds : tie.Need-loop-holds Inv-loop μ-loop
-loop-holds c = clear-begin (c .before .before .args .table .now) (c .before .before .args .list .now) (c .before .before .args .a) (c .before .before .args .b) (c .before .before .pre .0) (c .before .before .pre .2)
+loop-holds c = clear-begin (c .before .before .args .table .now) (c .before .before .args .list .now) (c .before .before .args .a) (c .before .before .args .b) (c .before .before .pre .1)
 
 -- src/lib.rt:31:40
 mul-wide : tie.Need-mul-wide Inv-loop μ-loop
@@ -34,7 +34,7 @@ wide-requires c κs = search needs
 
 -- src/lib.rt:31:9
 put-record-requires : tie.Need-put-record-requires Inv-loop μ-loop
-put-record-requires c κs = rw (c .before .wide .ensures) (clear-slot (c .before .before .before .before .before .before .before .before .args .table .now) (c .before .before .before .before .before .before .before .before .args .list .now) (c .before .before .before .before .before .before .before .before .args .a) (c .before .before .before .before .before .before .before .before .args .b) (c .before .before .before .before .before .loop .table) (c .before .before .before .before .before .loop .i) (c .before .before .before .before .before .loop .inv) (omega arith) (c .before .before .before .before .before .before .before .before .pre .1))
+put-record-requires c κs = rw (c .before .wide .ensures) (clear-slot (c .before .before .before .before .before .before .before .before .args .table .now) (c .before .before .before .before .before .before .before .before .args .list .now) (c .before .before .before .before .before .before .before .before .args .a) (c .before .before .before .before .before .before .before .before .args .b) (c .before .before .before .before .before .loop .table) (c .before .before .before .before .before .loop .i) (c .before .before .before .before .before .loop .inv) (omega arith) (c .before .before .before .before .before .before .before .before .pre .0))
 
 -- src/lib.rt:32:9
 add-i : tie.Need-add-i Inv-loop μ-loop
@@ -42,11 +42,11 @@ add-i c = search needs
 
 -- src/lib.rt:30:5
 loop-less : tie.Need-loop-less Inv-loop μ-loop
-loop-less c = let u = c .before .before .before .before .before .before .before .before .loop .inv .upTo in omega arith
+loop-less c = omega arith
 
 -- src/lib.rt:30:5
 loop-again : tie.Need-loop-again Inv-loop μ-loop
-loop-again c = rw (c .before .before .put-record .ensures, c .before .before .before .before .wide .ensures) (clear-next (c .before .before .before .before .before .before .before .before .before .before .before .args .table .now) (c .before .before .before .before .before .before .before .before .before .before .before .args .list .now) (c .before .before .before .before .before .before .before .before .before .before .before .args .a) (c .before .before .before .before .before .before .before .before .before .before .before .args .b) (c .before .before .before .before .before .before .before .before .loop .table) (c .before .before .before .before .before .before .before .before .loop .i) (c .before .before .before .before .before .before .before .before .loop .inv) (omega arith) (c .before .before .before .before .before .before .before .before .before .before .before .pre .1))
+loop-again c = rw (c .before .before .put-record .ensures, c .before .before .before .before .wide .ensures) (clear-next (c .before .before .before .before .before .before .before .before .before .before .before .args .table .now) (c .before .before .before .before .before .before .before .before .before .before .before .args .list .now) (c .before .before .before .before .before .before .before .before .before .before .before .args .a) (c .before .before .before .before .before .before .before .before .before .before .before .args .b) (c .before .before .before .before .before .before .before .before .loop .table) (c .before .before .before .before .before .before .before .before .loop .i) (c .before .before .before .before .before .before .before .before .loop .inv) (omega arith) (c .before .before .before .before .before .before .before .before .before .before .before .pre .0))
 
 -- src/lib.rt:24:1
 same-length : tie.Need-same-length Inv-loop μ-loop

@@ -1,0 +1,5 @@
+pub mod Core
+pub mod Put
+pub mod Drop
+pub mod Sets
+pub mod Small

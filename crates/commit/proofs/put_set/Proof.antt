@@ -1,0 +1,175 @@
+use Rattle.writing.specs.Writing.{cleared, labelPut}
+use Rattle.model.specs.Model.{oneSlot}
+use mathlib.Core.List.{List}
+use mathlib.Core.Path.{ap₂}
+use Rattle.commit.proofs.Small.{freed-below}
+use Rattle.commit.proofs.Put.{first-inside, put-done, put-full, shown, tail-inside, third-inside}
+use Rattle.forms.specs.Forms.{geometryOf}
+use Rattle.model.specs.Model.{fivesFor, slots, tracks}
+use lib.ListN.{length}
+use native.Mathlib.Omega.{arith}
+use Prim.Native.Nat.{ℕ, _≤_, _<_, _*_, _+_}
+use mathlib.Core.Bool.{cond}
+use mathlib.Core.Path.{_≡_, refl, sym, ap, subst, _∙_}
+use borrow.Author.Needs.{needs}
+use Rattle.commit.proofs.put_set.Statement.{statement}
+use Rattle.commit.proofs.put_set.Tie as tie
+use Rattle.commit.proofs.put_set.Reads as reads
+use Rattle.commit.proofs.put_set.Lts as lts
+use Rattle.commit.proofs.asked_for.Reads as asked-for-reads
+use Rattle.commit.proofs.finish.Reads as finish-reads
+use Rattle.commit.proofs.if_few.Reads as if-few-reads
+use Rattle.commit.proofs.slot_or.Reads as slot-or-reads
+use Rattle.commit.proofs.third_slot.Reads as third-slot-reads
+use Rattle.settling.proofs.fives_for.Reads as fives-for-reads
+use Rattle.settling.proofs.read_chain.Reads as read-chain-reads
+use Rattle.settling.proofs.settle.Reads as settle-reads
+use Rattle.tracks.proofs.count_runs.Reads as count-runs-reads
+use Rattle.writing.proofs.clear.Reads as clear-reads
+use Rattle.writing.proofs.clear_slot.Reads as clear-slot-reads
+use Rattle.writing.proofs.put_label.Reads as put-label-reads
+
+-- src/lib.rt:101:14
+mul-n : tie.Need-mul-n
+mul-n c = search needs
+
+-- src/lib.rt:101:13
+cast-n : tie.Need-cast-n
+cast-n c = search needs
+
+-- src/lib.rt:103:41
+slice-aggregate-read-chain : tie.Need-slice-aggregate-read-chain
+slice-aggregate-read-chain c = search needs
+
+-- src/lib.rt:103:5
+read-chain-requires : tie.Need-read-chain-requires
+read-chain-requires c κs = search needs
+
+-- src/lib.rt:104:41
+mul-count-runs : tie.Need-mul-count-runs
+mul-count-runs c = search needs
+
+-- src/lib.rt:104:40
+cast-count-runs : tie.Need-cast-count-runs
+cast-count-runs c = search needs
+
+-- src/lib.rt:104:9
+count-runs-requires : tie.Need-count-runs-requires
+count-runs-requires c κs = search needs
+
+-- src/lib.rt:105:9
+fives-for-requires : tie.Need-fives-for-requires
+fives-for-requires c κs = search needs
+
+-- src/lib.rt:107:9
+asked-for-requires : tie.Need-asked-for-requires
+asked-for-requires c κs = search needs
+
+-- src/lib.rt:108:35
+slice-aggregate-settle : tie.Need-slice-aggregate-settle
+slice-aggregate-settle c = search needs
+
+-- src/lib.rt:108:58
+slice-aggregate-settle-2 : tie.Need-slice-aggregate-settle-2
+slice-aggregate-settle-2 c = search needs
+
+-- src/lib.rt:108:8
+settle-requires : tie.Need-settle-requires
+settle-requires c κs = (omega (arith, c .before .before .before .before .before .before .before .before .before .before .before .before .before .before .before .pre .0 .0 .most), omega (arith, c .before .before .before .before .before .before .before .before .before .before .before .before .before .before .before .pre .0 .0 .most, c .before .before .before .before .before .before .before .before .before .before .before .before .before .before .before .pre .0 .3), omega (arith, c .before .before .before .before .before .before .before .before .before .before .before .before .before .before .before .pre .0 .0 .most, c .before .before .before .before .before .before .before .before .read-chain .ensures .long), omega (arith, c .before .before .before .before .before .before .before .before .before .before .before .before .before .before .before .pre .0 .4, c .before .before .before .before .before .before .before .before .read-chain .ensures .long), c .before .before .before .asked-for .ensures .1, refl, c .before .before .before .before .before .before .before .before .read-chain .ensures .inside)
+
+-- src/lib.rt:109:9
+same-length : tie.Need-same-length
+same-length c = search needs
+
+-- src/lib.rt:109:9
+same-length-2 : tie.Need-same-length-2
+same-length-2 c = search needs
+
+-- src/lib.rt:109:9
+returns : tie.Need-returns
+returns c = λ d. put-full (geometryOf (c .before .before .before .before .before .before .before .before .before .before .before .before .before .before .before .before .before .before .before .before .before .args .g)) _ _ _ _ _ _ _ _ _ d _ _ _ _ _ _ _ _ _ (c .before .before .before .before .before .before .before .before .before .before .before .before .before .before .read-chain .ensures) (c .before .before .before .before .before .before .before .before .before .before .fives-for .ensures ∙ ap fivesFor (c .before .before .before .before .before .before .before .before .before .before .before .count-runs .ensures .0)) (c .before .before .before .before .before .before .before .before .before .asked-for .ensures .0) refl (c .before .before .before .before .before .settle .ensures (geometryOf (c .before .before .before .before .before .before .before .before .before .before .before .before .before .before .before .before .before .before .before .before .before .args .g)) refl) (c .if1 .left)
+
+-- src/lib.rt:111:27
+slice-aggregate-clear : tie.Need-slice-aggregate-clear
+slice-aggregate-clear c = search needs
+
+-- src/lib.rt:111:5
+clear-requires : tie.Need-clear-requires
+clear-requires c κs = (omega (arith, c .before .before .before .before .before .before .before .before .before .before .before .before .before .before .before .before .before .before .before .before .before .before .before .pre .0 .4, c .before .before .before .before .before .before .before .before .before .before .before .before .before .before .before .before .read-chain .ensures .long, c .before .before .before .before .before .before .before .settle .ensures (geometryOf (c .before .before .before .before .before .before .before .before .before .before .before .before .before .before .before .before .before .before .before .before .before .before .before .args .g)) refl .longChain), tail-inside _ _ (c .before .before .before .before .before .before .before .before .before .before .before .before .before .before .before .before .before .before .before .before .before .before .before .args .was) _ (slots (geometryOf (c .before .before .before .before .before .before .before .before .before .before .before .before .before .before .before .before .before .before .before .before .before .before .before .args .g))) _ (c .before .before .before .before .before .before .before .settle .ensures (geometryOf (c .before .before .before .before .before .before .before .before .before .before .before .before .before .before .before .before .before .before .before .before .before .before .before .args .g)) refl .tail) (c .before .before .before .before .before .before .before .before .before .before .before .before .before .before .before .before .read-chain .ensures .inside) (c .before .before .before .before .before .before .before .before .before .before .before .before .before .before .before .before .before .before .before .before .before .before .before .pre .0 .1))
+
+-- src/lib.rt:112:32
+if-few-requires : tie.Need-if-few-requires
+if-few-requires c κs = search needs
+
+-- src/lib.rt:112:5
+clear-slot-requires : tie.Need-clear-slot-requires
+clear-slot-requires c κs = let h = freed-below (c .before .before .before .before .before .before .before .before .before .before .before .before .before .before .before .before .before .before .before .before .before .before .before .before .before .before .before .before .args .few) (c .before .before .before .before .before .before .before .before .before .before .before .before .before .before .before .before .before .before .before .before .before .before .before .before .before .before .before .before .args .third) (slots (geometryOf (c .before .before .before .before .before .before .before .before .before .before .before .before .before .before .before .before .before .before .before .before .before .before .before .before .before .before .before .before .args .g))) (140 * slots (geometryOf (c .before .before .before .before .before .before .before .before .before .before .before .before .before .before .before .before .before .before .before .before .before .before .before .before .before .before .before .before .args .g))) _ (c .if-few .ensures) (c .before .before .before .before .before .before .before .before .before .before .before .before .before .before .before .before .before .before .before .before .before .before .before .before .before .before .before .before .pre .0 .6) refl in let l = c .before .before .before .before .before .before .before .before .before .before .before .before .before .before .before .before .before .before .before .before .before .before .before .before .before .before .before .before .pre .0 .1 in search needs
+
+-- src/lib.rt:113:31
+array-read-slot-or : tie.Need-array-read-slot-or
+array-read-slot-or c = search needs
+
+-- src/lib.rt:113:9
+slot-or-requires : tie.Need-slot-or-requires
+slot-or-requires c κs = search needs
+
+-- src/lib.rt:114:9
+third-slot-requires : tie.Need-third-slot-requires
+third-slot-requires c κs = search needs
+
+-- src/lib.rt:115:5
+put-label-requires : tie.Need-put-label-requires
+put-label-requires c κs = (c .before .before .before .before .before .before .before .before .before .before .before .before .before .before .before .before .before .before .before .before .before .before .before .before .before .before .before .before .before .before .before .before .before .before .pre .0 .0, (let l = c .before .before .before .before .before .before .before .before .before .before .before .before .before .before .before .before .before .before .before .before .before .before .before .before .before .before .before .before .before .before .before .before .before .before .pre .0 .1 in search needs), subst (λ (x : ℕ). x < slots (geometryOf (c .before .before .before .before .before .before .before .before .before .before .before .before .before .before .before .before .before .before .before .before .before .before .before .before .before .before .before .before .before .before .before .before .before .before .args .g))) (sym (c .before .before .slot-or .ensures)) (first-inside (geometryOf (c .before .before .before .before .before .before .before .before .before .before .before .before .before .before .before .before .before .before .before .before .before .before .before .before .before .before .before .before .before .before .before .before .before .before .args .g)) _ _ _ _ _ _ _ _ _ (c .before .before .before .before .before .before .before .before .before .before .before .before .before .before .before .before .before .before .before .before .before .before .before .before .before .before .before .before .before .before .before .before .before .before .pre .1) _ _ _ _ _ _ _ _ _ (c .before .before .before .before .before .before .before .before .before .before .before .before .before .before .before .before .before .before .before .before .before .before .before .before .before .before .before .read-chain .ensures) (c .before .before .before .before .before .before .before .before .before .before .before .before .before .before .before .before .before .before .before .before .before .before .before .fives-for .ensures ∙ ap fivesFor (c .before .before .before .before .before .before .before .before .before .before .before .before .before .before .before .before .before .before .before .before .before .before .before .before .count-runs .ensures .0)) (c .before .before .before .before .before .before .before .before .before .before .before .before .before .before .before .before .before .before .before .before .before .before .asked-for .ensures .0) refl (c .before .before .before .before .before .before .before .before .before .before .before .before .before .before .before .before .before .before .settle .ensures (geometryOf (c .before .before .before .before .before .before .before .before .before .before .before .before .before .before .before .before .before .before .before .before .before .before .before .before .before .before .before .before .before .before .before .before .before .before .args .g)) refl) (c .before .before .before .before .before .before .before .before .before .before .before .before .before .if1 .taken)), subst (λ (x : ℕ). x < slots (geometryOf (c .before .before .before .before .before .before .before .before .before .before .before .before .before .before .before .before .before .before .before .before .before .before .before .before .before .before .before .before .before .before .before .before .before .before .args .g))) (sym (c .before .third-slot .ensures)) (third-inside (geometryOf (c .before .before .before .before .before .before .before .before .before .before .before .before .before .before .before .before .before .before .before .before .before .before .before .before .before .before .before .before .before .before .before .before .before .before .args .g)) _ _ _ _ _ _ _ _ _ (c .before .before .before .before .before .before .before .before .before .before .before .before .before .before .before .before .before .before .before .before .before .before .before .before .before .before .before .before .before .before .before .before .before .before .pre .1) _ _ _ _ _ _ _ _ _ (c .before .before .before .before .before .before .before .before .before .before .before .before .before .before .before .before .before .before .before .before .before .before .before .before .before .before .before .read-chain .ensures) (c .before .before .before .before .before .before .before .before .before .before .before .before .before .before .before .before .before .before .before .before .before .before .before .fives-for .ensures ∙ ap fivesFor (c .before .before .before .before .before .before .before .before .before .before .before .before .before .before .before .before .before .before .before .before .before .before .before .before .count-runs .ensures .0)) (c .before .before .before .before .before .before .before .before .before .before .before .before .before .before .before .before .before .before .before .before .before .before .asked-for .ensures .0) refl (c .before .before .before .before .before .before .before .before .before .before .before .before .before .before .before .before .before .before .settle .ensures (geometryOf (c .before .before .before .before .before .before .before .before .before .before .before .before .before .before .before .before .before .before .before .before .before .before .before .before .before .before .before .before .before .before .before .before .before .before .args .g)) refl) (c .before .before .before .before .before .before .before .before .before .before .before .before .before .if1 .taken)))
+
+-- src/lib.rt:116:34
+slice-aggregate-finish : tie.Need-slice-aggregate-finish
+slice-aggregate-finish c = search needs
+
+-- src/lib.rt:116:5
+finish-requires : tie.Need-finish-requires
+finish-requires c κs = ((c .before .before .before .before .before .before .before .before .before .before .before .before .before .before .before .before .before .before .before .before .before .before .before .before .before .before .before .before .before .before .before .before .before .before .before .before .before .before .before .before .pre .0 .0, (let l = c .before .before .before .before .before .before .before .before .before .before .before .before .before .before .before .before .before .before .before .before .before .before .before .before .before .before .before .before .before .before .before .before .before .before .before .before .before .before .before .before .pre .0 .1 in search needs), c .before .before .before .before .before .before .before .before .before .before .before .before .before .before .before .before .before .before .before .before .before .before .before .before .before .before .before .before .before .before .before .before .before .before .before .before .before .before .before .before .pre .0 .2, (let l = c .before .before .before .before .before .before .before .before .before .before .before .before .before .before .before .before .before .before .before .before .before .before .before .before .before .before .before .before .before .before .before .before .before .before .before .before .before .before .before .before .pre .0 .3 in let e = c .before .before .before .before .before .before .before .before .before .before .before .before .before .before .before .before .before .before .before .before .before .before .before .before .settle .ensures (geometryOf (c .before .before .before .before .before .before .before .before .before .before .before .before .before .before .before .before .before .before .before .before .before .before .before .before .before .before .before .before .before .before .before .before .before .before .before .before .before .before .before .before .args .g)) refl .longMap in search needs)), (omega (arith, c .before .before .before .before .before .before .before .before .before .before .before .before .before .before .before .before .before .before .before .before .before .before .before .before .before .before .before .before .before .before .before .before .before .before .before .before .before .before .before .before .pre .0 .0 .most, c .before .before .before .before .before .before .before .before .before .before .before .before .before .before .before .before .before .before .before .before .before .before .before .before .before .before .before .before .before .before .before .before .before .read-chain .ensures .long, c .before .before .before .before .before .before .before .before .before .before .before .before .before .before .before .before .before .before .before .before .before .before .before .before .settle .ensures (geometryOf (c .before .before .before .before .before .before .before .before .before .before .before .before .before .before .before .before .before .before .before .before .before .before .before .before .before .before .before .before .before .before .before .before .before .before .before .before .before .before .before .before .args .g)) refl .longChain, c .before .before .before .before .before .before .before .before .before .before .before .before .before .before .before .before .before .before .before .before .before .before .before .before .settle .ensures (geometryOf (c .before .before .before .before .before .before .before .before .before .before .before .before .before .before .before .before .before .before .before .before .before .before .before .before .before .before .before .before .before .before .before .before .before .before .before .before .before .before .before .before .args .g)) refl .most (c .before .before .before .before .before .before .before .before .before .before .before .before .before .before .before .before .before .before .before .if1 .taken)), c .before .before .before .before .before .before .before .before .before .before .before .before .before .before .before .before .before .before .before .before .before .before .before .before .settle .ensures (geometryOf (c .before .before .before .before .before .before .before .before .before .before .before .before .before .before .before .before .before .before .before .before .before .before .before .before .before .before .before .before .before .before .before .before .before .before .before .before .before .before .before .before .args .g)) refl .inside (c .before .before .before .before .before .before .before .before .before .before .before .before .before .before .before .before .before .before .before .if1 .taken) _ (shown (geometryOf (c .before .before .before .before .before .before .before .before .before .before .before .before .before .before .before .before .before .before .before .before .before .before .before .before .before .before .before .before .before .before .before .before .before .before .before .before .before .before .before .before .args .g)) _ _ _ _ _ _ _ _ _ (c .before .before .before .before .before .before .before .before .before .before .before .before .before .before .before .before .before .before .before .before .before .before .before .before .before .before .before .before .before .before .before .before .before .before .before .before .before .before .before .before .pre .1) _ _ _ _ _ _ _ _ _ (c .before .before .before .before .before .before .before .before .before .before .before .before .before .before .before .before .before .before .before .before .before .before .before .before .before .before .before .before .before .before .before .before .before .read-chain .ensures) (c .before .before .before .before .before .before .before .before .before .before .before .before .before .before .before .before .before .before .before .before .before .before .before .before .before .before .before .before .before .fives-for .ensures ∙ ap fivesFor (c .before .before .before .before .before .before .before .before .before .before .before .before .before .before .before .before .before .before .before .before .before .before .before .before .before .before .before .before .before .before .count-runs .ensures .0)) (c .before .before .before .before .before .before .before .before .before .before .before .before .before .before .before .before .before .before .before .before .before .before .before .before .before .before .before .before .asked-for .ensures .0) refl (c .before .before .before .before .before .before .before .before .before .before .before .before .before .before .before .before .before .before .before .before .before .before .before .before .settle .ensures (geometryOf (c .before .before .before .before .before .before .before .before .before .before .before .before .before .before .before .before .before .before .before .before .before .before .before .before .before .before .before .before .before .before .before .before .before .before .before .before .before .before .before .before .args .g)) refl))))
+
+-- src/lib.rt:85:1
+same-length-3 : tie.Need-same-length-3
+same-length-3 c = search needs
+
+-- src/lib.rt:85:1
+same-length-4 : tie.Need-same-length-4
+same-length-4 c = search needs
+
+-- src/lib.rt:85:1
+returns-2 : tie.Need-returns-2
+returns-2 c = λ d. put-done (geometryOf (c .before .before .before .before .before .before .before .before .before .before .before .before .before .before .before .before .before .before .before .before .before .before .before .before .before .before .before .before .before .before .before .before .before .before .before .before .before .before .before .before .before .before .before .args .g)) _ _ _ _ _ _ _ _ _ d _ _ _ _ _ _ _ _ _ (c .before .before .before .before .before .before .before .before .before .before .before .before .before .before .before .before .before .before .before .before .before .before .before .before .before .before .before .before .before .before .before .before .before .before .before .before .read-chain .ensures) (c .before .before .before .before .before .before .before .before .before .before .before .before .before .before .before .before .before .before .before .before .before .before .before .before .before .before .before .before .before .before .before .before .fives-for .ensures ∙ ap fivesFor (c .before .before .before .before .before .before .before .before .before .before .before .before .before .before .before .before .before .before .before .before .before .before .before .before .before .before .before .before .before .before .before .before .before .count-runs .ensures .0)) (c .before .before .before .before .before .before .before .before .before .before .before .before .before .before .before .before .before .before .before .before .before .before .before .before .before .before .before .before .before .before .before .asked-for .ensures .0) refl (c .before .before .before .before .before .before .before .before .before .before .before .before .before .before .before .before .before .before .before .before .before .before .before .before .before .before .before .settle .ensures (geometryOf (c .before .before .before .before .before .before .before .before .before .before .before .before .before .before .before .before .before .before .before .before .before .before .before .before .before .before .before .before .before .before .before .before .before .before .before .before .before .before .before .before .before .before .before .args .g)) refl) (c .before .before .before .before .before .before .before .before .before .before .before .before .before .before .before .before .before .before .before .before .before .before .if1 .taken) _ _ _ _ _ _ _ (c .before .before .before .before .before .before .before .before .before .before .before .before .before .before .before .if-few .ensures) (c .before .before .before .before .before .before .before .before .before .before .before .slot-or .ensures) (c .before .before .before .before .before .before .before .before .before .before .third-slot .ensures) (c .before .before .before .before .before .before .before .before .before .before .before .before .before .before .before .before .before .before .before .clear .ensures) (c .before .before .before .before .before .before .before .before .before .before .before .before .before .before .clear-slot .ensures) (c .before .before .before .before .before .before .before .before .put-label .ensures (d .label) (d .written)) (c .before .before .finish .ensures)
+
+pub put-set-spec : {M : Type 1} → statement M
+put-set-spec =
+    tie.close
+    (tie.spec
+    mul-n
+    cast-n
+    slice-aggregate-read-chain
+    read-chain-requires
+    mul-count-runs
+    cast-count-runs
+    count-runs-requires
+    fives-for-requires
+    asked-for-requires
+    slice-aggregate-settle
+    slice-aggregate-settle-2
+    settle-requires
+    same-length
+    same-length-2
+    returns
+    slice-aggregate-clear
+    clear-requires
+    if-few-requires
+    clear-slot-requires
+    array-read-slot-or
+    slot-or-requires
+    third-slot-requires
+    put-label-requires
+    slice-aggregate-finish
+    finish-requires
+    same-length-3
+    same-length-4
+    returns-2)

@@ -1,0 +1,91 @@
+-- From what the map gives to what the rules grant, kind by kind. Assumes nothing.
+use mathlib.Core.Path.{_≡_, refl, sym, ap, _∙_, subst}
+use mathlib.Core.Bool.{Bool, true, false, cond}
+use mathlib.Core.Option.{Option, none, some}
+use mathlib.Core.List.{List, [], _∷_, map}
+use Prim.Native.Nat.{ℕ, _+_, _-_, _≤_}
+use native.Mathlib.Omega.{arith}
+use lib.Dec.{eqb}
+use lib.ListN.{length, set, drop}
+use Rattle.model.specs.Basics.{all, mapOption, upFrom}
+use Rattle.model.specs.Model.{Extent, Geometry, Label, Run, extent, free, held, overs, run, times, tracks}
+use Rattle.model.specs.Choice.{pieces}
+use Rattle.rules.specs.Calls.{exactly}
+use Rattle.rules.specs.Calls.{grant as granting}
+use Rattle.tracks.specs.Map.{Shows, freeFrom, isFree}
+use Rattle.tracks.proofs.Held.{free-gaps}
+use Rattle.grant.specs.Grant.{Grant, grant, grantedRuns, replyOf, row}
+use Rattle.grant.proofs.Reply.{granted-pieces, overs-extents}
+use Rattle.request.specs.declared.Amount.{Amount as Asked}
+use Rattle.request.specs.declared.Amount.the-variants.{Tracks, Cylinders, Absolute}
+use Rattle.request.specs.Request.{Askable, exactRuns, piecesOf, toAmount}
+use Rattle.request.proofs.Free.{all-held}
+
+-- ---- exactly these tracks
+
+-- the tracks from s up to s + n, as the code counts them
+same-range : (m : List ℕ) (s n : ℕ) → all (isFree m) (upFrom s (s + n - s)) ≡ all (isFree m) (upFrom s n)
+same-range m s n = let e : s + n - s ≡ n = omega arith in ap (λ (k : ℕ). all (isFree m) (upFrom s k)) e
+
+first-place : (p : List (List ℕ)) (r : List ℕ) → length p ≡ 5 → set p 0 r ≡ r ∷ drop 1 p
+first-place [] r l = absurd (omega arith)
+first-place (x ∷ p) r l = refl
+
+module _ (m : List ℕ) (s n : ℕ) (r : Bool) (e : r ≡ all (isFree m) (upFrom s (s + n - s))) (p : List (List ℕ)) where
+  pub exact-yes : r ≡ true → length p ≡ 5 → grant 1 n (set p 0 (s ∷ n ∷ [])) ≡ replyOf (exactRuns m s n) p
+  unfolding exactRuns replyOf
+  exact-yes h l =
+      let z : n ≡ n + 0 = omega arith in
+      rw (sym (same-range m s n) ∙ sym e ∙ h) (λ i. record { count = 1; tracks = z i; places = first-place p (row (run s n)) l i })
+
+  pub exact-no : r ≡ false → grant 0 0 p ≡ replyOf (exactRuns m s n) p
+  unfolding exactRuns replyOf
+  exact-no h = rw (sym (same-range m s n) ∙ sym e ∙ h)
+
+-- ---- what an amount needs
+
+module _ (g : Geometry) (a : Asked) (k : Askable g (toAmount a)) where
+  pub tracks-asked : (n : ℕ) → a ≡ Tracks n → (1 ≤ n) × (n ≤ 16777215)
+  tracks-asked n e = subst (λ (x : Asked). Askable g (toAmount x)) e k
+
+  pub cylinders-asked : (n : ℕ) → a ≡ Cylinders n → (1 ≤ n) × (n ≤ 16777215)
+  cylinders-asked n e = subst (λ (x : Asked). Askable g (toAmount x)) e k
+
+  pub absolute-asked : (s n : ℕ) → a ≡ Absolute s n → (1 ≤ n) × (s + n ≤ tracks g)
+  absolute-asked s n e = subst (λ (x : Asked). Askable g (toAmount x)) e k
+
+-- ---- the reply
+
+module _ (m : List ℕ) (g : Geometry) (ls : List Label) (h : Shows m (tracks g) (held g ls)) where
+  free-is : freeFrom m (tracks g) 0 ≡ free g ls
+  unfolding free
+  free-is = free-gaps m (tracks g) (held g ls) h
+
+  back : (b : ℕ) (o : Option (List Run)) → o ≡ mapOption overs (mapOption (map (extent b)) o)
+  back b none = refl
+  back b (some ps) = ap (λ (x : List Run). some x) (sym (overs-extents b ps))
+
+  by-units : (b u n : ℕ) → grantedRuns u n (freeFrom m (tracks g) 0) ≡ mapOption overs (pieces b u n (free g ls))
+  by-units b u n =
+      ap (grantedRuns u n) free-is ∙ back b (grantedRuns u n (free g ls)) ∙ ap (mapOption overs) (sym (granted-pieces b u n (free g ls)))
+
+  exact-runs : (s n : ℕ) → s + n ≤ tracks g → exactRuns m s n ≡ mapOption overs (exactly (run s n) (held g ls))
+  unfolding exactRuns
+  exact-runs s n l = ap (λ (x : Bool). cond x (some (run s n ∷ [])) none) (all-held m (tracks g) (held g ls) h s n l) ∙ go (all (λ t. eqb (times t (held g ls)) 0) (upFrom s n))
+    where
+      go : (x : Bool) → cond x (some (run s n ∷ [])) none ≡ mapOption overs (cond x (some (extent 0x01 (run s n) ∷ [])) none)
+      go true = refl
+      go false = refl
+
+  module _ (a : Asked) (x : Grant) (p : List (List ℕ)) where
+    pub tracks-reply : (n : ℕ) → a ≡ Tracks n → x ≡ replyOf (grantedRuns 1 n (freeFrom m (tracks g) 0)) p → x ≡ replyOf (piecesOf g ls (toAmount a)) p
+    unfolding piecesOf granting
+    tracks-reply n e q = q ∙ ap (λ (o : Option (List Run)). replyOf o p) (by-units 0x01 1 n ∙ ap (λ (b : Asked). piecesOf g ls (toAmount b)) (sym e))
+
+    pub cylinders-reply : (n : ℕ) → a ≡ Cylinders n → x ≡ replyOf (grantedRuns (g .heads) n (freeFrom m (tracks g) 0)) p → x ≡ replyOf (piecesOf g ls (toAmount a)) p
+    unfolding piecesOf granting
+    cylinders-reply n e q = q ∙ ap (λ (o : Option (List Run)). replyOf o p) (by-units 0x81 (g .heads) n ∙ ap (λ (b : Asked). piecesOf g ls (toAmount b)) (sym e))
+
+    pub absolute-reply : (s n : ℕ) → a ≡ Absolute s n → s + n ≤ tracks g → x ≡ replyOf (exactRuns m s n) p → x ≡ replyOf (piecesOf g ls (toAmount a)) p
+    unfolding piecesOf granting
+    absolute-reply s n e l q = q ∙ ap (λ (o : Option (List Run)). replyOf o p) (exact-runs s n l ∙ ap (λ (b : Asked). piecesOf g ls (toAmount b)) (sym e))

@@ -1,0 +1,179 @@
+// A request for space: its amount in one of three kinds, the range of its numbers, and what it is granted.
+use forms::Geometry;
+use grant::Chosen;
+ghost use mathlib.Core.Path.{_≡_};
+ghost use mathlib.Core.Bool.{cond, _&&_};
+ghost use mathlib.Core.Option.{some};
+ghost use mathlib.Core.List.{List};
+ghost use Prim.Native.Nat.{_+_, _-_, _*_, _≤_, _<_};
+ghost use lib.Dec.{eqb, leb};
+ghost use lib.ListN.{length};
+ghost use Rattle.model.specs.Basics.{all, upFrom, within};
+ghost use Rattle.model.specs.Model.{Label, held, tracks};
+ghost use Rattle.rules.specs.Calls.{amountOf, inCylinders, inRange, inTracks, unitOf};
+ghost use Rattle.rules.proofs.Valid.{Limits};
+ghost use Rattle.tracks.specs.Map.{Shows, isFree};
+ghost use Rattle.grant.specs.Grant.{grant, replyOf};
+ghost use Rattle.forms.specs.Forms.{geometryOf};
+ghost use Rattle.request.specs.Request.{Askable, exactRuns, kindOf, piecesOf, toAmount, typeOf};
+
+// An amount: how many tracks, how many cylinders, or from which track on how many.
+pub enum Amount {
+    Tracks(u32),
+    Cylinders(u32),
+    Absolute(u32, u32),
+}
+
+pub struct Request {
+    pub amount: Amount,
+    pub secondary: u32,
+}
+
+// The request that the host's numbers make; an unknown kind is refused before.
+pub fn read_request(kind: u32, start: u32, amount: u32, secondary: u32) -> Request
+    requires { ⌜ kind < 3 ⌝ }
+    ensures { λ r. ⌜ (some (toAmount (r .amount)) ≡ amountOf kind start amount) × (kindOf (r .amount) ≡ kind) × (r .secondary ≡ secondary) ⌝ }
+{
+    if kind == 0 {
+        return Request {
+            amount: Amount::Tracks(amount),
+            secondary,
+        };
+    }
+    if kind == 1 {
+        return Request {
+            amount: Amount::Cylinders(amount),
+            secondary,
+        };
+    }
+    Request {
+        amount: Amount::Absolute(start, amount),
+        secondary,
+    }
+}
+
+// ---- ranges
+
+// Whether an amount of tracks or of cylinders, and the secondary amount with it, lie in their ranges.
+fn counts_ok(n: u32, secondary: u32) -> bool
+    ensures { λ r. ⌜ r ≡ (within 1 65535 n && leb secondary 16777215) ⌝ }
+{
+    if n < 1 {
+        return false;
+    }
+    if n > 65535 {
+        return false;
+    }
+    secondary <= 16777215
+}
+
+// Whether n tracks from `start` on lie on a volume of t tracks. Their end may not fit 32 bits, so it is not computed.
+fn place_ok(start: u32, n: u32, secondary: u32, t: u32) -> bool
+    ensures { λ r. ⌜ r ≡ (leb 1 n && leb (start + n) t && eqb secondary 0) ⌝ }
+{
+    if n < 1 {
+        return false;
+    }
+    if t < start {
+        return false;
+    }
+    if t - start < n {
+        return false;
+    }
+    secondary == 0
+}
+
+// Whether the amount and the secondary amount lie in their ranges on such a volume.
+pub fn in_range(request: Request, g: Geometry) -> bool
+    requires { ⌜ Limits (geometryOf g) ⌝ }
+    ensures { λ r. ⌜ r ≡ inRange (geometryOf g) (request .secondary) (toAmount (request .amount)) ⌝ }
+{
+    let amount = request.amount;
+    match amount {
+        Amount::Tracks(n) => counts_ok(n, request.secondary),
+        Amount::Cylinders(n) => counts_ok(n, request.secondary),
+        Amount::Absolute(start, n) => {
+            place_ok(start, n, request.secondary, g.cylinders * g.heads)
+        }
+    }
+}
+
+// ---- the bytes of a label
+
+// DS1SCALO of a data set that was asked for so.
+pub fn unit_byte(amount: Amount) -> u8
+    ensures { λ r. ⌜ r ≡ unitOf (toAmount amount) ⌝ }
+{
+    match amount {
+        Amount::Tracks(_n) => 0x80,
+        Amount::Cylinders(_n) => 0xC0,
+        Amount::Absolute(_s, _n) => 0x00,
+    }
+}
+
+// The type of the extents that are granted.
+pub fn type_byte(amount: Amount) -> u8
+    ensures { λ r. ⌜ r ≡ typeOf (toAmount amount) ⌝ }
+{
+    match amount {
+        Amount::Tracks(_n) => 0x01,
+        Amount::Cylinders(_n) => 0x81,
+        Amount::Absolute(_s, _n) => 0x01,
+    }
+}
+
+// What an extend asks for, by the unit and the secondary amount in the label.
+pub fn secondary_of(unit: u8, secondary: u32) -> Amount
+    ensures { λ r. ⌜ toAmount r ≡ cond (eqb unit 0xC0) (inCylinders secondary) (inTracks secondary) ⌝ }
+{
+    if unit == 0xC0 {
+        return Amount::Cylinders(secondary);
+    }
+    Amount::Tracks(secondary)
+}
+
+// ---- granting
+
+// Whether all tracks from s up to e are free: the first free run there is all of them.
+fn all_free(map: &[u64], s: usize, e: usize) -> bool
+    requires { ⌜ (s < e) × (e ≤ 64 * length (now map)) ⌝ }
+    ensures { λ r. ⌜ r ≡ all (isFree (now (map .entry))) (upFrom s (e - s)) ⌝ }
+{
+    let free = tracks::next_run(map, s, e);
+    if free.from != s {
+        return false;
+    }
+    free.to == e
+}
+
+// Exactly these tracks, as one piece; nothing is written where one of them is not free.
+fn exact(map: &[u64], start: u32, n: u32, pieces: &mut [[u16; 2]; 5]) -> Chosen
+    requires { ⌜ (1 ≤ n) × (start + n ≤ 65535) × (start + n ≤ 64 * length (now map)) × (length (now pieces) ≡ 5) ⌝ }
+    ensures { λ r. ⌜ grant (r .count) (r .tracks) (now (pieces .exit)) ≡ replyOf (exactRuns (now (map .entry)) start n) (now (pieces .entry)) ⌝ }
+{
+    if all_free(map, start as usize, (start + n) as usize) {
+        pieces[0] = [start as u16, n as u16];
+        return Chosen {
+            count: 1,
+            tracks: n,
+        };
+    }
+    Chosen {
+        count: 0,
+        tracks: 0,
+    }
+}
+
+// The pieces that an amount is granted out of the free tracks of the map, whatever labels hold the others. Where there
+// is no space the count is 0 and no piece is written.
+pub fn fulfil(map: &[u64], g: Geometry, amount: Amount, pieces: &mut [[u16; 2]; 5]) -> Chosen
+    requires { ⌜ Limits (geometryOf g) × (tracks (geometryOf g) ≤ 64 * length (now map)) × Askable (geometryOf g) (toAmount amount) × (length (now pieces) ≡ 5) ⌝ }
+    ensures { λ r. ⌜ ((ls : List Label) → Shows (now (map .entry)) (tracks (geometryOf g)) (held (geometryOf g) ls) → grant (r .count) (r .tracks) (now (pieces .exit)) ≡ replyOf (piecesOf (geometryOf g) ls (toAmount amount)) (now (pieces .entry))) ⌝ }
+{
+    let n = (g.cylinders * g.heads) as usize;
+    match amount {
+        Amount::Tracks(k) => grant::choose(map, n, 1, k, pieces),
+        Amount::Cylinders(k) => grant::choose(map, n, g.heads, k, pieces),
+        Amount::Absolute(start, k) => exact(map, start, k, pieces),
+    }
+}

@@ -1,0 +1,238 @@
+// The extents of one data set, granted more or cut: in its records, and in the map of free tracks.
+ghost use mathlib.Core.Path.{_≡_};
+ghost use Prim.Native.Nat.{_+_, _*_, _≤_, _<_, min};
+ghost use mathlib.Core.List.{List, [], map};
+ghost use lib.ListN.{length, take, getD};
+ghost use Rattle.model.specs.Model.{Geometry, Label, Run, extent, overs, run, total, tracks};
+ghost use Rattle.model.proofs.Lists.{All};
+ghost use Rattle.rules.specs.Layout.{extentPart};
+ghost use Rattle.rules.specs.Reading.{readExtent};
+ghost use Rattle.rules.proofs.Valid.{Limits};
+ghost use Rattle.forms.specs.Forms.{geometryOf};
+ghost use Rattle.grant.specs.Grant.{row};
+ghost use Rattle.labels.specs.Labels.{Format1, Format3, added, firstExtents};
+ghost use Rattle.set_change.specs.Change.{GaveTail, InRecords, Piece, SetIn, Stays, TookPieces, extentsIn, granted, shortened};
+
+// Tracks that follow each other: the first, and how many.
+struct Tracks {
+    start: u32,
+    count: u32,
+}
+
+// ---- granted
+
+// A number of two bytes.
+fn wide(x: u16) -> u32
+    ensures { λ r. ⌜ (r ≡ x) × (r < 65536) ⌝ }
+{
+    x as u32
+}
+
+// Piece k as tracks.
+fn piece_at(pieces: [[u16; 2]; 5], k: usize) -> Tracks
+    requires { ⌜ k < 5 ⌝ }
+    ensures { λ r. ⌜ (r .start ≡ getD (getD pieces k []) 0 0) × (r .count ≡ getD (getD pieces k []) 1 0) × (r .start < 65536) × (r .count < 65536) ⌝ }
+{
+    let start = wide(pieces[k][0]);
+    let count = wide(pieces[k][1]);
+    Tracks { start, count }
+}
+
+// Takes the first `count` pieces out of the map of free tracks. That their tracks are free is known.
+pub fn take_pieces(map: &mut [u64], pieces: [[u16; 2]; 5], count: usize)
+    requires { ⌜ (count ≤ 5) × All (Piece (64 * length (now map))) (take count pieces) ⌝ }
+    ensures { λ _. ⌜ TookPieces (take count pieces) (now (map .entry)) (now (map .exit)) ⌝ }
+{
+    let mut k: usize = 0;
+    while k < count {
+        let p = piece_at(pieces, k);
+        let from = p.start as usize;
+        let to = from + p.count as usize;
+        tracks::take_range(map, from, to);
+        k += 1;
+    }
+}
+
+// A label's format 1, and its format 3; that of a label with no more than three extents has none in it.
+pub struct Records {
+    pub one: [u8; 140],
+    pub three: [u8; 140],
+}
+
+// The records of a label with n extents, with one more: the first three stand in the format 1.
+fn add_extent(
+    recs: Records,
+    g: forms::Geometry,
+    n: usize,
+    kind: u8,
+    start: u32,
+    count: u32,
+) -> Records
+    requires { ⌜ (n < 16) × (1 ≤ count) × (start + count ≤ 65535) × Limits (geometryOf g) ⌝ }
+    ensures { λ r. ⌜ ((l : Label) → length (l .extents) ≡ n → InRecords (geometryOf g) l (recs .one) (recs .three) → InRecords (geometryOf g) (added (extent kind (run start count)) l) (r .one) (r .three)) ⌝ }
+{
+    let first = recs.one;
+    let third = recs.three;
+    let one = labels::add_extent1(first, g, n, kind, start, count);
+    if n < 3 {
+        return Records { one, three: third };
+    }
+    let three = labels::add_extent3(third, g, n, kind, start, count);
+    Records { one, three }
+}
+
+// The records of a label with n extents, with the first `count` pieces behind them.
+pub fn add_pieces(
+    recs: Records,
+    g: forms::Geometry,
+    n: usize,
+    kind: u8,
+    pieces: [[u16; 2]; 5],
+    count: usize,
+) -> Records
+    requires { ⌜ (count ≤ 5) × (n + count ≤ 16) × Limits (geometryOf g) × All (Piece 65535) (take count pieces) ⌝ }
+    ensures { λ r. ⌜ ((l : Label) (ps : List Run) → length (l .extents) ≡ n → take count pieces ≡ map row ps → InRecords (geometryOf g) l (recs .one) (recs .three) → InRecords (geometryOf g) (granted kind ps l) (r .one) (r .three)) ⌝ }
+{
+    let mut r = recs;
+    let mut k: usize = 0;
+    while k < count {
+        let p = piece_at(pieces, k);
+        let more = add_extent(r, g, n + k, kind, p.start, p.count);
+        r = more;
+        k += 1;
+    }
+    r
+}
+
+// ---- cut
+
+// The tracks of extent e, with h tracks to a cylinder.
+fn extent_at<'a>(f1: &'a [u8], f3: &'a [u8], e: usize, h: u32) -> Tracks
+    requires { ⌜ (length (now f1) ≡ 140) × (length (now f3) ≡ 140) × (e < 16) × (h < 65536) × (1 ≤ readExtent h (extentPart (now f1) (now f3) e) .over .count) ⌝ }
+    ensures { λ r. ⌜ run (r .start) (r .count) ≡ readExtent h (extentPart (now (f1 .entry)) (now (f3 .entry)) e) .over ⌝ }
+{
+    let x = fields::extent_part(f1, f3, e);
+    let start = fields::track_at(x, 2, h);
+    let last = fields::track_at(x, 6, h);
+    Tracks {
+        start,
+        count: last + 1 - start,
+    }
+}
+
+// How many tracks a data set with n extents has, as the listing counts them.
+pub fn set_tracks<'a>(f1: &'a [u8], f3: &'a [u8], n: usize, g: forms::Geometry) -> u32
+    requires { ⌜ SetIn (geometryOf g) (now f1) (now f3) n ⌝ }
+    ensures { λ r. ⌜ r ≡ total (overs (extentsIn (geometryOf g) (now (f1 .entry)) (now (f3 .entry)) n)) ⌝ }
+{
+    listing::tracks_of(f1, f3, n, g.heads)
+}
+
+// What stays of a data set: `whole` extents, and `count` tracks from `start` of the next, 0 for none of it.
+pub struct Kept {
+    pub whole: usize,
+    pub start: u32,
+    pub count: u32,
+}
+
+// Where the first `keep` tracks of a data set with n extents end.
+fn cut_at<'a>(f1: &'a [u8], f3: &'a [u8], n: usize, g: forms::Geometry, keep: u32) -> Kept
+    requires { ⌜ SetIn (geometryOf g) (now f1) (now f3) n ⌝ }
+    ensures { λ r. ⌜ Stays keep (extentsIn (geometryOf g) (now (f1 .entry)) (now (f3 .entry)) n) (tracks (geometryOf g)) (r .whole) (r .start) (r .count) ⌝ }
+{
+    let mut left = keep;
+    let mut e: usize = 0;
+    while e < n {
+        let x = extent_at(f1, f3, e, g.heads);
+        if left < x.count {
+            return Kept {
+                whole: e,
+                start: x.start,
+                count: left,
+            };
+        }
+        left -= x.count;
+        e += 1;
+    }
+    Kept {
+        whole: n,
+        start: 0,
+        count: 0,
+    }
+}
+
+// The lesser of two numbers.
+fn lesser(a: u32, b: u32) -> u32
+    ensures { λ r. ⌜ r ≡ min a b ⌝ }
+{
+    if a < b { a } else { b }
+}
+
+// Makes free the tracks behind the first `keep` tracks of a data set with n extents. An extent that stays whole gives
+// back an empty range, so that there is no case to tell.
+fn give_behind<'a>(
+    f1: &'a [u8],
+    f3: &'a [u8],
+    n: usize,
+    g: forms::Geometry,
+    keep: u32,
+    map: &mut [u64],
+)
+    requires { ⌜ SetIn (geometryOf g) (now f1) (now f3) n × (tracks (geometryOf g) ≤ 64 * length (now map)) ⌝ }
+    ensures { λ _. ⌜ GaveTail keep (extentsIn (geometryOf g) (now (f1 .entry)) (now (f3 .entry)) n) (now (map .entry)) (now (map .exit)) ⌝ }
+{
+    let mut left = keep;
+    let mut e: usize = 0;
+    while e < n {
+        let x = extent_at(f1, f3, e, g.heads);
+        let stay = lesser(left, x.count);
+        let from = (x.start + stay) as usize;
+        let to = (x.start + x.count) as usize;
+        tracks::give_range(map, from, to);
+        left -= stay;
+        e += 1;
+    }
+}
+
+// Makes free the tracks behind the first `keep` tracks of a data set with n extents, and tells what stays of it.
+pub fn give_tail<'a>(
+    f1: &'a [u8],
+    f3: &'a [u8],
+    n: usize,
+    g: forms::Geometry,
+    keep: u32,
+    map: &mut [u64],
+) -> Kept
+    requires { ⌜ SetIn (geometryOf g) (now f1) (now f3) n × (tracks (geometryOf g) ≤ 64 * length (now map)) ⌝ }
+    ensures { λ r. ⌜ GaveTail keep (extentsIn (geometryOf g) (now (f1 .entry)) (now (f3 .entry)) n) (now (map .entry)) (now (map .exit)) × Stays keep (extentsIn (geometryOf g) (now (f1 .entry)) (now (f3 .entry)) n) (tracks (geometryOf g)) (r .whole) (r .start) (r .count) ⌝ }
+{
+    give_behind(f1, f3, n, g, keep, map);
+    cut_at(f1, f3, n, g, keep)
+}
+
+// The format 3 of a label, with its first n extents only; a new one where none of them stands in it.
+fn keep_third(rec: [u8; 140], n: usize) -> [u8; 140]
+    requires { ⌜ n ≤ 16 ⌝ }
+    ensures { λ r. ⌜ ((g : Geometry) (l : Label) → (3 < n → Format3 g l rec) → Format3 g (firstExtents n l) r) ⌝ }
+{
+    if n <= 3 {
+        return labels::empty_three();
+    }
+    labels::keep_extents3(rec, n)
+}
+
+// The records of a label of which this stays. Its format 3 is looked at only where more than three extents stay whole.
+pub fn cut_records(recs: Records, g: forms::Geometry, k: Kept) -> Records
+    requires { ⌜ (k .whole ≤ 16) × (1 ≤ k .count → k .whole < 16) × (k .start + k .count ≤ 65535) × Limits (geometryOf g) ⌝ }
+    ensures { λ r. ⌜ ((l : Label) → k .whole ≤ length (l .extents) → Format1 (geometryOf g) l (recs .one) → (3 < length (l .extents) → Format3 (geometryOf g) l (recs .three)) → InRecords (geometryOf g) (shortened (k .whole) (k .start) (k .count) l) (r .one) (r .three)) ⌝ }
+{
+    let first = recs.one;
+    let third = recs.three;
+    let one = labels::keep_extents1(first, k.whole);
+    let three = keep_third(third, k.whole);
+    let r = Records { one, three };
+    if k.count == 0 {
+        return r;
+    }
+    add_extent(r, g, k.whole, 0x01, k.start, k.count)
+}

@@ -1,0 +1,93 @@
+use native.Mathlib.Omega.{arith}
+use Rattle.settling.proofs.Settled.{full-in, give-low, over-in, yes-in}
+use borrow.Author.Needs.{needs}
+use Rattle.settling.proofs.settle.Statement.{statement}
+use Rattle.settling.proofs.settle.Tie as tie
+
+-- src/lib.rt:137:9
+returns : tie.Need-returns
+returns c = over-in (c .before .before .before .before .args .n) (c .before .before .before .before .args .empty .now) (c .before .before .before .before .args .chain .now) (c .before .before .before .before .args .given .now) (c .before .before .before .before .args .was) (c .before .before .before .before .args .need) (c .before .before .before .before .args .asked) (c .before .before .before .before .pre .3) (c .before .before .before .before .pre .6) (c .if1 .taken)
+
+-- src/lib.rt:139:5
+give-slots-requires : tie.Need-give-slots-requires
+give-slots-requires c κs = (c .before .before .before .before .before .before .pre .3, give-low (c .before .before .before .before .before .before .args .n) _ (c .before .before .before .before .before .before .args .need) (c .before .before .before .before .before .before .args .was) (c .before .before .before .before .before .before .args .chain .now) (c .before .before .before .before .before .before .pre .1) (c .before .before .before .before .before .before .pre .6))
+
+-- src/lib.rt:140:24
+longer-requires : tie.Need-longer-requires
+longer-requires c κs = search needs
+
+-- src/lib.rt:140:16
+add-more : tie.Need-add-more
+add-more c = search needs
+
+-- src/lib.rt:141:15
+count-free-requires : tie.Need-count-free-requires
+count-free-requires c κs = search needs
+
+-- src/lib.rt:142:9
+same-length : tie.Need-same-length
+same-length c = search needs
+
+-- src/lib.rt:142:9
+same-length-2 : tie.Need-same-length-2
+same-length-2 c = search needs
+
+-- src/lib.rt:142:9
+returns-2 : tie.Need-returns-2
+returns-2 c =
+    let l = c .before .before .before .longer .ensures in
+    let f = c .before .count-free .ensures .0 in
+    let u = c .if2 .taken in
+    full-in (c .before .before .before .before .before .before .before .before .before .before .before .before .before .args .n) (c .before .before .before .before .before .before .before .before .before .before .before .before .before .args .empty .now) (c .before .before .before .before .before .before .before .before .before .before .before .before .before .args .chain .now) (c .before .before .before .before .before .before .before .before .before .before .before .before .before .args .given .now) (c .before .before .before .before .before .before .before .before .before .before .before .before .before .args .was) (c .before .before .before .before .before .before .before .before .before .before .before .before .before .args .need) (c .before .before .before .before .before .before .before .before .before .before .before .before .before .args .asked) (c .before .before .before .before .before .before .before .before .before .before .before .before .before .pre .3) (c .before .before .before .before .before .before .before .before .before .before .before .before .before .pre .6) (c .before .before .before .before .before .before .give-slots .last .0) (c .before .before .before .before .before .before .give-slots .ensures) (omega arith)
+
+-- src/lib.rt:144:5
+take-slots-requires : tie.Need-take-slots-requires
+take-slots-requires c κs = search needs
+
+-- src/lib.rt:145:5
+take-slots-requires-2 : tie.Need-take-slots-requires-2
+take-slots-requires-2 c κs = search needs
+
+-- src/lib.rt:124:1
+same-length-3 : tie.Need-same-length-3
+same-length-3 c = search needs
+
+-- src/lib.rt:124:1
+same-length-4 : tie.Need-same-length-4
+same-length-4 c = search needs
+
+-- src/lib.rt:124:1
+same-length-5 : tie.Need-same-length-5
+same-length-5 c = search needs
+
+-- src/lib.rt:124:1
+returns-3 : tie.Need-returns-3
+returns-3 c =
+    let l = c .before .before .before .before .before .before .before .before .before .before .before .before .before .before .before .before .before .longer .ensures in
+    let f = c .before .before .before .before .before .before .before .before .before .before .before .before .before .before .before .count-free .ensures .0 in
+    let u = c .before .before .before .before .before .before .before .before .before .before .before .before .before .before .if2 .left in
+    let v = c .before .before .before .before .before .before .before .before .before .before .before .before .before .before .before .before .before .before .before .before .before .before .before .if1 .left in
+    let p = c .before .before .before .before .before .before .before .before .before .before .before .before .before .before .before .before .before .before .before .before .before .before .before .before .before .before .before .pre .2 in
+    let q = c .before .before .before .before .before .before .before .before .before .before .before .before .before .before .before .before .before .before .before .before .before .before .before .before .before .before .before .pre .4 in
+    let r = c .before .before .before .before .before .before .before .before .before .before .before .before .before .before .before .before .before .before .before .before .before .before .before .before .before .before .before .pre .5 in
+    yes-in (c .before .before .before .before .before .before .before .before .before .before .before .before .before .before .before .before .before .before .before .before .before .before .before .before .before .before .before .args .n) (c .before .before .before .before .before .before .before .before .before .before .before .before .before .before .before .before .before .before .before .before .before .before .before .before .before .before .before .args .empty .now) (c .before .before .before .before .before .before .before .before .before .before .before .before .before .before .before .before .before .before .before .before .before .before .before .before .before .before .before .args .chain .now) (c .before .before .before .before .before .before .before .before .before .before .before .before .before .before .before .before .before .before .before .before .before .before .before .before .before .before .before .args .given .now) (c .before .before .before .before .before .before .before .before .before .before .before .before .before .before .before .before .before .before .before .before .before .before .before .before .before .before .before .args .was) (c .before .before .before .before .before .before .before .before .before .before .before .before .before .before .before .before .before .before .before .before .before .before .before .before .before .before .before .args .need) (c .before .before .before .before .before .before .before .before .before .before .before .before .before .before .before .before .before .before .before .before .before .before .before .before .before .before .before .args .asked) (c .before .before .before .before .before .before .before .before .before .before .before .before .before .before .before .before .before .before .before .before .before .before .before .before .before .before .before .pre .3) (c .before .before .before .before .before .before .before .before .before .before .before .before .before .before .before .before .before .before .before .before .before .before .before .before .before .before .before .pre .6) (c .before .before .before .before .before .before .before .before .before .before .before .before .before .before .before .before .before .before .before .before .give-slots .last .0) (c .before .before .before .before .before .before .before .before .before .before .before .before .before .before .before .before .before .before .before .before .give-slots .ensures)
+    (c .before .before .before .before .before .before .before .before .before .before .before .take-slots .last .0) (c .before .before .before .before .take-slots2 .last .0) (c .before .before .before .before .take-slots2 .last .1 .1 .0) (c .before .before .before .before .before .before .before .before .before .before .before .take-slots .last .1 .1 .0) (c .before .before .before .before .before .before .before .before .before .before .before .take-slots .ensures) (c .before .before .before .before .take-slots2 .ensures) (omega arith) (omega arith) v (omega arith)
+
+pub settle-spec : {M : Type 1} → statement M
+settle-spec =
+    tie.close
+    (tie.spec
+    returns
+    give-slots-requires
+    longer-requires
+    add-more
+    count-free-requires
+    same-length
+    same-length-2
+    returns-2
+    take-slots-requires
+    take-slots-requires-2
+    same-length-3
+    same-length-4
+    same-length-5
+    returns-3)

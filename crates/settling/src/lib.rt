@@ -1,0 +1,147 @@
+// The slots that a change of data sets needs: format 5s that are no longer needed are freed from the chain's end, then the
+// format 1, the format 3 and new format 5s take the lowest free slots. In the map of free slots a bit is set where a slot is
+// free.
+use forms::Geometry;
+use tracks::*;
+ghost use mathlib.Core.Path.{_≡_};
+ghost use mathlib.Core.List.{[], _∷_};
+ghost use Prim.Native.Nat.{_-_, _*_, _≤_, _<_};
+ghost use lib.ListN.{length, take};
+ghost use lib.Seq.{slice};
+ghost use Rattle.model.specs.Model.{fivesFor, slots, total};
+ghost use Rattle.model.proofs.Lists.{All};
+ghost use Rattle.rules.proofs.Valid.{Limits};
+ghost use Rattle.tracks.specs.Map.{freeFrom};
+ghost use Rattle.forms.specs.Forms.{geometryOf};
+ghost use Rattle.settling.specs.Settling.{Chained, Filled, Gave, Lowest, SettlesIn};
+
+// ---- the map of free slots
+
+// How many of the n slots are free.
+pub fn count_free(empty: &[u64], n: usize) -> usize
+    requires { ⌜ n ≤ 64 * length (now empty) ⌝ }
+    ensures { λ r. ⌜ (r ≡ total (freeFrom (now (empty .entry)) n 0)) × (r ≤ n) ⌝ }
+{
+    let mut count: usize = 0;
+    let mut at: usize = 0;
+    while at < n {
+        let free = tracks::next_run(empty, at, n);
+        count += free.to - free.from;
+        at = free.to;
+    }
+    count
+}
+
+// Takes the lowest free slot of n out of the map; n where there is none.
+pub fn take_lowest(empty: &mut [u64], n: usize) -> usize
+    requires { ⌜ n ≤ 64 * length (now empty) ⌝ }
+    ensures { λ r. ⌜ Lowest n (now (empty .entry)) (now (empty .exit)) (r ∷ []) × (r ≤ n) ⌝ }
+{
+    let free = tracks::next_run(empty, 0, n);
+    let k = free.from;
+    if k >= n {
+        return n;
+    }
+    tracks::take_range(empty, k, k + 1);
+    k
+}
+
+// Fills the places from a up to b with the lowest free slots of n, which leave the map.
+pub fn take_slots(empty: &mut [u64], n: usize, into: &mut [u16], a: usize, b: usize)
+    requires { ⌜ (n ≤ 64 * length (now empty)) × (n ≤ 65535) × (b ≤ length (now into)) ⌝ }
+    ensures { λ _. ⌜ Filled n (now (empty .entry)) (now (empty .exit)) (now (into .entry)) (now (into .exit)) a b ⌝ }
+{
+    let mut i = a;
+    while i < b {
+        into[i] = take_lowest(empty, n) as u16;
+        i += 1;
+    }
+}
+
+// A slot of a chain as a number.
+fn wide(k: u16) -> usize
+    ensures { λ r. ⌜ (r ≡ k) × (r < 65536) ⌝ }
+{
+    k as usize
+}
+
+// Makes the slots that stand from a up to b free.
+pub fn give_slots(empty: &mut [u64], chain: &[u16], a: usize, b: usize)
+    requires { ⌜ (b ≤ length (now chain)) × All (λ k. k < 64 * length (now empty)) (slice a b (now chain)) ⌝ }
+    ensures { λ _. ⌜ Gave (now (empty .entry)) (now (empty .exit)) (slice a b (now (chain .entry))) ⌝ }
+{
+    let mut i = a;
+    while i < b {
+        let k = wide(chain[i]);
+        tracks::give_range(empty, k, k + 1);
+        i += 1;
+    }
+}
+
+// ---- the chain of format 5s
+
+// How many format 5s hold f free extents: 26 to each, and one where there are none.
+pub fn fives_for(f: usize) -> usize
+    requires { ⌜ f ≤ 65535 ⌝ }
+    ensures { λ r. ⌜ r ≡ fivesFor f ⌝ }
+{
+    if f == 0 {
+        return 1;
+    }
+    (f + 25) / 26
+}
+
+// Reads the slots of the first `count` members of a table's chain. In a table that is not sound they are some slots of it.
+pub fn read_chain(table: &[u8], g: Geometry, count: usize, chain: &mut [u16])
+    requires { ⌜ Limits (geometryOf g) × (length (now table) ≡ 140 * slots (geometryOf g)) × (count ≤ length (now chain)) ⌝ }
+    ensures { λ _. ⌜ Chained (geometryOf g) (now (table .entry)) (now (chain .entry)) (now (chain .exit)) count ⌝ }
+{
+    let n = (g.tracks * g.records) as usize;
+    let mut k: usize = 1;
+    let mut i: usize = 0;
+    while i < count {
+        chain[i] = k as u16;
+        let rec = fields::record_at(table, k);
+        k = fields::slot_of(&rec[135..140], g.heads, g.records, g.start, n);
+        i += 1;
+    }
+}
+
+// ---- settled
+
+// How much longer a chain of `was` must be.
+fn longer(was: usize, need: usize) -> usize
+    ensures { λ r. ⌜ r ≡ need - was ⌝ }
+{
+    if need < was {
+        return 0;
+    }
+    need - was
+}
+
+// Makes the chain of `was` slots one of `need`, and fills `given` with the `asked` slots that labels take, which come first.
+// False: VTOC full. More format 5s than slots are refused at once, since `chain` need not have room for them.
+pub fn settle(
+    empty: &mut [u64],
+    n: usize,
+    chain: &mut [u16],
+    was: usize,
+    need: usize,
+    given: &mut [u16],
+    asked: usize,
+) -> bool
+    requires { ⌜ (n ≤ 468) × (n ≤ 64 * length (now empty)) × (n ≤ length (now chain)) × (was ≤ length (now chain)) × (asked ≤ 2) × (length (now given) ≡ 2) × All (λ k. k < n) (take was (now chain)) ⌝ }
+    ensures { λ r. ⌜ SettlesIn n (now (empty .entry)) (now (empty .exit)) (now (chain .entry)) (now (chain .exit)) (now (given .entry)) (now (given .exit)) was need asked r ⌝ }
+{
+    if need > n {
+        return false;
+    }
+    give_slots(empty, chain, need, was);
+    let more = asked + longer(was, need);
+    if more > count_free(empty, n) {
+        return false;
+    }
+    take_slots(empty, n, given, 0, asked);
+    take_slots(empty, n, chain, was, need);
+    true
+}

@@ -1,0 +1,261 @@
+/*
+ * host.c: a week on a survey volume, as an emulator would live it with the VTOC space manager.
+ *
+ *   rt staticlib vtoc && cc -std=c99 -Iinclude examples/host.c target/staticlib/libvtoc.a -o target/host
+ *   target/host target/week.vtoc && target/bin/vtlist < target/week.vtoc
+ *
+ * The volume is a 3330 pack: 404 cylinders of 19 tracks, a VTOC of two tracks with 39 records each from track 1. The program
+ * prints what it does in clear words, and ends with status 1 where a call answers otherwise than the week needs. At the end it
+ * writes the table to the file named by its argument, for vtlist.
+ */
+#include <stdarg.h>
+#include <stdio.h>
+#include <stdlib.h>
+#include <string.h>
+
+#include "vtoc.h"
+
+enum { CYLINDERS = 404, HEADS = 19, RECORDS_A_TRACK = 39, VTOC_START = 1, VTOC_LENGTH = 2 };
+
+static uint8_t table[VTOC_LENGTH * RECORDS_A_TRACK * VTOC_RECORD_LENGTH];
+static uint8_t answer[VTOC_ANSWER_LENGTH];
+static uint8_t before[sizeof table]; /* the table as it was before a call */
+
+/* ---- Names: ASCII to EBCDIC ---------------------------------------------------------------------------------------------- */
+
+/* The EBCDIC of a character that a name may hold; X'00', which no name holds, for any other. */
+static uint8_t ebcdic(char c)
+{
+    static const char ascii[] = "ABCDEFGHIJKLMNOPQRSTUVWXYZ0123456789$#@-.";
+    static const uint8_t codes[] = {
+        0xC1, 0xC2, 0xC3, 0xC4, 0xC5, 0xC6, 0xC7, 0xC8, 0xC9, /* A to I */
+        0xD1, 0xD2, 0xD3, 0xD4, 0xD5, 0xD6, 0xD7, 0xD8, 0xD9, /* J to R */
+        0xE2, 0xE3, 0xE4, 0xE5, 0xE6, 0xE7, 0xE8, 0xE9,       /* S to Z */
+        0xF0, 0xF1, 0xF2, 0xF3, 0xF4, 0xF5, 0xF6, 0xF7, 0xF8, 0xF9,
+        0x5B, 0x7B, 0x7C, 0x60, 0x4B};
+    const char *found = c == '\0' ? NULL : strchr(ascii, c);
+    return found == NULL ? 0x00 : codes[found - ascii];
+}
+
+/* The 44 bytes of a name: the text, then blanks. A text that is too long becomes a name that every call refuses. */
+static void make_name(uint8_t name[VTOC_NAME_LENGTH], const char *text)
+{
+    size_t length = strlen(text);
+    memset(name, length <= VTOC_NAME_LENGTH ? 0x40 : 0x00, VTOC_NAME_LENGTH);
+    for (size_t i = 0; i < length && i < VTOC_NAME_LENGTH; i++)
+        name[i] = ebcdic(text[i]);
+}
+
+/* ---- What the operator reads --------------------------------------------------------------------------------------------- */
+
+static const char *word_of(uint32_t result)
+{
+    static const char *const words[] = {"accepted",  "geometry", "length",       "VTOC unsound", "name",    "not found",
+                                        "duplicate", "amount",   "no secondary", "no space",     "extents", "VTOC full",
+                                        "TTR"};
+    return result < sizeof words / sizeof words[0] ? words[result] : "unknown result";
+}
+
+static void print_track(uint32_t track)
+{
+    printf("%lu (cylinder %lu, head %lu)", (unsigned long)track, (unsigned long)(track / HEADS), (unsigned long)(track % HEADS));
+}
+
+/* The pieces of a grant, from the answer. */
+static void print_pieces(void)
+{
+    for (uint32_t i = 0; i < vtoc_answer_pieces(answer); i++) {
+        printf("      piece %lu: %lu tracks from track ", (unsigned long)i + 1, (unsigned long)vtoc_answer_count(answer, i));
+        print_track(vtoc_answer_start(answer, i));
+        printf("\n");
+    }
+}
+
+static void check(int holds, const char *what)
+{
+    if (!holds) {
+        printf("   not so: %s\n", what);
+        exit(EXIT_FAILURE);
+    }
+}
+
+/* A line about the call that follows, and a copy of the table to compare with where it is refused. */
+static void say(const char *format, ...)
+{
+    va_list words;
+    printf("   ");
+    va_start(words, format);
+    vprintf(format, words);
+    va_end(words);
+    printf("\n");
+    memcpy(before, table, sizeof table);
+}
+
+/* Ends the program where a call answered otherwise than the week needs. */
+static void expect(uint32_t result, uint32_t wanted)
+{
+    if (result != wanted) {
+        printf("   refusal %lu (%s) where %lu (%s) was expected: the week ends here\n", (unsigned long)result, word_of(result),
+               (unsigned long)wanted, word_of(wanted));
+        exit(EXIT_FAILURE);
+    }
+    if (result != VTOC_OK) {
+        check(memcmp(table, before, sizeof table) == 0, "a refusal writes no byte");
+        printf("      refused, %lu: %s; no byte was written\n", (unsigned long)result, word_of(result));
+    }
+}
+
+/* ---- The calls with the volume's one table and text for names ------------------------------------------------------------ */
+
+static void allocate(const char *text, uint32_t kind, uint32_t start, uint32_t amount, uint32_t secondary, uint32_t wanted)
+{
+    static const char *const units[] = {"tracks", "cylinders", "tracks from an absolute start"};
+    uint8_t name[VTOC_NAME_LENGTH];
+    uint8_t attributes[VTOC_ATTRIBUTES_LENGTH] = {0}; /* a real host fills in dates, organisation, block sizes */
+    uint32_t result;
+    make_name(name, text);
+    say("allocate %s, %lu %s, secondary %lu", text, (unsigned long)amount, units[kind], (unsigned long)secondary);
+    result = vtoc_allocate(table, sizeof table, name, sizeof name, attributes, sizeof attributes, kind, start, amount, secondary,
+                           answer, sizeof answer);
+    expect(result, wanted);
+    if (result == VTOC_OK)
+        print_pieces();
+}
+
+static void extend(const char *text, uint32_t wanted)
+{
+    uint8_t name[VTOC_NAME_LENGTH];
+    uint32_t result;
+    make_name(name, text);
+    say("extend %s", text);
+    result = vtoc_extend(table, sizeof table, name, sizeof name, answer, sizeof answer);
+    expect(result, wanted);
+    if (result == VTOC_OK)
+        print_pieces();
+}
+
+static void release(const char *text, uint32_t tt, uint32_t r, uint32_t wanted)
+{
+    uint8_t name[VTOC_NAME_LENGTH];
+    uint32_t result;
+    make_name(name, text);
+    say("release %s after its last block, track %lu of the data set, record %lu", text, (unsigned long)tt, (unsigned long)r);
+    result = vtoc_release(table, sizeof table, name, sizeof name, vtoc_ttr(tt, r), answer, sizeof answer);
+    expect(result, wanted);
+    if (result == VTOC_OK)
+        printf("      %lu tracks given back\n", (unsigned long)vtoc_answer_tracks(answer));
+}
+
+static void scratch(const char *text, uint32_t wanted)
+{
+    uint8_t name[VTOC_NAME_LENGTH];
+    uint32_t result;
+    make_name(name, text);
+    say("scratch %s", text);
+    result = vtoc_scratch(table, sizeof table, name, sizeof name, answer, sizeof answer);
+    expect(result, wanted);
+    if (result == VTOC_OK)
+        printf("      %lu tracks given back\n", (unsigned long)vtoc_answer_tracks(answer));
+}
+
+static void rename_set(const char *old_text, const char *new_text, uint32_t wanted)
+{
+    uint8_t old_name[VTOC_NAME_LENGTH], new_name[VTOC_NAME_LENGTH]; /* two buffers: they must not overlap */
+    make_name(old_name, old_text);
+    make_name(new_name, new_text);
+    say("rename %s to %s", old_text, new_text);
+    expect(vtoc_rename(table, sizeof table, old_name, sizeof old_name, new_name, sizeof new_name, answer, sizeof answer), wanted);
+}
+
+/* Reads the labels of a data set and prints its extents, which lie in the format 1 and, from the fourth on, in the format 3. */
+static void obtain(const char *text)
+{
+    uint8_t name[VTOC_NAME_LENGTH], labels[VTOC_LABELS_LENGTH];
+    make_name(name, text);
+    say("obtain %s", text);
+    expect(vtoc_obtain(table, sizeof table, name, sizeof name, labels, sizeof labels, answer, sizeof answer), VTOC_OK);
+    for (unsigned e = 0; e < labels[59]; e++) {
+        const uint8_t *extent = e < 3   ? labels + 105 + 10 * e
+                                : e < 7 ? labels + VTOC_RECORD_LENGTH + 4 + 10 * (e - 3)
+                                        : labels + VTOC_RECORD_LENGTH + 45 + 10 * (e - 7);
+        printf("      extent %u: cylinder %d head %d to cylinder %d head %d%s\n", (unsigned)extent[1], extent[2] << 8 | extent[3],
+               extent[4] << 8 | extent[5], extent[6] << 8 | extent[7], extent[8] << 8 | extent[9],
+               extent[0] == 0x81 ? ", whole cylinders" : "");
+    }
+}
+
+static unsigned long space_number(uint32_t which)
+{
+    return vtoc_answer_space(answer, which);
+}
+
+static void space(void)
+{
+    say("space inquiry");
+    expect(vtoc_lspace(table, sizeof table, answer, sizeof answer), VTOC_OK);
+    printf("      free: %lu cylinders and %lu tracks in %lu extents, the longest %lu cylinders and %lu tracks; %lu records\n",
+           space_number(VTOC_SPACE_CYLINDERS), space_number(VTOC_SPACE_ODD_TRACKS), space_number(VTOC_SPACE_EXTENTS),
+           space_number(VTOC_SPACE_LONGEST_CYLINDERS), space_number(VTOC_SPACE_LONGEST_ODD), space_number(VTOC_SPACE_RECORDS));
+}
+
+/* ---- The week ------------------------------------------------------------------------------------------------------------ */
+
+int main(int count, char **arguments)
+{
+    const char *path = count > 1 ? arguments[1] : "week.vtoc";
+    FILE *file;
+    uint32_t freed_track;
+
+    printf("Monday: a new volume, and the survey's files\n");
+    say("initialise %d cylinders of %d tracks", CYLINDERS, HEADS);
+    expect(vtoc_initialise(table, sizeof table, CYLINDERS, HEADS, RECORDS_A_TRACK, VTOC_START, VTOC_LENGTH, answer, sizeof answer),
+           VTOC_OK);
+    space();
+    allocate("SURVEY.STRIP01", VTOC_CYLINDERS, 0, 60, 24, VTOC_OK);
+    allocate("SURVEY.NAV", VTOC_CYLINDERS, 0, 20, 0, VTOC_OK);
+    allocate("SURVEY.WEATHER", VTOC_CYLINDERS, 0, 12, 0, VTOC_OK);
+    allocate("SURVEY.PHOTO", VTOC_CYLINDERS, 0, 150, 0, VTOC_OK);
+    allocate("SURVEY.TRIAL", VTOC_CYLINDERS, 0, 14, 0, VTOC_OK);
+    allocate("SURVEY.BASE", VTOC_CYLINDERS, 0, 147, 0, VTOC_OK);
+    allocate("SURVEY.LABEL", VTOC_ABSOLUTE, 3, 4, 0, VTOC_OK);
+
+    printf("Tuesday: the strip is full, and so is the volume\n");
+    extend("SURVEY.STRIP01", VTOC_E_NO_SPACE);
+    scratch("SURVEY.WEATHER", VTOC_OK);
+    scratch("SURVEY.TRIAL", VTOC_OK);
+    say("two gaps now lie between the other files, and the strip grows into both");
+    extend("SURVEY.STRIP01", VTOC_OK);
+    check(vtoc_answer_pieces(answer) == 2 && vtoc_answer_tracks(answer) == 24 * HEADS, "24 cylinders in two pieces");
+    extend("SURVEY.NAV", VTOC_E_NO_SECONDARY);
+
+    printf("Wednesday: the flight has a number\n");
+    rename_set("SURVEY.STRIP01", "SURVEY.PHOTO", VTOC_E_DUPLICATE);
+    rename_set("SURVEY.STRIP01", "SURVEY.FLT0317.STRIP01", VTOC_OK);
+    rename_set("SURVEY.STRIP01", "SURVEY.STRIP02", VTOC_E_NOT_FOUND);
+    allocate("SURVEY.STRIP 02", VTOC_TRACKS, 0, 5, 0, VTOC_E_NAME);
+
+    printf("Thursday: what the strip does not use goes to others\n");
+    obtain("SURVEY.FLT0317.STRIP01");
+    release("SURVEY.FLT0317.STRIP01", 2000, 1, VTOC_E_TTR);
+    release("SURVEY.FLT0317.STRIP01", 1349, 7, VTOC_OK);
+    obtain("SURVEY.FLT0317.STRIP01");
+    space();
+    freed_track = 243 * HEADS + (1350 - 60 * HEADS); /* the first one after the strip's second extent */
+    say("56 tracks fit the gap that the release left behind the strip, and are granted there:");
+    allocate("SURVEY.INDEX", VTOC_TRACKS, 0, 56, 8, VTOC_OK);
+    check(vtoc_answer_pieces(answer) == 1 && vtoc_answer_start(answer, 0) == freed_track && vtoc_answer_count(answer, 0) == 56,
+          "SURVEY.INDEX has the very tracks that the strip gave back");
+
+    printf("Friday: room for the next week\n");
+    scratch("SURVEY.PHOTO", VTOC_OK);
+    scratch("SURVEY.PHOTO", VTOC_E_NOT_FOUND);
+    space();
+
+    file = fopen(path, "wb");
+    if (file == NULL || fwrite(table, 1, sizeof table, file) != sizeof table || fclose(file) != 0) {
+        perror(path);
+        return EXIT_FAILURE;
+    }
+    printf("The table is written to the file; vtlist lists it.\n");
+    return EXIT_SUCCESS;
+}

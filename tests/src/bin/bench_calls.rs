@@ -1,0 +1,154 @@
+//! The library beside the reference, call by call, in one run: a Markdown page with a ratio for
+//! each row. `bench_calls` makes docs/PERFORMANCE.md; `bench_calls --short` is quick and rough.
+
+use std::fs::read_to_string;
+use std::hint::black_box;
+
+use vtoc_tests::call::{Buffers, Call, Manager, Reference};
+use vtoc_tests::desk::attributes;
+use vtoc_tests::generate::glance::glance;
+use vtoc_tests::library::Library;
+use vtoc_tests::timing::time_both_on_copies;
+use vtoc_tests::volumes::{many_extents, many_names, medium, name, place, set_name, small};
+
+const HEAD: &str = "# Performance
+
+Made by this command, in one run, the two sides taking turns (`--short` in place of the file for a quick look):
+
+    rt staticlib vtoc
+    cargo run --release --manifest-path tests/Cargo.toml --features library --bin bench_calls > docs/PERFORMANCE.md
+
+Microseconds for one call through the C interface: the proved library and, beside it, the unrelated implementation of tests/
+(Rust, release build, bitmaps and a hash of names). Each call works on a copy of the table made before the clock starts; the
+best of many batches counts. Ratio: library / unrelated; below 1 the library is faster. Both check the whole table first.
+";
+
+struct Volume {
+    title: &'static str,
+    table: Vec<u8>,
+    /// The set that is released, scratched, renamed and read, and where it is released.
+    present: String,
+    ttr: u32,
+}
+
+/// The volume with one set more, which can be extended and released.
+fn volume(title: &'static str, mut table: Vec<u8>) -> Volume {
+    place(&mut table, "BENCH.SET", 0, 0, 2, 1);
+    Volume { title, table, present: "BENCH.SET".into(), ttr: 1 }
+}
+
+fn volumes() -> [Volume; 4] {
+    let extents = volume("large, many extents", many_extents());
+    [
+        volume("small", small()),
+        volume("medium", medium()),
+        volume("large, many names", many_names()),
+        Volume { present: set_name(150), ttr: 1, ..extents },
+    ]
+}
+
+impl Volume {
+    fn allocation(&self, kind: u32, amount: u32) -> Call {
+        let (name, attributes) = (name("BENCH.FRESH").to_vec(), attributes(3));
+        Call::Allocate { name, attributes, kind, start: 0, amount, secondary: 1 }
+    }
+
+    /// The calls to time, each with the result that it must have.
+    fn calls(&self) -> Vec<(&'static str, Call, u32)> {
+        let g = glance(&self.table).expect("sound").geometry;
+        let (c, h, d) = (g.cylinders, g.heads, g.per_track);
+        let (s, v) = (g.vtoc_start, g.vtoc_tracks);
+        let present = || name(&self.present).to_vec();
+        vec![
+            ("initialise", Call::Initialise { c, h, d, s, v }, 0),
+            ("allocate, tracks", self.allocation(0, 1), 0),
+            ("allocate, cylinders", self.allocation(1, 1), 0),
+            ("allocate, refused 9", self.allocation(0, 65_535), 9),
+            ("extend", Call::Extend { name: name("BENCH.SET").to_vec() }, 0),
+            ("release", Call::Release { name: present(), ttr: self.ttr }, 0),
+            ("scratch", Call::Scratch { name: present() }, 0),
+            ("rename", Call::Rename { old: present(), new: name("BENCH.FRESH").to_vec() }, 0),
+            ("obtain", Call::Obtain { name: present() }, 0),
+            ("lspace", Call::Lspace, 0),
+        ]
+    }
+
+    fn describe(&self) -> String {
+        let glance = glance(&self.table).expect("sound");
+        let extents: usize = glance.sets.iter().map(|set| set.extents.len()).sum();
+        format!(
+            "{}: {} records, {} tracks, {} data sets with {extents} extents, {} free extents",
+            self.title,
+            self.table.len() / 140,
+            glance.geometry.tracks(),
+            glance.sets.len(),
+            glance.holes.len()
+        )
+    }
+}
+
+/// Makes the call on a table that is lent, with output buffers of its own.
+fn make(manager: &impl Manager, call: &Call, table: &mut [u8], wanted: u32) {
+    let (mut answer, mut labels) = ([0; 24], [0; 280]);
+    let (answer, labels) = (&mut answer[..], &mut labels[..]);
+    let result = match call {
+        &Call::Initialise { c, h, d, s, v } => manager.initialise(table, c, h, d, s, v, answer),
+        Call::Allocate { name, attributes, kind, start, amount, secondary } => {
+            manager.allocate(table, name, attributes, *kind, *start, *amount, *secondary, answer)
+        }
+        Call::Extend { name } => manager.extend(table, name, answer),
+        Call::Release { name, ttr } => manager.release(table, name, *ttr, answer),
+        Call::Scratch { name } => manager.scratch(table, name, answer),
+        Call::Rename { old, new } => manager.rename(table, old, new, answer),
+        Call::Obtain { name } => manager.obtain(table, name, labels, answer),
+        Call::Lspace => manager.lspace(table, answer),
+    };
+    assert_eq!(black_box(result), wanted);
+}
+
+/// Both leave the same bytes, or a ratio means nothing.
+fn compare(call: &Call, table: &[u8]) {
+    let before = Buffers::new(table.to_vec(), 24, 280);
+    let (mut one, mut other) = (before.clone(), before);
+    assert_eq!(call.run(&Library, &mut one), call.run(&Reference, &mut other));
+    assert!(one == other, "the two differ: {call:?}");
+}
+
+fn processor() -> String {
+    let text = read_to_string("/proc/cpuinfo").unwrap_or_default();
+    let line = text.lines().find_map(|line| line.strip_prefix("model name"));
+    line.map_or("an unknown processor", |line| line.trim_start_matches([' ', '\t', ':'])).into()
+}
+
+fn main() {
+    let short = std::env::args().nth(1).is_some_and(|word| word == "--short");
+    let batches = if short { 30 } else { 400 };
+    if !short {
+        println!("{HEAD}\nProcessor: {}. Volumes:", processor());
+    }
+    let volumes = volumes();
+    for volume in &volumes {
+        println!("- {}", volume.describe());
+    }
+    println!("\n| Volume | Call | Library | Unrelated | Ratio |\n|---|---|---:|---:|---:|");
+    let (mut worst, mut logs, mut rows) = (0.0_f64, 0.0, 0.0);
+    for volume in &volumes {
+        let Volume { title, table, .. } = volume;
+        for (what, call, wanted) in volume.calls() {
+            compare(&call, table);
+            let [library, reference] = time_both_on_copies(
+                table,
+                batches,
+                |table| make(&Library, &call, table, wanted),
+                |table| make(&Reference, &call, table, wanted),
+            );
+            let ratio = library / reference;
+            worst = worst.max(ratio);
+            logs += ratio.ln();
+            rows += 1.0;
+            println!("| {title} | {what} | {library:.2} | {reference:.2} | {ratio:.2} |");
+        }
+    }
+    let mean = f64::exp(logs / rows);
+    println!("\nHighest ratio {worst:.2}, geometric mean of all rows {mean:.2}.");
+}

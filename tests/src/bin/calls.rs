@@ -1,0 +1,290 @@
+//! The library beside the reference, call by call: result, answer, labels and every byte of the
+//! table, and that nothing else was written. `calls [--calls N] [--seed S] [--plant FAULT]`.
+//! Prints what was called and answered; fails at the first difference, or where too little was
+//! seen. A planted fault must make it fail.
+
+use std::path::Path;
+use std::process::ExitCode;
+use std::sync::atomic::{AtomicPtr, Ordering};
+
+use vtoc_tests::beside::{both, Rooms};
+use vtoc_tests::call::{Buffers, Call, Manager, Reference};
+use vtoc_tests::cases::sequences;
+use vtoc_tests::coverage::Coverage;
+use vtoc_tests::desk::Row;
+use vtoc_tests::faulty::{Faulty, FAULTS};
+use vtoc_tests::generate::damage::{damage, DAMAGES};
+use vtoc_tests::generate::grids;
+use vtoc_tests::generate::rng::Rng;
+use vtoc_tests::generate::session::{Origin, Session, Trial};
+use vtoc_tests::generate::shapes::Shape;
+use vtoc_tests::library::Library;
+use vtoc_tests::replay::Player;
+use vtoc_tests::volumes::{many_extents, many_names, medium, small};
+
+/// Calls in all where no number is given, the number from which on a run must have seen
+/// everything, and the fewest with each result of each call.
+const CALLS: usize = 250_000;
+const WHOLE: usize = 100_000;
+const EACH: usize = 10;
+
+/// The call being made, for `past_a_buffer`.
+static CURRENT: AtomicPtr<Call> = AtomicPtr::new(std::ptr::null_mut());
+
+extern "C" {
+    fn signal(number: i32, handler: extern "C" fn(i32)) -> usize;
+    fn _exit(status: i32) -> !;
+}
+
+/// Says which call read or wrote a page that it may not, and ends the program.
+extern "C" fn past_a_buffer(_: i32) {
+    // SAFETY: the call is borrowed by the function that is making it.
+    let call = unsafe { CURRENT.load(Ordering::Relaxed).as_ref() };
+    println!("DIFFERENCE: a read or write past a lent buffer\n  {call:02X?}");
+    unsafe { _exit(1) }
+}
+
+fn watch_for_signals() {
+    const SIGSEGV: i32 = 11;
+    // SAFETY: the handler ends the program.
+    unsafe { signal(SIGSEGV, past_a_buffer) };
+}
+
+/// Both sides, and what they were asked.
+struct Beside<'a, M> {
+    library: &'a M,
+    coverage: Coverage,
+    rooms: Rooms,
+    sides: Sides,
+    calls: usize,
+}
+
+/// At which end of its room each buffer lies: at random, or, for a library with a planted fault,
+/// so that a byte written after the table or before the answer is seen and does not end the run.
+enum Sides {
+    Any(Rng),
+    Planted,
+}
+
+impl<'a, M: Manager> Beside<'a, M> {
+    fn new(library: &'a M, sides: Sides) -> Beside<'a, M> {
+        Beside { library, coverage: Coverage::default(), rooms: Rooms::new(), sides, calls: 0 }
+    }
+
+    /// Makes a call of both and counts it; the table as it was left.
+    fn call(
+        &mut self, call: &Call, buffers: &Buffers, origin: Origin, place: &str,
+    ) -> Result<Vec<u8>, String> {
+        let sides = match &mut self.sides {
+            Sides::Any(rng) => rng.word(),
+            Sides::Planted => 0b10,
+        };
+        let rooms = &mut self.rooms;
+        CURRENT.store((call as *const Call).cast_mut(), Ordering::Relaxed);
+        let answered = both(self.library, call, buffers, rooms, sides).map_err(|difference| {
+            format!("{difference}\n  {place}, call {}: {call:02X?}", self.calls)
+        })?;
+        self.calls += 1;
+        match origin {
+            Origin::Changed => self.coverage.count_changed(call, answered.result),
+            Origin::Live | Origin::Probe => self.coverage.count(call, answered.result),
+        }
+        let after = answered.buffers;
+        if answered.result == 0 && origin != Origin::Changed {
+            self.coverage.count_effect(call, &buffers.table, &after.table, &after.answer);
+        }
+        Ok(after.table)
+    }
+
+    /// Scripted sequences: Volume A, blunders, refusals, chains, damaged tables.
+    fn scripted(&mut self) -> Result<(), String> {
+        for sequence in sequences() {
+            let mut table = vec![];
+            for row in &sequence.desk.rows {
+                match row {
+                    Row::Made { call, before, after, .. } => {
+                        let buffers = Buffers::new(before.clone(), 24, 280);
+                        self.call(call, &buffers, Origin::Live, sequence.title)?;
+                        table.clone_from(after);
+                    }
+                    Row::Hurt { patches, call, .. } => {
+                        let mut buffers = Buffers::new(table.clone(), 24, 280);
+                        patches.iter().for_each(|&(at, byte)| buffers.table[at] = byte);
+                        self.call(call, &buffers, Origin::Changed, sequence.title)?;
+                    }
+                    Row::Sized { table: len, answer, labels, call, .. } => {
+                        let mut buffers = Buffers::new(table.clone(), *answer, *labels);
+                        buffers.table.resize(*len, 0);
+                        self.call(call, &buffers, Origin::Changed, sequence.title)?;
+                    }
+                }
+            }
+        }
+        Ok(())
+    }
+
+    /// The stored recording, through the library; the table is its own from call to call.
+    fn recorded(&mut self) -> Result<(), String> {
+        let path = Path::new(env!("CARGO_MANIFEST_DIR")).join("../crates/replay/stdin");
+        let recording = std::fs::read(&path).map_err(|e| format!("{}: {e}", path.display()))?;
+        let (mut one, mut other) = (Player::new(self.library), Player::new(&Reference));
+        for (k, record) in recording.as_chunks().0.iter().enumerate() {
+            let (is, must) = (one.play(record), other.play(record));
+            if is != must || one.table != other.table {
+                let [is, must] = [is, must].map(|line| String::from_utf8_lossy(&line).into_owned());
+                return Err(format!("record {k} of crates/replay/stdin\n  {is}  {must}"));
+            }
+        }
+        Ok(())
+    }
+
+    fn grids(&mut self) -> Result<(), String> {
+        let grids = [
+            ("lengths", grids::lengths()),
+            ("bytes of names", grids::name_bytes()),
+            ("amounts", grids::amounts()),
+            ("TTRs", grids::ttrs()),
+            ("geometries", grids::geometries()),
+        ];
+        for (place, rows) in grids {
+            for (call, buffers) in rows {
+                self.call(&call, &buffers, Origin::Probe, place)?;
+            }
+        }
+        Ok(())
+    }
+
+    /// Large and worn volumes with each kind of damage, and a call aimed at the whole one.
+    fn damaged(&mut self, rng: &mut Rng) -> Result<(), String> {
+        let tables = [small(), medium(), many_names(), many_extents(), grids::sixteen()];
+        for table in &tables {
+            for (&kind, turn) in DAMAGES.iter().cycle().zip(0..3 * DAMAGES.len()) {
+                let Some(hurt) = damage(rng, table, kind) else { continue };
+                let mut session = Session::on(rng.word(), table, Shape::Cylinders);
+                let trial = session.next_trial();
+                let buffers = Buffers { table: hurt, ..trial.buffers };
+                self.call(&trial.call, &buffers, Origin::Changed, &format!("{kind:?} {turn}"))?;
+            }
+        }
+        Ok(())
+    }
+
+    /// A volume's life: most calls stay, the table that the library left is the next one's.
+    fn life(&mut self, mut session: Session, calls: usize, place: &str) -> Result<(), String> {
+        for _ in 0..calls {
+            let trial = session.next_trial();
+            let Trial { call, buffers, origin } = &trial;
+            let after = self.call(call, buffers, *origin, place)?;
+            session.keep(&trial, after);
+        }
+        Ok(())
+    }
+
+    fn run(&mut self, calls: usize, seed: u64) -> Result<(), String> {
+        let mut rng = Rng::new(seed);
+        self.scripted()?;
+        self.recorded()?;
+        self.grids()?;
+        self.damaged(&mut rng)?;
+        for (table, place) in [
+            (medium(), "medium"),
+            (many_names(), "many names"),
+            (many_extents(), "many extents"),
+            (grids::sixteen(), "sixteen extents"),
+            (grids::tight(), "tight"),
+        ] {
+            for shape in [Shape::Cylinders, Shape::Worn] {
+                self.life(Session::on(rng.word(), &table, shape), 300, place)?;
+            }
+        }
+        while self.calls < calls {
+            let seed = rng.word();
+            let session = Session::new(seed);
+            let most = if session.shape == Shape::Large { 60 } else { 250 };
+            let place = format!("session {seed}, {:?}", session.shape);
+            self.life(session, most.min(calls - self.calls), &place)?;
+        }
+        Ok(())
+    }
+
+    /// What was seen too seldom.
+    fn missing(&self) -> Vec<String> {
+        let mut missing = self.coverage.missing(&[]);
+        missing.extend(self.coverage.missing_wide());
+        for (&(call, result), &count) in &self.coverage.results {
+            if count < EACH {
+                missing.push(format!("{} {result}: {count}", vtoc_tests::call::CALL_NAMES[call]));
+            }
+        }
+        missing
+    }
+}
+
+/// Each fault planted in the library must be noticed within a short run.
+fn notices(fault: vtoc_tests::faulty::Fault) -> bool {
+    let library = Faulty { manager: &Library, fault };
+    let mut beside = Beside::new(&library, Sides::Planted);
+    beside.life(Session::new(1), 300, "planted").is_err()
+}
+
+struct Arguments {
+    calls: usize,
+    seed: u64,
+    plant: Option<String>,
+}
+
+fn arguments() -> Option<Arguments> {
+    let mut found = Arguments { calls: CALLS, seed: 1, plant: None };
+    let mut words = std::env::args().skip(1);
+    while let Some(word) = words.next() {
+        let value = words.next()?;
+        match word.as_str() {
+            "--calls" => found.calls = value.parse().ok()?,
+            "--seed" => found.seed = value.parse().ok()?,
+            "--plant" => found.plant = Some(value),
+            _ => return None,
+        }
+    }
+    Some(found)
+}
+
+fn report<M: Manager>(library: &M, sides: Sides, calls: usize, seed: u64) -> ExitCode {
+    let mut beside = Beside::new(library, sides);
+    let outcome = beside.run(calls, seed);
+    print!("{}", beside.coverage);
+    println!("calls {}, seed {seed}", beside.calls);
+    if let Err(difference) = outcome {
+        println!("DIFFERENCE: {difference}");
+        return ExitCode::FAILURE;
+    }
+    let missing = beside.missing();
+    if calls >= WHOLE && !missing.is_empty() {
+        println!("too few: {}", missing.join(", "));
+        return ExitCode::FAILURE;
+    }
+    println!("all alike: results, answers, labels, tables; nothing else was written");
+    ExitCode::SUCCESS
+}
+
+fn main() -> ExitCode {
+    let Some(Arguments { calls, seed, plant }) = arguments() else {
+        eprintln!("usage: calls [--calls N] [--seed S] [--plant FAULT]");
+        return ExitCode::from(2);
+    };
+    watch_for_signals();
+    if let Some(text) = plant {
+        let Some(&fault) = FAULTS.iter().find(|fault| format!("{fault:?}") == text) else {
+            eprintln!("faults: {FAULTS:?}");
+            return ExitCode::from(2);
+        };
+        return report(&Faulty { manager: &Library, fault }, Sides::Planted, calls, seed);
+    }
+    for fault in FAULTS {
+        if !notices(fault) {
+            println!("a planted fault was not noticed: {fault:?}");
+            return ExitCode::FAILURE;
+        }
+    }
+    println!("planted faults {}, all noticed", FAULTS.len());
+    report(&Library, Sides::Any(Rng::new(seed)), calls, seed)
+}

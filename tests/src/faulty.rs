@@ -1,0 +1,115 @@
+//! A manager with a fault planted in it, to see that a comparison notices.
+
+use crate::call::Manager;
+
+/// What goes wrong, wherever it can.
+#[derive(Clone, Copy, Debug, PartialEq, Eq)]
+pub enum Fault {
+    /// An accepted call says 9.
+    RefusesAll,
+    /// A refused call says 0.
+    AcceptsAll,
+    /// A refused call gives the next number.
+    OtherRefusal,
+    /// The last byte of the table after an accepted call.
+    TableByte,
+    /// The last byte of the answer after an accepted call.
+    AnswerByte,
+    /// The last byte of the labels after an accepted obtain.
+    LabelsByte,
+    /// A refused call clears the answer.
+    RefusalAnswers,
+    /// A refused call changes a byte of the table.
+    RefusalWrites,
+    /// The byte after the table.
+    AfterTable,
+    /// The byte before the answer.
+    BeforeAnswer,
+}
+
+pub const FAULTS: [Fault; 10] = [
+    Fault::RefusesAll,
+    Fault::AcceptsAll,
+    Fault::OtherRefusal,
+    Fault::TableByte,
+    Fault::AnswerByte,
+    Fault::LabelsByte,
+    Fault::RefusalAnswers,
+    Fault::RefusalWrites,
+    Fault::AfterTable,
+    Fault::BeforeAnswer,
+];
+
+pub struct Faulty<'a, M> {
+    pub manager: &'a M,
+    pub fault: Fault,
+}
+
+fn flip_last(bytes: &mut [u8]) {
+    if let Some(byte) = bytes.last_mut() {
+        *byte ^= 1;
+    }
+}
+
+impl<M: Manager> Faulty<'_, M> {
+    fn spoil(&self, result: u32, table: &mut [u8], answer: &mut [u8]) -> u32 {
+        match (self.fault, result) {
+            (Fault::RefusesAll, 0) => return 9,
+            (Fault::AcceptsAll, _) => return 0,
+            (Fault::OtherRefusal, 1..) => return result + 1,
+            (Fault::TableByte, 0) => flip_last(table),
+            (Fault::AnswerByte, 0) => flip_last(answer),
+            (Fault::RefusalAnswers, 1..) => answer.fill(0),
+            (Fault::RefusalWrites, 1..) => flip_last(table),
+            // SAFETY: the buffers of `beside` lie inside larger ones of their own.
+            (Fault::AfterTable, 0) => unsafe { *table.as_mut_ptr().add(table.len()) ^= 1 },
+            (Fault::BeforeAnswer, 0) => unsafe { *answer.as_mut_ptr().sub(1) ^= 1 },
+            _ => {}
+        }
+        result
+    }
+}
+
+impl<M: Manager> Manager for Faulty<'_, M> {
+    fn initialise(
+        &self, table: &mut [u8], c: u32, h: u32, d: u32, s: u32, v: u32, answer: &mut [u8],
+    ) -> u32 {
+        let result = self.manager.initialise(table, c, h, d, s, v, answer);
+        self.spoil(result, table, answer)
+    }
+    fn allocate(
+        &self, table: &mut [u8], name: &[u8], attributes: &[u8], kind: u32, start: u32,
+        amount: u32, secondary: u32, answer: &mut [u8],
+    ) -> u32 {
+        let result =
+            self.manager.allocate(table, name, attributes, kind, start, amount, secondary, answer);
+        self.spoil(result, table, answer)
+    }
+    fn extend(&self, table: &mut [u8], name: &[u8], answer: &mut [u8]) -> u32 {
+        let result = self.manager.extend(table, name, answer);
+        self.spoil(result, table, answer)
+    }
+    fn release(&self, table: &mut [u8], name: &[u8], ttr: u32, answer: &mut [u8]) -> u32 {
+        let result = self.manager.release(table, name, ttr, answer);
+        self.spoil(result, table, answer)
+    }
+    fn scratch(&self, table: &mut [u8], name: &[u8], answer: &mut [u8]) -> u32 {
+        let result = self.manager.scratch(table, name, answer);
+        self.spoil(result, table, answer)
+    }
+    fn rename(&self, table: &mut [u8], old: &[u8], new: &[u8], answer: &mut [u8]) -> u32 {
+        let result = self.manager.rename(table, old, new, answer);
+        self.spoil(result, table, answer)
+    }
+    fn obtain(&self, table: &[u8], name: &[u8], labels: &mut [u8], answer: &mut [u8]) -> u32 {
+        let result = self.manager.obtain(table, name, labels, answer);
+        if (self.fault, result) == (Fault::LabelsByte, 0) {
+            flip_last(labels);
+        }
+        self.spoil(result, &mut [], answer)
+    }
+    fn lspace(&self, table: &[u8], answer: &mut [u8]) -> u32 {
+        let result = self.manager.lspace(table, answer);
+        self.spoil(result, &mut [], answer)
+    }
+}

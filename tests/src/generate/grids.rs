@@ -1,0 +1,215 @@
+//! Calls by the row: each length of each buffer, each byte in each place of a name, and
+//! numbers at and around their limits.
+
+use super::glance::glance;
+use crate::call::{Buffers, Call};
+use crate::desk::{attributes, attributes_of};
+use crate::reference::{extend, release, scratch};
+use crate::volumes::{fresh, name, open_slots, place, scattered, small};
+
+/// A call and the buffers to make it with.
+pub type Row = (Call, Buffers);
+
+fn row(call: Call, table: &[u8]) -> Row {
+    (call, Buffers::new(table.to_vec(), 24, 280))
+}
+
+/// Each call with arguments that Volume A's end accepts.
+fn accepted() -> Vec<Call> {
+    let a = || name("FLT.A").to_vec();
+    vec![
+        Call::Initialise { c: 4, h: 5, d: 4, s: 1, v: 2 },
+        allocation("FLT.NEW", 0, 0, 3, 1),
+        Call::Extend { name: name("FLT.B").to_vec() },
+        Call::Release { name: a(), ttr: 1 },
+        Call::Scratch { name: a() },
+        Call::Rename { old: a(), new: name("FLT.NEW").to_vec() },
+        Call::Obtain { name: a() },
+        Call::Lspace,
+    ]
+}
+
+fn allocation(text: &str, kind: u32, start: u32, amount: u32, secondary: u32) -> Call {
+    let (name, attributes) = (name(text).to_vec(), attributes(7));
+    Call::Allocate { name, attributes, kind, start, amount, secondary }
+}
+
+/// Volume A's end with one more set, which can be extended.
+fn base() -> Vec<u8> {
+    let mut table = small();
+    place(&mut table, "FLT.B", 0, 0, 1, 1);
+    table
+}
+
+/// Each buffer with each length around its own; the others right.
+pub fn lengths() -> Vec<Row> {
+    let table = base();
+    let mut rows = vec![];
+    let edges = [3, 4, 7, 8, 9, 467, 468, 469].into_iter().flat_map(|n| 140 * n - 1..=140 * n + 1);
+    let lengths: Vec<usize> = (0..3).chain(138..142).chain(278..282).chain(edges).collect();
+    for call in accepted() {
+        rows.push(row(call.clone(), &table));
+        for &len in &lengths {
+            let (call, mut buffers) = row(call.clone(), &table);
+            buffers.table.resize(len, 0);
+            rows.push((call, buffers));
+        }
+        for len in 0..=50 {
+            rows.push((call.clone(), Buffers::new(table.clone(), len, 280)));
+        }
+        for len in 0..=90 {
+            rows.extend(with_lengths(&call, len).into_iter().map(|call| row(call, &table)));
+        }
+    }
+    let call = Call::Obtain { name: name("FLT.A").to_vec() };
+    rows.extend((0..=420).map(|len| (call.clone(), Buffers::new(table.clone(), 24, len))));
+    rows
+}
+
+/// The call with each of its names, and its attributes, of another length.
+fn with_lengths(call: &Call, len: usize) -> Vec<Call> {
+    let cut = |bytes: &[u8]| {
+        let mut bytes = bytes.to_vec();
+        bytes.resize(len, 0x40);
+        bytes
+    };
+    match call.clone() {
+        Call::Allocate { name, attributes, kind, start, amount, secondary } => {
+            let (short, cut) = (attributes_of(len, 7), cut(&name));
+            vec![
+                Call::Allocate { name, attributes: short, kind, start, amount, secondary },
+                Call::Allocate { name: cut, attributes, kind, start, amount, secondary },
+            ]
+        }
+        Call::Extend { name } => vec![Call::Extend { name: cut(&name) }],
+        Call::Release { name, ttr } => vec![Call::Release { name: cut(&name), ttr }],
+        Call::Scratch { name } => vec![Call::Scratch { name: cut(&name) }],
+        Call::Obtain { name } => vec![Call::Obtain { name: cut(&name) }],
+        Call::Rename { old, new } => vec![
+            Call::Rename { old: cut(&old), new: new.clone() },
+            Call::Rename { old: old.clone(), new: cut(&new) },
+        ],
+        Call::Initialise { .. } | Call::Lspace => vec![],
+    }
+}
+
+/// Every byte in every place of a few names.
+pub fn name_bytes() -> Vec<Row> {
+    let table = base();
+    let mut rows = vec![];
+    for (i, text) in ["A", "FLT.A", "ABCDEFGH.I", "A-9.@$#.B.C"].into_iter().enumerate() {
+        for at in (0..16).chain([42, 43]) {
+            for byte in 0..=255 {
+                let mut bytes = name(text).to_vec();
+                bytes[at] = byte;
+                let (old, new) = (name("FLT.A").to_vec(), bytes.clone());
+                let call = match (i + at + usize::from(byte)) % 4 {
+                    0 => Call::Extend { name: bytes },
+                    1 => Call::Obtain { name: bytes },
+                    2 => Call::Rename { old, new },
+                    _ => Call::Rename { old: new, new: old },
+                };
+                rows.push(row(call, &table));
+            }
+        }
+    }
+    rows
+}
+
+/// Allocate with every combination of numbers at the limits.
+pub fn amounts() -> Vec<Row> {
+    let table = base();
+    let top = u32::MAX;
+    let mut rows = vec![];
+    for kind in [0, 1, 2, 3, 4, 255, 256, 1 << 31, top] {
+        for start in [0, 1, 3, 7, 8, 9, 14, 15, 19, 20, 21, 65_535, top] {
+            for amount in [0, 1, 2, 6, 7, 8, 9, 12, 20, 21, 65_535, 65_536, 1 << 31, top] {
+                for secondary in [0, 1, 65_536, 16_777_215, 16_777_216, top] {
+                    let call = allocation("FLT.NEW", kind, start, amount, secondary);
+                    rows.push(row(call, &table));
+                }
+            }
+        }
+    }
+    rows
+}
+
+/// Release at every track of every set of a few volumes, and past it.
+pub fn ttrs() -> Vec<Row> {
+    let mut rows = vec![];
+    for table in [base(), scattered(100, 4, 20, 1, 2, 26), sixteen(), tight()] {
+        for set in glance(&table).expect("sound").sets {
+            let tts = (0..=set.tracks() + 2).chain([65_534, 65_535]);
+            let ttrs = tts.flat_map(|tt| [0, 1, 2, 255].map(|r| tt << 8 | r));
+            let wide = [1 << 24, (1 << 24) + 1, 1 << 31, u32::MAX - 255, u32::MAX];
+            for ttr in ttrs.chain(wide) {
+                rows.push(row(Call::Release { name: set.name.clone(), ttr }, &table));
+            }
+        }
+    }
+    rows
+}
+
+/// Sets of 16, 9 and 4 extents between others, more than 26 free extents, and a full VTOC.
+pub fn sixteen() -> Vec<u8> {
+    let mut table = fresh(90, 4, 42, 1, 1);
+    let mut answer = [0; 24];
+    // Three sets grow side by side to 16, 9 and 4 extents; no two extents of one touch.
+    let growing = [("SIXTEEN", 2, 16), ("NINE", 3, 9), ("FOUR", 1, 4), ("WALL", 1, 16)];
+    for (text, tracks, _) in growing {
+        place(&mut table, text, 0, 0, tracks, tracks);
+    }
+    for turn in 1..16 {
+        for (text, _, extents) in growing {
+            if turn < extents {
+                assert_eq!(extend(&mut table, &name(text), &mut answer), 0, "{text}");
+            }
+        }
+    }
+    // Walls with a hole after each: more than one format 5. The rest of the volume goes to one.
+    for i in 0..25 {
+        place(&mut table, &format!("WALL.N{i}"), 2, 160 + 2 * i, 1, 0);
+    }
+    place(&mut table, "REST", 2, 211, 149, 0);
+    assert_eq!(release(&mut table, &name("REST"), 0x1001, &mut answer), 0);
+    assert_eq!(scratch(&mut table, &name("WALL"), &mut answer), 0);
+    while open_slots(&table) > 0 {
+        let k = open_slots(&table);
+        place(&mut table, &format!("FILL.N{k}"), 0, 0, 1, 0);
+    }
+    table
+}
+
+/// A full VTOC and 26 free extents: one more needs a format 5 for which there is no slot. Four sets
+/// of three tracks stand side by side at the end of the volume.
+pub fn tight() -> Vec<u8> {
+    let mut table = scattered(100, 2, 31, 1, 1, 25);
+    for i in 0..4 {
+        place(&mut table, &format!("BIG.N{i}"), 2, 188 + 3 * i, 3, 0);
+    }
+    assert_eq!((open_slots(&table), glance(&table).expect("sound").holes.len()), (0, 26));
+    table
+}
+
+/// Initialise with every combination of numbers at the limits; the table has the length that
+/// they ask for where that is a possible one.
+pub fn geometries() -> Vec<Row> {
+    let top = u32::MAX;
+    let mut rows = vec![];
+    for c in [0, 1, 2, 257, 4369, 65_535, 65_536, top] {
+        for h in [0, 1, 2, 15, 255, 256, top] {
+            for d in [0, 1, 2, 3, 52, 234, 255, 256] {
+                for v in [0, 1, 2, 3, 9, 468, 469] {
+                    let edge = c.wrapping_mul(h).wrapping_sub(v);
+                    for s in [0, 1, edge, edge.wrapping_add(1), top] {
+                        let records = u64::from(v) * u64::from(d);
+                        let records = if records <= 470 { records as usize } else { 3 };
+                        let call = Call::Initialise { c, h, d, s, v };
+                        rows.push(row(call, &vec![0xEE; 140 * records]));
+                    }
+                }
+            }
+        }
+    }
+    rows
+}

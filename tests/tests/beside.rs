@@ -1,0 +1,63 @@
+//! The comparison of two managers notices what is planted in one, and nothing else.
+
+use vtoc_tests::beside::{both, Rooms};
+use vtoc_tests::call::{Call, Manager, Reference};
+use vtoc_tests::faulty::{Fault, Faulty, FAULTS};
+use vtoc_tests::generate::grids;
+use vtoc_tests::generate::session::Session;
+
+/// Calls of a few lives until a difference is found, if one is.
+fn difference(manager: &impl Manager, sides: u64) -> Option<(Call, String)> {
+    let mut rooms = Rooms::new();
+    for seed in 1..6 {
+        let mut session = Session::new(seed);
+        for _ in 0..200 {
+            let trial = session.next_trial();
+            match both(manager, &trial.call, &trial.buffers, &mut rooms, sides) {
+                Ok(answered) => session.keep(&trial, answered.buffers.table),
+                Err(text) => return Some((trial.call, text)),
+            }
+        }
+    }
+    None
+}
+
+#[test]
+fn the_reference_is_like_itself() {
+    for sides in [0b00000, 0b11111, 0b01010] {
+        assert_eq!(difference(&Reference, sides), None);
+    }
+}
+
+#[test]
+fn every_fault_is_noticed() {
+    for fault in FAULTS {
+        // The table at the start of its room and the answer at the end, so that the bytes beside
+        // them can be written.
+        let found = difference(&Faulty { manager: &Reference, fault }, 0b10);
+        let (call, text) = found.unwrap_or_else(|| panic!("{fault:?} was not noticed"));
+        let expected = match fault {
+            Fault::RefusesAll | Fault::AcceptsAll | Fault::OtherRefusal => "result ",
+            Fault::TableByte | Fault::RefusalWrites => "table: byte",
+            Fault::AfterTable => "was written, of",
+            Fault::AnswerByte | Fault::RefusalAnswers => "answer: byte",
+            Fault::BeforeAnswer => "answer: byte -1 was written",
+            Fault::LabelsByte => "labels: byte 279",
+        };
+        assert!(text.contains(expected), "{fault:?} {call:?}: {text}");
+    }
+}
+
+/// Rows of the grids go both ways: some of each are accepted, where that can be.
+#[test]
+fn grids_are_not_all_refused() {
+    let mut rooms = Rooms::new();
+    for rows in [grids::lengths(), grids::amounts(), grids::ttrs(), grids::geometries()] {
+        let mut accepted = 0;
+        for (call, buffers) in &rows {
+            let answered = both(&Reference, call, buffers, &mut rooms, 0).expect("itself");
+            accepted += usize::from(answered.result == 0);
+        }
+        assert!(accepted >= 8 && accepted < rows.len(), "{accepted} of {}", rows.len());
+    }
+}
