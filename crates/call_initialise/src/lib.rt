@@ -38,6 +38,7 @@ fn write_fresh(table: &mut [u8], g: Geometry)
     fields::put_record(table, 0, &four);
 }
 
+// The call: refusal 1 for the geometry, then 2 for a length, and nothing is written where it is refused.
 pub fn initialise(
     table: &mut [u8],
     c: u32,

@@ -50,7 +50,7 @@ fn space(map: &[u64], g: Geometry, none: u32) -> [u32; 6]
     [cylinders, odd, many, long / h, long % h, none]
 }
 
-// The number of format 0s is read in the format 4, DS4DSREC.
+// The call: refusals 2 and 3. The number of format 0s is read in the format 4, DS4DSREC.
 pub fn lspace(table: &[u8], answer: &mut [u8]) -> u32
     ensures { λ r. ⌜ Inquires (now (table .entry)) (now (answer .entry)) r (now (answer .exit)) ⌝ }
 {

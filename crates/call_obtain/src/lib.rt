@@ -36,6 +36,7 @@ fn put_labels(table: &[u8], g: Geometry, k: usize, out: &mut [u8])
     fields::put_record(out, 1, &three);
 }
 
+// The call: refusals 2, 3, 4 and 5 in this order, and nothing is written where it is refused.
 pub fn obtain(table: &[u8], name: &[u8], labels: &mut [u8], answer: &mut [u8]) -> u32
     ensures { λ r. ⌜ Obtains (now (table .entry)) (now (name .entry)) (now (labels .entry)) (now (answer .entry)) r (now (labels .exit)) (now (answer .exit)) ⌝ }
 {

@@ -54,6 +54,7 @@ fn put_name(table: &mut [u8], k: usize, name: &[u8])
     fields::put_record(table, k, &named);
 }
 
+// The call: refusals 2, 3, 4 for either name, 5 and 6 in this order, and nothing is written where it is refused.
 pub fn rename(table: &mut [u8], old: &[u8], new: &[u8], answer: &mut [u8]) -> u32
     ensures { λ r. ⌜ Renames (now (table .entry)) (now (old .entry)) (now (new .entry)) (now (answer .entry)) r (now (table .exit)) (now (answer .exit)) ⌝ }
 {
