@@ -143,8 +143,11 @@ pub fn extent_part<'a>(f1: &'a [u8], f3: &'a [u8], e: usize) -> &'a [u8]
 // The characters of names as sets of bits: bit i of a low set is X'40' + i, of a high one X'C0' + i. Names have no others.
 // A test of one bit costs less than the ranges, and less than an array, which is made anew where it is used.
 const STARTS_LOW: u64 = 0x1800_0000_0800_0000; // 5B, 7B, 7C
+
 const STARTS_HIGH: u64 = 0x0000_03fc_03fe_03fe; // C1 to C9, D1 to D9, E2 to E9
+
 const PARTS_LOW: u64 = 0x1800_0001_0800_0000; // and 60
+
 const PARTS_HIGH: u64 = 0x03ff_03fc_03fe_03fe; // and F0 to F9
 
 // Whether the set has the bit of c.
