@@ -3,12 +3,12 @@ use mathlib.Core.Path.{_≡_, refl, sym, ap, ap₂, _∙_, subst}
 use mathlib.Core.Bool.{Bool, true, false, cond, _&&_}
 use mathlib.Core.List.{List, [], _∷_, _++_}
 use Prim.Native.Nat.{ℕ, zero, suc, _+_, _-_, _*_, _/_, _%_, _≤_, _<_}
-use native.Mathlib.Nat.{div-add-mod', mod-lt, sub-zero}
+use native.Mathlib.Nat.{div-add-mod', le-refl, mod-lt, sub-zero}
 use native.Mathlib.Omega.{arith}
-use borrow.Author.Tests.{eq-eqb, eqb-true, le-leb, lt-leb, lt-ltb, ltb-true, ne-eqb}
-use lib.Dec.{eqb, leb, ltb}
+use borrow.Author.Tests.{eq-eqb, eqb-true, lt-ltb, ltb-true}
+use lib.Dec.{eqb, ltb}
 use lib.ListN.{drop, getD, length, length-drop, length-take, replicate, take, take-append-drop}
-use lib.Seq.{drop-cons, drop-drop, take-take}
+use lib.Seq.{drop-cons, drop-drop, drop-nil, take-nil, take-take}
 use Rattle.model.specs.Basics.{be2, fill, flat, get2, part, zeros}
 use Rattle.model.specs.Model.{Geometry, Run, run}
 use Rattle.model.proofs.Lists.{and-l, and-r, by, clash, is-true, true-is}
@@ -17,13 +17,14 @@ use Rattle.rules.proofs.Bytes.{be2-back}
 use Rattle.rules.proofs.Fields.{field-at}
 use Rattle.rules.proofs.TableBack.{lens5, lengths5}
 use Rattle.tracks.specs.Map.{NextRun, freeFrom}
+use Rattle.tracks.proofs.Walk.{free-from-end}
 use Rattle.fields.specs.Records.{Bytes}
 use Rattle.fields.specs.Tests.{allAre}
 use Rattle.fields.proofs.Bytes10.{cyl-of, five-of, head-of, two-back}
 use Rattle.fields.proofs.Rows.{are→, →are}
 use Rattle.fields.proofs.Slots.{length-part}
 use Rattle.forms.proofs.Cutting.{cutAt, whole-cut}
-use Rattle.chain.specs.Entries.{Listed, Rows, entriesOf, entryOk, turnOk}
+use Rattle.chain.specs.Entries.{Listed, Rows, entriesOf, entryOk}
 
 -- ---- one entry
 
@@ -46,31 +47,15 @@ module _ (g : Geometry) (pos : 1 ≤ g .heads) (s c : ℕ) where
       let r = is-true (and-r (ltb (getD x 4 0) H) _ u) in
       five-bytes (getD x 0 0) (getD x 1 0) (getD x 2 0) (getD x 3 0) (getD x 4 0) (bs 1) (bs 3) (ltb-true _ _ q) (eqb-true _ _ p) (eqb-true _ _ r) ∙ sym (five-of x l)
 
-  pub entry-passes : entryOk H s c (entry g (run s c)) ≡ true
+  entry-passes : entryOk H s c (entry g (run s c)) ≡ true
   entry-passes =
       let p : s / 256 * 256 + s % 256 ≡ s = be2-back s in
       let q : c / H / 256 * 256 + c / H % 256 ≡ c / H = be2-back (c / H) in
       let r : (c / H / 256 * 256 + c / H % 256) * H + c % H ≡ c = ap (λ (z : ℕ). z * H + c % H) q ∙ div-add-mod' c H in
       rw (eq-eqb _ _ p, lt-ltb _ _ (mod-lt c pos), eq-eqb _ _ r)
 
--- ---- a turn: the entry of a run, or zeros
-
--- the bytes that are due
-abbrev pub due : Geometry → ℕ → ℕ → ℕ → List ℕ
-due g n a b = cond (leb n a) (zeros 5) (entry g (run a (b - a)))
-
-module _ (g : Geometry) (pos : 1 ≤ g .heads) (n a b : ℕ) (x : List ℕ) where
-  pub turn-yes : length x ≡ 5 → Bytes x → turnOk (g .heads) n a b x ≡ true → due g n a b ≡ x
-  turn-yes l bs e =
-      by (leb n a)
-      (λ h. rw h (sym (are→ 0 x (true-is (rw h at e)) ∙ ap zeros l)))
-      (λ h. rw h (entry-yes g pos a (b - a) x l bs (rw h at e)))
-
-  pub turn-no : turnOk (g .heads) n a b x ≡ false → due g n a b ≡ x → ⊥
-  turn-no e q =
-      by (leb n a)
-      (λ h. clash (ap (allAre 0) (sym (rw h at q)) ∙ is-true (→are 0 5)) (rw h at e))
-      (λ h. clash (ap (entryOk (g .heads) a (b - a)) (sym (rw h at q)) ∙ entry-passes g pos a (b - a)) (rw h at e))
+  pub entry-no : (x : List ℕ) → entryOk H s c x ≡ false → entry g (run s c) ≡ x → ⊥
+  entry-no x e q = clash (ap (entryOk H s c) (sym q) ∙ entry-passes) e
 
 -- ---- w entries: j are done, and from track t on the runs are left
 
@@ -78,10 +63,9 @@ module _ (g : Geometry) where
   more-run : (w : ℕ) (r : Run) (f : List Run) → entriesOf g (suc w) (r ∷ f) ≡ entry g r ++ entriesOf g w f
   more-run w r f = let e : 5 * suc w ≡ suc (suc (suc (suc (suc (5 * w))))) = omega arith in ap (λ (k : ℕ). fill k (entry g r ++ flat (entry g) (take w f))) e
 
-  more-none : (w : ℕ) → entriesOf g (suc w) [] ≡ zeros 5 ++ entriesOf g w []
-  more-none w =
-      let e : 5 * suc w ≡ suc (suc (suc (suc (suc (5 * w))))) = omega arith in
-      ap (λ (k : ℕ). fill k []) e ∙ ap (λ (l : List Run). zeros 5 ++ fill (5 * w) (flat (entry g) l)) (sym (lib.Seq.take-nil w))
+fill-none : (k : ℕ) → fill k [] ≡ zeros k
+fill-none zero = refl
+fill-none (suc k) = ap (λ (l : List ℕ). 0 ∷ l) (fill-none k)
 
 pub record Going (g : Geometry) (m : List ℕ) (n at w : ℕ) (x : List ℕ) (j t : ℕ) : Type 0 where
   pub upTo : t ≤ n
@@ -102,55 +86,44 @@ module _ (g : Geometry) (m : List ℕ) (n at w : ℕ) (x : List ℕ) where
         back = λ e. subst (λ (k : ℕ). entriesOf g k (freeFrom m n at) ≡ x) (sym (sub-zero w)) e;
       }
 
-  -- what is due, and the rest
-  split : (j t a b : ℕ) → j < w → NextRun m n t a b → E j t ≡ due g n a b ++ E (j + 1) b
-  split j t a b h r =
-      let k : w - j ≡ suc (w - (j + 1)) = omega arith in
-      by (leb n a)
-      (λ q.
-      let u : n ≤ a = borrow.Author.Tests.leb-true _ _ q in
-      let z : b ≡ n = omega (arith, r .low, r .high) in
-      let f : freeFrom m n b ≡ [] = ap (freeFrom m n) z ∙ Rattle.tracks.proofs.Walk.free-from-end m n in
-      rw q (ap₂ (λ (i : ℕ) (l : List Run). entriesOf g i l) k (r .done u) ∙ more-none g (w - (j + 1)) ∙ ap (λ (l : List Run). zeros 5 ++ entriesOf g (w - (j + 1)) l) (sym f)))
-      (λ q.
-      let u : a < n = borrow.Author.Tests.leb-false _ _ q in
-      rw q (ap₂ (λ (i : ℕ) (l : List Run). entriesOf g i l) k (r .more u .1) ∙ more-run g (w - (j + 1)) (run a (b - a)) (freeFrom m n b)))
+  module _ (j t a b : ℕ) (h : j < w) (o : Going g m n at w x j t) (r : NextRun m n t a b) (u : a < n) where
+    abbrev due : List ℕ
+    due = entry g (run a (b - a))
 
-  due-take : (a b : ℕ) (l : List ℕ) → take 5 (due g n a b ++ l) ≡ due g n a b
-  due-take a b l = by (leb n a) (λ q. rw q) (λ q. rw q)
+    -- what is due, and the rest
+    split : E j t ≡ due ++ E (j + 1) b
+    split =
+        let k : w - j ≡ suc (w - (j + 1)) = omega arith in
+        ap₂ (λ (i : ℕ) (l : List Run). entriesOf g i l) k (r .more u .1) ∙ more-run g (w - (j + 1)) (run a (b - a)) (freeFrom m n b)
 
-  due-drop : (a b : ℕ) (l : List ℕ) → drop 5 (due g n a b ++ l) ≡ l
-  due-drop a b l = by (leb n a) (λ q. rw q) (λ q. rw q)
-
-  module _ (j t a b : ℕ) (h : j < w) (o : Going g m n at w x j t) (r : NextRun m n t a b) where
-    next-left : freeFrom m n b ≡ drop (j + 1) (freeFrom m n at)
-    next-left =
-        by (leb n a)
-        (λ q.
-        let u : n ≤ a = borrow.Author.Tests.leb-true _ _ q in
-        let z : b ≡ n = omega (arith, r .low, r .high) in
-        ap (freeFrom m n) z ∙ Rattle.tracks.proofs.Walk.free-from-end m n ∙ sym (ap (drop 1) (sym (o .left) ∙ r .done u)) ∙ drop-drop 1 j (freeFrom m n at))
-        (λ q.
-        let u : a < n = borrow.Author.Tests.leb-false _ _ q in
-        sym (ap (drop 1) (sym (o .left) ∙ r .more u .1)) ∙ drop-drop 1 j (freeFrom m n at))
-
-    pub going-next : due g n a b ≡ part (5 * j) 5 x → Going g m n at w x (j + 1) b
+    pub going-next : due ≡ part (5 * j) 5 x → Going g m n at w x (j + 1) b
     going-next d =
         let k : 5 * j + 5 ≡ 5 * (j + 1) = omega arith in
         let D : drop 5 (drop (5 * j) x) ≡ drop (5 * (j + 1)) x = drop-drop 5 (5 * j) x ∙ ap (λ (i : ℕ). drop i x) k in
         record {
           upTo = r .high;
-          left = next-left;
-          into = λ e.
-              o .into
-              (split j t a b h r
-              ∙ ap₂ (λ (y z : List ℕ). y ++ z) d (e ∙ sym D)
-              ∙ take-append-drop 5 (drop (5 * j) x));
-          back = λ e. sym (due-drop a b (E (j + 1) b)) ∙ ap (drop 5) (sym (split j t a b h r) ∙ o .back e) ∙ D;
+          left = sym (ap (drop 1) (sym (o .left) ∙ r .more u .1)) ∙ drop-drop 1 j (freeFrom m n at);
+          into = λ e. o .into (split ∙ ap₂ (λ (y z : List ℕ). y ++ z) d (e ∙ sym D) ∙ take-append-drop 5 (drop (5 * j) x));
+          back = λ e. ap (drop 5) (sym split ∙ o .back e) ∙ D;
         }
 
-    pub going-bad : (due g n a b ≡ part (5 * j) 5 x → ⊥) → entriesOf g w (freeFrom m n at) ≡ x → ⊥
-    going-bad d e = d (sym (due-take a b (E (j + 1) b)) ∙ ap (take 5) (sym (split j t a b h r) ∙ o .back e))
+    pub going-bad : (due ≡ part (5 * j) 5 x → ⊥) → entriesOf g w (freeFrom m n at) ≡ x → ⊥
+    going-bad d e = d (ap (take 5) (sym split ∙ o .back e))
+
+  -- no run is left: zeros to the end
+  pub going-ends : (j t a b : ℕ) (ok : Bool) → j ≤ w → length x ≡ 5 * w → Going g m n at w x j t → NextRun m n t a b → n ≤ a → ok ≡ allAre 0 (drop (5 * j) x) → Rows g m n at w x ok n
+  going-ends j t a b ok h l o r u q =
+      let none : drop j (freeFrom m n at) ≡ [] = sym (o .left) ∙ r .done u in
+      let e : E j t ≡ zeros (5 * (w - j)) = ap (λ (f : List Run). fill (5 * (w - j)) (flat (entry g) f)) (ap (take (w - j)) (r .done u) ∙ take-nil (w - j)) ∙ fill-none (5 * (w - j)) in
+      let k : j + (w - j) ≡ w = omega arith in
+      record {
+        upTo = λ z. le-refl n;
+        rest = λ z. free-from-end m n ∙ sym (sym (ap (λ (i : ℕ). drop i (freeFrom m n at)) k) ∙ sym (drop-drop (w - j) j (freeFrom m n at)) ∙ ap (drop (w - j)) none ∙ drop-nil (w - j));
+        yes = λ z.
+            let c : length (drop (5 * j) x) ≡ 5 * (w - j) = omega (arith, length-drop (5 * j) x) in
+            o .into (e ∙ sym (are→ 0 (drop (5 * j) x) (true-is (sym q ∙ z)) ∙ ap zeros c));
+        no = λ z i. clash (ap (allAre 0) (sym (sym e ∙ o .back i)) ∙ is-true (→are 0 (5 * (w - j)))) (sym q ∙ z);
+      }
 
   pub going-done : (j t : ℕ) → w ≤ j → j ≤ w → length x ≡ 5 * w → Going g m n at w x j t → Rows g m n at w x true t
   going-done j t h k l o =
@@ -177,7 +150,7 @@ byte-part r i h = ap (take 1) (drop-cons r i 0 h)
 
 drop-take : {A : Type 0} (a b : ℕ) (l : List A) → drop a (take (a + b) l) ≡ take b (drop a l)
 drop-take zero b l = ap (λ (k : ℕ). take k l) (native.Mathlib.Nat.zero-add b)
-drop-take (suc a) b [] = ap (drop (suc a)) (lib.Seq.take-nil (suc a + b)) ∙ sym (lib.Seq.take-nil b)
+drop-take (suc a) b [] = ap (drop (suc a)) (take-nil (suc a + b)) ∙ sym (take-nil b)
 drop-take (suc a) b (x ∷ l) = let e : suc a + b ≡ suc (a + b) = omega arith in ap (λ (k : ℕ). drop (suc a) (take k (x ∷ l))) e ∙ drop-take a b l
 
 module _ (g : Geometry) (m : List ℕ) (n at : ℕ) (r : List ℕ) where

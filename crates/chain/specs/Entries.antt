@@ -3,7 +3,7 @@ use mathlib.Core.Path.{_≡_}
 use Prim.Native.Nat.{ℕ, _+_, _-_, _*_, _≤_}
 use mathlib.Core.Bool.{Bool, true, false, cond, _&&_}
 use mathlib.Core.List.{List}
-use lib.Dec.{eqb, leb, ltb}
+use lib.Dec.{eqb, ltb}
 use lib.ListN.{drop, getD, take}
 use Rattle.model.specs.Basics.{fill, flat, get2, part}
 use Rattle.model.specs.Model.{Geometry, Run}
@@ -14,10 +14,6 @@ use Rattle.fields.specs.Tests.{allAre}
 -- five bytes that are the entry of the free extent of c tracks from track s on, h tracks to a cylinder
 abbrev pub entryOk : ℕ → ℕ → ℕ → List ℕ → Bool
 entryOk h s c x = eqb (get2 x 0) s && (ltb (getD x 4 0) h && eqb (get2 x 2 * h + getD x 4 0) c)
-
--- the same for the run from a up to b, or zeros where there is none below n
-abbrev pub turnOk : ℕ → ℕ → ℕ → ℕ → List ℕ → Bool
-turnOk h n a b x = cond (leb n a) (allAre 0 x) (entryOk h a (b - a) x)
 
 -- the bytes of w entries: the first free extents, then zeros
 abbrev pub entriesOf : Geometry → ℕ → List Run → List ℕ

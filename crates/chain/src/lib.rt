@@ -10,7 +10,7 @@ ghost use Rattle.rules.proofs.Valid.{Limits};
 ghost use Rattle.tracks.specs.Map.{freeFrom};
 ghost use Rattle.forms.specs.Forms.{geometryOf};
 ghost use Rattle.chain.specs.Chain.{ChainGone, Held};
-ghost use Rattle.chain.specs.Entries.{Listed, Rows, entryOk, linkOk, turnOk};
+ghost use Rattle.chain.specs.Entries.{Listed, Rows, entryOk, linkOk};
 
 // One format 5: whether it holds what it must, whether it is the last, and where the chain goes on: the slot, and the
 // track whose free extents are the first there.
@@ -54,17 +54,6 @@ fn is_entry(x: &[u8], h: u32, start: u32, count: u32) -> bool
     fields::two(x, 2) * h + odd == count
 }
 
-// Whether the five bytes are the entry of the run from track a up to b, or zeros where there is none below n.
-fn is_run(x: &[u8], h: u32, n: usize, a: usize, b: usize) -> bool
-    requires { ⌜ (length (now x) ≡ 5) × (h ≤ 255) × (a ≤ b) × (b ≤ 65535) ⌝ }
-    ensures { λ r. ⌜ r ≡ turnOk h n a b (now (x .entry)) ⌝ }
-{
-    if n <= a {
-        return fields::all_are(x, 0);
-    }
-    is_entry(x, h, a as u32, (b - a) as u32)
-}
-
 // Whether the w entries of x are the first runs of free tracks from track `at` on, and zeros where there are fewer.
 fn entries_are(x: &[u8], w: usize, map: &[u64], n: usize, at: usize, g: Geometry) -> Compared
     requires { ⌜ (length (now x) ≡ 5 * w) × (w ≤ 26) × (at ≤ n) × (n ≤ 64 * length (now map)) × (n ≤ 65535) × Limits (geometryOf g) ⌝ }
@@ -77,8 +66,12 @@ fn entries_are(x: &[u8], w: usize, map: &[u64], n: usize, at: usize, g: Geometry
         let from = free.from;
         let to = free.to;
         let p = 5 * j;
+        if from >= n {
+            let ok = fields::all_are(&x[p..], 0);
+            return Compared { ok, next: n };
+        }
         let e = p + 5;
-        if is_run(&x[p..e], g.heads, n, from, to) {
+        if is_entry(&x[p..e], g.heads, from as u32, (to - from) as u32) {
             t = to;
             j += 1;
         } else {
