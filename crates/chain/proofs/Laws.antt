@@ -4,6 +4,8 @@ use mathlib.Core.Bool.{Bool, true, false}
 use mathlib.Core.List.{List, [], _∷_, _++_}
 use Prim.Native.Nat.{ℕ, zero, suc, _+_, _-_, _*_, _≤_, _<_}
 use native.Mathlib.Omega.{arith}
+use borrow.Author.Tests.{ne-eqb}
+use lib.Dec.{eqb}
 use lib.ListN.{drop, length, length-drop, take}
 use Rattle.model.specs.Basics.{bit, part, same, zeros}
 use Rattle.model.specs.Model.{Geometry, Run, covers, fivesFor, run, slots, times, tracks}
@@ -11,22 +13,21 @@ use Rattle.model.proofs.Lists.{All, clash, is-true, same-refl, same→eq, sum-a
 use Rattle.model.proofs.Runs.{Once}
 use Rattle.rules.specs.Layout.{Five, fields5, fives, format5, headOr0, link}
 use Rattle.rules.specs.Reading.{chop, follow, recordAt, slotAt}
-use Rattle.rules.proofs.Fields.{field-at}
-use Rattle.rules.proofs.TableBack.{lens5, lengths5}
 use Rattle.rules.proofs.Valid.{Limits}
 use Rattle.rules.proofs.FreeBack.{five-link}
 use Rattle.sound.specs.Sound.{FiveOk}
 use Rattle.tracks.specs.Map.{Shows, Taken, freeFrom}
 use Rattle.tracks.proofs.Held.{shows-same}
-use Rattle.fields.specs.Records.{slotBytes}
-use Rattle.fields.specs.Tests.{slotNamed}
-use Rattle.fields.proofs.Links.{place-read, slot-below, slot-found, slot-none}
-use Rattle.fields.proofs.Slots.{chop-slot}
-use Rattle.records.specs.Fives.{Fills}
+use Rattle.fields.specs.Records.{Bytes, slotBytes}
+use Rattle.fields.specs.Tests.{allAre, slotNamed}
+use Rattle.fields.proofs.Links.{none-is, none-passes, place-read, slot-below, slot-found, slot-named, slot-none}
+use Rattle.fields.proofs.Slots.{chop-slot, length-part}
+use Rattle.forms.proofs.Cutting.{bytes-part}
 use Rattle.label_check.specs.Marks.{units}
 use Rattle.label_check.proofs.Taking.{took-no, took-yes}
 use Rattle.chain.specs.declared.Member.{Member}
 use Rattle.chain.specs.Chain.{ChainGone, Held, chainFrom, isNone, nextOf}
+use Rattle.chain.specs.Entries.{Listed, linkOk}
 
 -- ---- the slots of a chain
 
@@ -204,12 +205,6 @@ fewer g t m f k s s′ r h o e =
 
 -- ---- the tests make a member
 
-same-true : (a b : List ℕ) → same a b ≡ true → a ≡ b
-same-true a b e = same→eq a b (true-is e)
-
-same-false : (a b : List ℕ) → same a b ≡ false → a ≡ b → ⊥
-same-false a b e q = clash (ap (same a) (sym q) ∙ is-true (same-refl a)) e
-
 -- the slot is not free
 pub held-hit : (g : Geometry) (t m : List ℕ) (f : List Run) (k : ℕ) (s s′ : List ℕ) (r : Member) → k < slots g → (b : Bool) → b ≡ false → Taken s s′ k (k + 1) b → r .ok ≡ false → Held g t m f k s s′ r
 held-hit g t m f k s s′ r u b e x o =
@@ -232,56 +227,86 @@ module _ (g : Geometry) (limit : Limits g) (t m : List ℕ) (at k : ℕ) (s s′
   abbrev record5 : List ℕ
   record5 = slotBytes t k
 
-  -- there are no more free extents
-  pub held-last : (r : Member) (made : List ℕ) (behind : ℕ) → Fills g m (tracks g) at made behind → freeFrom m (tracks g) behind ≡ []
-      → r .ok ≡ same made record5 → r .last ≡ true → r .slot ≡ 0 → r .at ≡ behind → Held g t m f5 k s s′ r
-  held-last r made behind y none o l z a =
-      let d : drop 26 f5 ≡ [] = sym (y .rest) ∙ none in
-      let n : nextOf g (drop 26 f5) record5 ≡ 0 = ap (λ (x : List Run). nextOf g x record5) d in
+  abbrev linked : List ℕ
+  linked = part 135 5 record5
+
+  -- the entries are not those of the free extents
+  pub held-bad : (r : Member) (rec : List ℕ) (ok : Bool) (next : ℕ) → rec ≡ record5 → Listed g m (tracks g) at rec ok next → ok ≡ false → r .ok ≡ false → Held g t m f5 k s s′ r
+  held-bad r rec ok next z y f o =
       record {
         long = x .long;
-        took = λ q us w. took-yes (slots g) k 1 s s′ b x e us w;
-        here = λ q. ap (format5 g (take 26 f5)) n ∙ sym (y .bytes) ∙ same-true made record5 (sym o ∙ q);
-        next = λ q. z ∙ sym n;
-        inside = λ q. rw z (omega (arith, limit .least));
-        rest = λ q. rw a (y .rest);
-        upTo = λ q. rw a (y .upTo);
-        last = λ q. l ∙ sym (ap isNone d);
-        no = λ q us w c i h. same-false made record5 (sym o ∙ q) (y .bytes ∙ sym (ap (format5 g (take 26 f5)) n) ∙ h);
+        took = λ q. clash q o;
+        here = λ q. clash q o;
+        next = λ q. clash q o;
+        inside = λ q. clash q o;
+        rest = λ q. clash q o;
+        upTo = λ q. clash q o;
+        last = λ q. clash q o;
+        no = λ q us w c i h. y .no f (nextOf g (drop 26 f5) record5) (h ∙ sym z);
       }
 
-  -- there are more: the record names the slot that holds them
-  pub held-more : (r : Member) (made linked : List ℕ) (behind : ℕ) (v : Run) (vs : List Run) → Fills g m (tracks g) at made behind → freeFrom m (tracks g) behind ≡ v ∷ vs
-      → r .slot ≡ slotNamed (g .heads) (g .records) (g .vtocStart) (slots g) (part 135 5 record5) → linked ≡ format5 g (take 26 f5) (r .slot)
-      → r .ok ≡ same linked record5 → r .last ≡ false → r .at ≡ behind → Held g t m f5 k s s′ r
-  held-more r made linked behind v vs y some z w o l a =
-      record {
-        long = x .long;
-        took = λ q us w. took-yes (slots g) k 1 s s′ b x e us w;
-        here = λ q. ap (format5 g (take 26 f5)) (sym (named q)) ∙ sym w ∙ same-true linked record5 (sym o ∙ q);
-        next = named;
-        inside = λ q. rw z (slot-below (g .heads) (g .records) (g .vtocStart) (slots g) (part 135 5 record5) (omega (arith, limit .least)));
-        rest = λ q. rw a (y .rest);
-        upTo = λ q. rw a (y .upTo);
-        last = λ q. l ∙ sym (ap isNone d);
-        no = λ q us w2 c i h. same-false linked record5 (sym o ∙ q) (w ∙ ap (format5 g (take 26 f5)) (z ∙ found i h) ∙ h);
-      }
-    where
-      d : drop 26 f5 ≡ v ∷ vs
-      d = sym (y .rest) ∙ some
+  module _ (bytes : Bytes t) (long : length record5 ≡ 140) (behind : ℕ) (y : Listed g m (tracks g) at record5 true behind) where
+    long-link : length linked ≡ 5
+    long-link = length-part 135 5 record5 (omega arith)
 
-      n : nextOf g (drop 26 f5) record5 ≡ slotAt g record5 135
-      n = ap (λ (x : List Run). nextOf g x record5) d
+    -- there are no more free extents
+    pub held-last : (r : Member) → freeFrom m (tracks g) behind ≡ [] → r .ok ≡ allAre 0 linked → r .last ≡ true → r .slot ≡ 0 → r .at ≡ behind → Held g t m f5 k s s′ r
+    held-last r none o l z a =
+        let d : drop 26 f5 ≡ [] = sym (y .rest refl) ∙ none in
+        let n : nextOf g (drop 26 f5) record5 ≡ 0 = ap (λ (x : List Run). nextOf g x record5) d in
+        record {
+          long = x .long;
+          took = λ q us w. took-yes (slots g) k 1 s s′ b x e us w;
+          here = λ q. ap (format5 g (take 26 f5)) n ∙ y .yes refl 0 (none-is g linked long-link (true-is (sym o ∙ q)));
+          next = λ q. z ∙ sym n;
+          inside = λ q. rw z (omega (arith, limit .least));
+          rest = λ q. rw a (y .rest refl);
+          upTo = λ q. rw a (y .upTo refl);
+          last = λ q. l ∙ sym (ap isNone d);
+          no = λ q us w c i h.
+              clash (ap (allAre 0) (sym (ap (part 135 5) (sym (ap (format5 g (take 26 f5)) n) ∙ h)) ∙ five-link g (take 26 f5) 0) ∙ is-true (none-passes g)) (sym o ∙ q);
+        }
 
-      named : r .ok ≡ true → r .slot ≡ nextOf g (drop 26 f5) record5
-      named q =
-          let p : format5 g (take 26 f5) (r .slot) ≡ record5 = sym w ∙ same-true linked record5 (sym o ∙ q) in
-          sym (n ∙ place-read g (r .slot) record5 135 (sym (five-link g (take 26 f5) (r .slot)) ∙ ap (part 135 5) p))
+    -- there are more: the record names the slot that holds them
+    pub held-more : (r : Member) (v : Run) (vs : List Run) → freeFrom m (tracks g) behind ≡ v ∷ vs
+        → r .slot ≡ slotNamed (g .heads) (g .records) (g .vtocStart) (slots g) linked → r .ok ≡ linkOk (r .slot) linked → r .last ≡ false → r .at ≡ behind → Held g t m f5 k s s′ r
+    held-more r v vs some z o l a =
+        record {
+          long = x .long;
+          took = λ q us w. took-yes (slots g) k 1 s s′ b x e us w;
+          here = λ q. ap (format5 g (take 26 f5)) (sym (named q)) ∙ y .yes refl (r .slot) (is-link q);
+          next = named;
+          inside = λ q. rw z (slot-below (g .heads) (g .records) (g .vtocStart) (slots g) linked (omega (arith, limit .least)));
+          rest = λ q. rw a (y .rest refl);
+          upTo = λ q. rw a (y .upTo refl);
+          last = λ q. l ∙ sym (ap isNone d);
+          no = λ q us w2 c i h. unlinked (r .slot) (z ∙ found i h) (sym o ∙ q) (sym (five-link g (take 26 f5) (nextOf g (drop 26 f5) record5)) ∙ ap (part 135 5) h);
+        }
+      where
+        d : drop 26 f5 ≡ v ∷ vs
+        d = sym (y .rest refl) ∙ some
 
-      found : nextOf g (drop 26 f5) record5 < slots g → format5 g (take 26 f5) (nextOf g (drop 26 f5) record5) ≡ record5
-          → slotNamed (g .heads) (g .records) (g .vtocStart) (slots g) (part 135 5 record5) ≡ nextOf g (drop 26 f5) record5
-      found i h = go (nextOf g (drop 26 f5) record5) i (sym (five-link g (take 26 f5) (nextOf g (drop 26 f5) record5)) ∙ ap (part 135 5) h)
-        where
-          go : (j : ℕ) → j < slots g → link g j ≡ part 135 5 record5 → slotNamed (g .heads) (g .records) (g .vtocStart) (slots g) (part 135 5 record5) ≡ j
-          go zero i p = ap (slotNamed (g .heads) (g .records) (g .vtocStart) (slots g)) (sym p) ∙ slot-none (g .heads) (g .records) (g .vtocStart) (slots g)
-          go (suc j) i p = slot-found g (slots g) (part 135 5 record5) (limit .heads) (limit .records) (suc j) (omega arith) i p
+        n : nextOf g (drop 26 f5) record5 ≡ slotAt g record5 135
+        n = ap (λ (x : List Run). nextOf g x record5) d
+
+        is-link : r .ok ≡ true → link g (r .slot) ≡ linked
+        is-link q = go (r .slot) (sym z) (sym o ∙ q)
+          where
+            go : (j : ℕ) → slotNamed (g .heads) (g .records) (g .vtocStart) (slots g) linked ≡ j → linkOk j linked ≡ true → link g j ≡ linked
+            go zero p f = none-is g linked long-link (true-is f)
+            go (suc j) p f = slot-named g (slots g) linked (suc j) long-link (bytes-part 135 5 record5 (bytes-part (140 * k) 140 t bytes)) (omega arith) p .0
+
+        named : r .ok ≡ true → r .slot ≡ nextOf g (drop 26 f5) record5
+        named q = sym (n ∙ place-read g (r .slot) record5 135 (is-link q))
+
+        unlinked : (j : ℕ) → j ≡ nextOf g (drop 26 f5) record5 → linkOk j linked ≡ false → link g (nextOf g (drop 26 f5) record5) ≡ linked → ⊥
+        unlinked zero p f q = clash (ap (allAre 0) (sym q ∙ sym (ap (link g) p)) ∙ is-true (none-passes g)) f
+        unlinked (suc j) p f q = let z : eqb (suc j) 0 ≡ false = ne-eqb (suc j) 0 (λ w. absurd (omega arith)) in clash {b = true} refl (rw z at f)
+
+        found : nextOf g (drop 26 f5) record5 < slots g → format5 g (take 26 f5) (nextOf g (drop 26 f5) record5) ≡ record5
+            → slotNamed (g .heads) (g .records) (g .vtocStart) (slots g) linked ≡ nextOf g (drop 26 f5) record5
+        found i h = go (nextOf g (drop 26 f5) record5) i (sym (five-link g (take 26 f5) (nextOf g (drop 26 f5) record5)) ∙ ap (part 135 5) h)
+          where
+            go : (j : ℕ) → j < slots g → link g j ≡ linked → slotNamed (g .heads) (g .records) (g .vtocStart) (slots g) linked ≡ j
+            go zero i p = ap (slotNamed (g .heads) (g .records) (g .vtocStart) (slots g)) (sym p) ∙ slot-none (g .heads) (g .records) (g .vtocStart) (slots g)
+            go (suc j) i p = slot-found g (slots g) linked (limit .heads) (limit .records) (suc j) (omega arith) i p

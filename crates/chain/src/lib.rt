@@ -1,13 +1,16 @@
 // The chain of format 5s in a table, held against the map of free tracks.
 use forms::Geometry;
 ghost use mathlib.Core.Path.{_≡_};
+ghost use mathlib.Core.Bool.{false};
 ghost use Prim.Native.Nat.{_*_, _≤_, _<_};
 ghost use lib.ListN.{length};
+ghost use Rattle.model.specs.Basics.{part};
 ghost use Rattle.model.specs.Model.{slots, tracks};
 ghost use Rattle.rules.proofs.Valid.{Limits};
 ghost use Rattle.tracks.specs.Map.{freeFrom};
 ghost use Rattle.forms.specs.Forms.{geometryOf};
 ghost use Rattle.chain.specs.Chain.{ChainGone, Held};
+ghost use Rattle.chain.specs.Entries.{Listed, Rows, entryOk, linkOk};
 
 // One format 5: whether it holds what it must, whether it is the last, and where the chain goes on: the slot, and the
 // track whose free extents are the first there.
@@ -16,6 +19,95 @@ pub struct Member {
     pub last: bool,
     pub slot: usize,
     pub at: usize,
+}
+
+// No member of the chain.
+fn refused() -> Member
+    ensures { λ r. ⌜ r .ok ≡ false ⌝ }
+{
+    Member {
+        ok: false,
+        last: false,
+        slot: 0,
+        at: 0,
+    }
+}
+
+// How entries compare with the runs of free tracks: whether they are those, and the track from which the other runs go on.
+pub struct Compared {
+    pub ok: bool,
+    pub next: usize,
+}
+
+// Whether the five bytes are the entry of the free extent of `count` tracks. It multiplies, since a division costs more.
+fn is_entry(x: &[u8], h: u32, start: u32, count: u32) -> bool
+    requires { ⌜ (length (now x) ≡ 5) × (h ≤ 255) ⌝ }
+    ensures { λ r. ⌜ r ≡ entryOk h start count (now (x .entry)) ⌝ }
+{
+    if fields::two(x, 0) != start {
+        return false;
+    }
+    let odd = fields::wide(x[4]);
+    if odd >= h {
+        return false;
+    }
+    fields::two(x, 2) * h + odd == count
+}
+
+// Whether the w entries of x are the first runs of free tracks from track `at` on, and zeros where there are fewer.
+fn entries_are(x: &[u8], w: usize, map: &[u64], n: usize, at: usize, g: Geometry) -> Compared
+    requires { ⌜ (length (now x) ≡ 5 * w) × (w ≤ 26) × (at ≤ n) × (n ≤ 64 * length (now map)) × (n ≤ 65535) × Limits (geometryOf g) ⌝ }
+    ensures { λ r. ⌜ Rows (geometryOf g) (now (map .entry)) n at w (now (x .entry)) (r .ok) (r .next) ⌝ }
+{
+    let mut t = at;
+    let mut j: usize = 0;
+    while j < w {
+        let free = tracks::next_run(map, t, n);
+        let from = free.from;
+        let to = free.to;
+        let p = 5 * j;
+        if from >= n {
+            let ok = fields::all_are(&x[p..], 0);
+            return Compared { ok, next: n };
+        }
+        let e = p + 5;
+        if is_entry(&x[p..e], g.heads, from as u32, (to - from) as u32) {
+            t = to;
+            j += 1;
+        } else {
+            return Compared { ok: false, next: n };
+        }
+    }
+    Compared { ok: true, next: t }
+}
+
+// Whether the record is, but for its link, the format 5 of the first 26 runs of free tracks from track `at` on.
+fn compare(rec: &[u8], map: &[u64], n: usize, at: usize, g: Geometry) -> Compared
+    requires { ⌜ (length (now rec) ≡ 140) × (at ≤ n) × (n ≤ 64 * length (now map)) × (n ≤ 65535) × Limits (geometryOf g) ⌝ }
+    ensures { λ r. ⌜ Listed (geometryOf g) (now (map .entry)) n at (now (rec .entry)) (r .ok) (r .next) ⌝ }
+{
+    if fields::part_is(rec, 0, 4, 0x05) {} else {
+        return Compared { ok: false, next: n };
+    }
+    if rec[44] != 0xF5 {
+        return Compared { ok: false, next: n };
+    }
+    let front = entries_are(&rec[4..44], 8, map, n, at, g);
+    if front.ok {} else {
+        return Compared { ok: false, next: n };
+    }
+    entries_are(&rec[45..135], 18, map, n, front.next, g)
+}
+
+// Whether the link of a format 5 is the address of a slot, or zeros where the slot is 0.
+fn is_linked(rec: &[u8], slot: usize) -> bool
+    requires { ⌜ length (now rec) ≡ 140 ⌝ }
+    ensures { λ r. ⌜ r ≡ linkOk slot (part 135 5 (now (rec .entry))) ⌝ }
+{
+    if slot != 0 {
+        return true;
+    }
+    fields::part_is(rec, 135, 5, 0)
 }
 
 // Takes slot k out of the map of free slots. It must hold the free extents from track `at` on, as far as it has room,
@@ -32,21 +124,18 @@ fn take_member(
     ensures { λ r. ⌜ Held (geometryOf g) (now (table .entry)) (now (map .entry)) (freeFrom (now (map .entry)) (tracks (geometryOf g)) at) k (now (empty .entry)) (now (empty .exit)) r ⌝ }
 {
     if tracks::take_range(empty, k, k + 1) {} else {
-        return Member {
-            ok: false,
-            last: false,
-            slot: 0,
-            at: 0,
-        };
+        return refused();
     }
     let t = (g.cylinders * g.heads) as usize;
-    let filled = records::five(map, t, at, g);
-    let made = filled.rec;
-    let behind = filled.next;
     let rec = fields::record_at(table, k);
+    let listed = compare(rec, map, t, at, g);
+    if listed.ok {} else {
+        return refused();
+    }
+    let behind = listed.next;
     let free = tracks::next_run(map, behind, t);
     if free.from >= t {
-        let ok = fields::same(&made, rec);
+        let ok = fields::part_is(rec, 135, 5, 0);
         return Member {
             ok,
             last: true,
@@ -56,8 +145,7 @@ fn take_member(
     }
     let n = (g.tracks * g.records) as usize;
     let slot = fields::slot_of(&rec[135..140], g.heads, g.records, g.start, n);
-    let linked = records::with_next(made, g, slot);
-    let ok = fields::same(&linked, rec);
+    let ok = is_linked(rec, slot);
     Member {
         ok,
         last: false,

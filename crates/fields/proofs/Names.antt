@@ -1,60 +1,131 @@
--- The name rule, one character after the other. Assumes nothing.
-use mathlib.Core.Path.{_≡_, refl, ap}
-use mathlib.Core.Bool.{Bool, true, false, not, _&&_, _||_}
-use mathlib.Core.List.{List, _∷_}
-use Prim.Native.Nat.{ℕ, zero, suc, _+_, _≤_, _<_}
+-- The name rule, part by part, and the sets of bits that tell its characters. Assumes nothing.
+use mathlib.Core.Path.{_≡_, refl, sym, ap, _∙_}
+use mathlib.Core.Bool.{Bool, true, false, not, cond, _&&_, _||_}
+use mathlib.Core.List.{List, [], _∷_}
+use Prim.Native.Nat.{ℕ, zero, suc, _+_, _-_, _≤_, _<_}
 use native.Mathlib.Omega.{arith}
-use borrow.Author.Tests.{ne-eqb, lt-ltb, le-ltb, eqb-true, ltb-true, ltb-false}
-use lib.Dec.{eqb, ltb}
+use borrow.Author.Tests.{ne-eqb, eq-eqb, lt-ltb, le-ltb, eqb-true}
+use lib.Dec.{T, eqb, leb, ltb}
 use lib.ListN.{length, getD, drop, drop-of-length-le}
-use Rattle.model.proofs.Lists.{by}
+use Rattle.model.specs.Basics.{all, upFrom}
+use Rattle.model.proofs.Lists.{and-l, and-r, by, clash}
 use Rattle.rules.specs.Table.{inPart, nameFrom, startsPart}
-use Rattle.fields.specs.Tests.{allAre, partAfter}
+use Rattle.fields.specs.Tests.{PartEnd, allAre, inLow, inSet}
 use Rattle.fields.proofs.Rows.{rest}
 
 or-false : (t : Bool) → t || false ≡ t
 or-false true = refl
 or-false false = refl
 
--- no blank: the part grows, or a new one starts, or the name is bad
-next : (n c : ℕ) (cs : List ℕ) → n ≤ 8 → (c ≡ 0x40 → ⊥) → nameFrom n (c ∷ cs) ≡ ltb (partAfter n c) 9 && nameFrom (partAfter n c) cs
-unfolding partAfter
-next zero c cs h b = by (startsPart c) (λ e. rw e) (λ e. rw e)
-next (suc n) c cs h b =
-    let z : eqb (suc n) 0 ≡ false = ne-eqb (suc n) 0 (λ q. absurd (omega arith)) in
-    let nb : eqb c 0x40 ≡ false = ne-eqb c 0x40 b in
-    let s : suc n + 1 ≡ suc (suc n) = omega arith in
-    by (eqb c 0x4B)
-    (λ e.
-    let p : c ≡ 0x4B = eqb-true c 0x4B e in
-    let i : inPart c ≡ false = ap inPart p in
-    rw (z, e, nb, i, or-false, or-false))
-    (λ e.
-    by (inPart c)
-    (λ i.
+or-none : (t : Bool) → ((t || false) || false) ≡ t
+or-none true = refl
+or-none false = refl
+
+-- ---- the sets: one test for all bytes, computed
+
+abbrev agree : Bool → Bool → Bool
+agree true b = b
+agree false b = not b
+
+agree-is : (a b : Bool) → T (agree a b) → a ≡ b
+agree-is true true t = refl
+agree-is true false t = absurd t
+agree-is false true t = absurd t
+agree-is false false t = refl
+
+for-all : (f : ℕ → Bool) (a n : ℕ) → T (all f (upFrom a n)) → (c : ℕ) → a ≤ c → c < a + n → T (f c)
+for-all f a zero t c u v = absurd (omega arith)
+for-all f a (suc n) t c u v =
+    elim (native.Mathlib.Decide.ℕ-discrete a c) [
+      | yes q ↦ mathlib.Core.Path.subst (λ (x : ℕ). T (f x)) q (and-l (f a) _ t)
+      | no q ↦ for-all f (suc a) n (and-r (f a) _ t) c (omega arith) (omega arith)
+    ]
+
+pub starts-high : (c : ℕ) → 0xC0 ≤ c → c < 256 → inSet 0x0000_03fc_03fe_03fe c ≡ startsPart c
+starts-high c u v = agree-is _ _ (for-all (λ x. agree (inSet 0x0000_03fc_03fe_03fe x) (startsPart x)) 0xC0 64 tt c u (omega arith))
+
+pub starts-low : (c : ℕ) → c < 0xC0 → inLow 0x1800_0000_0800_0000 c ≡ startsPart c
+starts-low c v = agree-is _ _ (for-all (λ x. agree (inLow 0x1800_0000_0800_0000 x) (startsPart x)) 0 0xC0 tt c (omega arith) (omega arith))
+
+pub parts-high : (c : ℕ) → 0xC0 ≤ c → c < 256 → inSet 0x03ff_03fc_03fe_03fe c ≡ inPart c
+parts-high c u v = agree-is _ _ (for-all (λ x. agree (inSet 0x03ff_03fc_03fe_03fe x) (inPart x)) 0xC0 64 tt c u (omega arith))
+
+pub parts-low : (c : ℕ) → c < 0xC0 → inLow 0x1800_0001_0800_0000 c ≡ inPart c
+parts-low c v = agree-is _ _ (for-all (λ x. agree (inLow 0x1800_0001_0800_0000 x) (inPart x)) 0 0xC0 tt c (omega arith) (omega arith))
+
+-- ---- one part: so many characters more
+
+grow : (n c : ℕ) (cs : List ℕ) → inPart c ≡ true → nameFrom (suc n) (c ∷ cs) ≡ (ltb (suc n) 8 && nameFrom (suc (suc n)) cs)
+grow n c cs i =
+    let p : eqb c 0x4B ≡ false = ne-eqb c 0x4B (λ e. clash i (ap inPart e)) in
+    let b : eqb c 0x40 ≡ false = ne-eqb c 0x40 (λ e. clash i (ap inPart e)) in
+    rw (p, b, i)
+
+abbrev pub AllIn : List ℕ → ℕ → ℕ → Type 0
+AllIn s j e = (i : ℕ) → j ≤ i → i < e → inPart (getD s i 0) ≡ true
+
+pub in-more : (s : List ℕ) (j i : ℕ) → AllIn s j i → inPart (getD s i 0) ≡ true → AllIn s j (i + 1)
+in-more s j i a x k u v =
+    elim (native.Mathlib.Decide.ℕ-discrete k i) [
+      | yes q ↦ rw q x
+      | no q ↦ a k u (omega arith)
+    ]
+
+-- m characters: they go on with a part of 8 at most, or make it too long
+walk : (s : List ℕ) (m n j : ℕ) → AllIn s j (j + m) → j + m ≤ length s → suc n + m ≤ 8 → nameFrom (suc n) (drop j s) ≡ nameFrom (suc n + m) (drop (j + m) s)
+walk s zero n j a l h =
+    let e : suc n ≡ suc n + 0 = omega arith in
+    let f : j ≡ j + 0 = omega arith in
+    ap (λ (x : ℕ). nameFrom x (drop j s)) e ∙ ap (λ (x : ℕ). nameFrom (suc n + 0) (drop x s)) f
+walk s (suc m) n j a l h =
+    let e : j + 1 + m ≡ j + suc m = omega arith in
+    let f : suc (suc n) + m ≡ suc n + suc m = omega arith in
+    rw (rest s j (omega arith), grow n (getD s j 0) (drop (j + 1) s) (a j (omega arith) (omega arith)), lt-ltb (suc n) 8 (omega arith))
+    (walk s m (suc n) (j + 1) (λ i u v. a i (omega arith) (omega arith)) (omega arith) (omega arith)
+    ∙ ap (λ (x : ℕ). nameFrom x (drop (j + 1 + m) s)) f ∙ ap (λ (x : ℕ). nameFrom (suc n + suc m) (drop x s)) e)
+
+walk-long : (s : List ℕ) (m n j : ℕ) → AllIn s j (j + m) → j + m ≤ length s → suc n ≤ 8 → 8 < suc n + m → nameFrom (suc n) (drop j s) ≡ false
+walk-long s zero n j a l k h = absurd (omega arith)
+walk-long s (suc m) n j a l k h =
     by (ltb (suc n) 8)
-    (λ k. let u : suc n < 8 = ltb-true _ _ k in rw (z, e, nb, i, s, k, lt-ltb (suc (suc n)) 9 (omega arith)))
-    (λ k. let u : 8 ≤ suc n = ltb-false _ _ k in rw (z, e, nb, i, s, k, le-ltb (suc (suc n)) 9 (omega arith))))
-    (λ i. rw (z, e, nb, i)))
+    (λ q.
+    let w : suc n < 8 = borrow.Author.Tests.ltb-true _ _ q in
+    rw (rest s j (omega arith), grow n (getD s j 0) (drop (j + 1) s) (a j (omega arith) (omega arith)), q)
+    (walk-long s m (suc n) (j + 1) (λ i u v. a i (omega arith) (omega arith)) (omega arith) (omega arith) (omega arith)))
+    (λ q. rw (rest s j (omega arith), grow n (getD s j 0) (drop (j + 1) s) (a j (omega arith) (omega arith)), q))
 
-module _ (l : List ℕ) (i n : ℕ) where
-  -- the character at place i is no blank
-  pub name-next : i < length l → n ≤ 8 → (getD l i 0 ≡ 0x40 → ⊥) → partAfter n (getD l i 0) ≤ 8 → nameFrom n (drop i l) ≡ nameFrom (partAfter n (getD l i 0)) (drop (i + 1) l)
-  name-next h k b m = rw (rest l i h, next n (getD l i 0) (drop (i + 1) l) k b, lt-ltb (partAfter n (getD l i 0)) 9 (omega arith))
+-- a part that starts at place i and ends before place e
+module _ (s : List ℕ) (i e : ℕ) (h : i < length s) where
+  pub no-start : startsPart (getD s i 0) ≡ false → nameFrom 0 (drop i s) ≡ false
+  no-start x = rw (rest s i h, x)
 
-  pub name-bad : i < length l → n ≤ 8 → (getD l i 0 ≡ 0x40 → ⊥) → 8 < partAfter n (getD l i 0) → nameFrom n (drop i l) ≡ false
-  name-bad h k b m = rw (rest l i h, next n (getD l i 0) (drop (i + 1) l) k b, le-ltb (partAfter n (getD l i 0)) 9 (omega arith))
+  module _ (x : startsPart (getD s i 0) ≡ true) (p : PartEnd s (i + 1) e) where
+    started : nameFrom 0 (drop i s) ≡ nameFrom 1 (drop (i + 1) s)
+    started = rw (rest s i h, x)
 
-  -- it is a blank: where a part is to start, and after the name
-  pub blank-first : i < length l → n ≡ 0 → getD l i 0 ≡ 0x40 → nameFrom n (drop i l) ≡ false
-  blank-first h z b = rw (z, rest l i h, b)
+    all-in : AllIn s (i + 1) (i + 1 + (e - (i + 1)))
+    all-in j u v = p .inside j u (omega (arith, p .low))
 
-pub blank-next : (l : List ℕ) (i n : ℕ) → i < length l → (n ≡ 0 → ⊥) → getD l i 0 ≡ 0x40 → nameFrom n (drop i l) ≡ allAre 0x40 (drop i l)
-unfolding allAre
-blank-next l i zero h z b = absurd (z refl)
-blank-next l i (suc n) h z b = rw (rest l i h, b, or-false)
+    pub too-long : 8 < e - i → nameFrom 0 (drop i s) ≡ false
+    too-long q = started ∙ walk-long s (e - (i + 1)) 0 (i + 1) all-in (omega (arith, p .low, p .high)) (omega arith) (omega (arith, p .low))
 
--- the end: some part has started
-pub name-end : (l : List ℕ) (i n : ℕ) → length l ≤ i → nameFrom n (drop i l) ≡ not (eqb n 0)
-name-end l i zero h = rw (drop-of-length-le l {i = i} h)
-name-end l i (suc n) h = rw (drop-of-length-le l {i = i} h, ne-eqb (suc n) 0 (λ q. absurd (omega arith)))
+    module _ (q : e - i ≤ 8) where
+      part-done : nameFrom 0 (drop i s) ≡ nameFrom (suc (e - (i + 1))) (drop e s)
+      part-done =
+          let a : i + 1 + (e - (i + 1)) ≡ e = omega (arith, p .low) in
+          let b : 1 + (e - (i + 1)) ≡ suc (e - (i + 1)) = omega arith in
+          started ∙ walk s (e - (i + 1)) 0 (i + 1) all-in (omega (arith, p .low, p .high)) (omega (arith, p .low))
+          ∙ ap (λ (x : ℕ). nameFrom x (drop (i + 1 + (e - (i + 1))) s)) b ∙ ap (λ (x : ℕ). nameFrom (suc (e - (i + 1))) (drop x s)) a
+
+      pub at-end : e ≡ length s → nameFrom 0 (drop i s) ≡ true
+      at-end z = part-done ∙ rw (drop-of-length-le s {i = e} (omega arith))
+
+      pub at-period : e < length s → getD s e 0 ≡ 0x4B → nameFrom 0 (drop i s) ≡ nameFrom 0 (drop (e + 1) s)
+      at-period u z = part-done ∙ rw (rest s e u, z) (or-none (nameFrom 0 (drop (e + 1) s)))
+
+      pub at-other : e < length s → (getD s e 0 ≡ 0x4B → ⊥) → nameFrom 0 (drop i s) ≡ allAre 0x40 (drop e s)
+      unfolding allAre
+      at-other u z = part-done ∙ rw (rest s e u, ne-eqb (getD s e 0) 0x4B z, p .stop u, or-false)
+
+pub no-more : (s : List ℕ) (i : ℕ) → length s ≤ i → nameFrom 0 (drop i s) ≡ false
+no-more s i h = rw (drop-of-length-le s {i = i} h)

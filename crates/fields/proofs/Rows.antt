@@ -74,15 +74,12 @@ unfolding allAre
 
 -- ---- two rows
 
-pub same-hit : (a b : List ℕ) (i : ℕ) → i < length a → i < length b → (getD a i 0 ≡ getD b i 0 → ⊥) → same (drop i a) (drop i b) ≡ false
-same-hit a b i h k n = rw (rest a i h, rest b i k, ne-eqb (getD a i 0) (getD b i 0) n)
+pub same-next : (x : ℕ) (a b : List ℕ) (i : ℕ) → i < length a → i < length b
+    → eqb x 0 && same (drop i a) (drop i b) ≡ eqb (bitOr x (bitXor (getD a i 0) (getD b i 0))) 0 && same (drop (i + 1) a) (drop (i + 1) b)
+same-next x a b i h k = rw (rest a i h, rest b i k, gather x (getD a i 0) (getD b i 0), and-assoc)
 
-pub same-next : (a b : List ℕ) (i : ℕ) → i < length a → i < length b → getD a i 0 ≡ getD b i 0
-    → same (drop i a) (drop i b) ≡ same (drop (i + 1) a) (drop (i + 1) b)
-same-next a b i h k e = rw (rest a i h, rest b i k, eq-eqb (getD a i 0) (getD b i 0) e)
-
-pub same-end : (a b : List ℕ) (i : ℕ) → length a ≤ i → length b ≤ i → same (drop i a) (drop i b) ≡ true
-same-end a b i h k = rw (drop-of-length-le a {i = i} h, drop-of-length-le b {i = i} k)
+pub same-end : (x : ℕ) (a b : List ℕ) (i : ℕ) → length a ≤ i → length b ≤ i → eqb x 0 && same (drop i a) (drop i b) ≡ eqb x 0
+same-end x a b i h k = rw (drop-of-length-le a {i = i} h, drop-of-length-le b {i = i} k) (and-true (eqb x 0))
 
 -- lists of two lengths are two lists
 pub same-long : (a b : List ℕ) → (length a ≡ length b → ⊥) → same a b ≡ false

@@ -1,20 +1,32 @@
 -- What the tests of label records answer, as the code goes. Assumes nothing.
-use Prim.Native.Nat.{ℕ, _+_, _-_, _*_, _/_, _%_}
-use mathlib.Core.Bool.{Bool, cond, _&&_, _||_}
+use Prim.Native.Nat.{ℕ, _+_, _-_, _*_, _/_, _%_, _^_, _≤_, _<_}
+use mathlib.Core.Path.{_≡_}
+use mathlib.Core.Bool.{Bool, true, false, cond, _&&_, _||_}
 use mathlib.Core.List.{List}
 use lib.Dec.{leb, ltb, eqb}
-use lib.ListN.{getD}
+use lib.ListN.{getD, length}
 use Rattle.model.specs.Basics.{all, get2}
 use Rattle.rules.specs.Reading.{trackAt}
-use Rattle.rules.specs.Table.{inPart, startsPart}
+use Rattle.rules.specs.Table.{inPart}
 
 -- every byte is v
 unfoldable pub allAre : ℕ → List ℕ → Bool
 allAre v xs = all (λ b. eqb b v) xs
 
--- the length of a name's present part after the character c, which is no blank; it was n before. 9: c cannot stand there
-unfoldable pub partAfter : ℕ → ℕ → ℕ
-partAfter n c = cond (eqb n 0) (cond (startsPart c) 1 9) (cond (eqb c 0x4B) 0 (cond (inPart c) (n + 1) 9))
+-- the bit of the character c in a set of 64
+abbrev pub inSet : ℕ → ℕ → Bool
+inSet w c = eqb (w / 2 ^ (c % 64) % 2) 1
+
+-- the same for the characters X'40' to X'7F'; no other is in the set
+abbrev pub inLow : ℕ → ℕ → Bool
+inLow w c = cond (ltb c 0x40) false (cond (leb 0x80 c) false (inSet w c))
+
+-- from place `from` up to r the characters may stand in a part of a name; the one at r may not, or is not there
+pub record PartEnd (s : List ℕ) (from r : ℕ) : Type 0 where
+  pub low : from ≤ r
+  pub high : r ≤ length s
+  pub inside : (i : ℕ) → from ≤ i → i < r → inPart (getD s i 0) ≡ true
+  pub stop : r < length s → inPart (getD s r 0) ≡ false
 
 -- the type byte of an extent, by its first and last track in their cylinders
 abbrev pub typeOk : ℕ → ℕ → ℕ → ℕ → Bool

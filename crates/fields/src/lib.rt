@@ -4,12 +4,12 @@ pub mod listing;
 ghost use mathlib.Core.Path.{_≡_};
 ghost use Prim.Native.Nat.{_+_, _-_, _*_, _≤_, _<_};
 ghost use lib.ListN.{length};
-ghost use Rattle.model.specs.Basics.{get2, get3, part, same, within};
+ghost use Rattle.model.specs.Basics.{get2, get3, part, same};
 ghost use Rattle.rules.specs.Layout.{extentPart};
 ghost use Rattle.rules.specs.Reading.{trackAt};
 ghost use Rattle.rules.specs.Table.{goodName, inPart, startsPart};
 ghost use Rattle.fields.specs.Records.{putRecord, slotBytes};
-ghost use Rattle.fields.specs.Tests.{addressOk, allAre, goodTen, partAfter, slotNamed, typeOk};
+ghost use Rattle.fields.specs.Tests.{PartEnd, addressOk, allAre, goodTen, inLow, inSet, slotNamed, typeOk};
 
 // ---- numbers and rows of bytes
 
@@ -72,21 +72,20 @@ pub fn part_is(s: &[u8], i: usize, n: usize, v: u8) -> bool
     all_are(&s[i..e], v)
 }
 
-// Whether a and b hold the same bytes.
+// Whether a and b hold the same bytes. There is no exit from the loop, as in all_are.
 pub fn same(a: &[u8], b: &[u8]) -> bool
     ensures { λ r. ⌜ r ≡ same (now (a .entry)) (now (b .entry)) ⌝ }
 {
     if a.len() != b.len() {
         return false;
     }
+    let mut unlike: u8 = 0;
     let mut i = 0;
     while i < a.len() {
-        if a[i] != b[i] {
-            return false;
-        }
+        unlike = unlike | (a[i] ^ b[i]);
         i += 1;
     }
-    true
+    unlike == 0
 }
 
 // ---- records
@@ -141,94 +140,94 @@ pub fn extent_part<'a>(f1: &'a [u8], f3: &'a [u8], e: usize) -> &'a [u8]
 
 // ---- names
 
-// Whether c lies from lo to hi.
-fn within(lo: u8, hi: u8, c: u8) -> bool
-    ensures { λ r. ⌜ r ≡ within lo hi c ⌝ }
+// The characters of names as sets of bits: bit i of a low set is X'40' + i, of a high one X'C0' + i. Names have no others.
+// A test of one bit costs less than the ranges, and less than an array, which is made anew where it is used.
+const STARTS_LOW: u64 = 0x1800_0000_0800_0000; // 5B, 7B, 7C
+
+const STARTS_HIGH: u64 = 0x0000_03fc_03fe_03fe; // C1 to C9, D1 to D9, E2 to E9
+
+const PARTS_LOW: u64 = 0x1800_0001_0800_0000; // and 60
+
+const PARTS_HIGH: u64 = 0x03ff_03fc_03fe_03fe; // and F0 to F9
+
+// Whether the set has the bit of c.
+fn has(set: u64, c: u8) -> bool
+    ensures { λ r. ⌜ r ≡ inSet set c ⌝ }
 {
-    if c < lo {
+    (set >> (c % 64)) % 2 == 1
+}
+
+// Whether c is one of X'40' to X'7F', and in the set.
+fn has_low(set: u64, c: u8) -> bool
+    ensures { λ r. ⌜ r ≡ inLow set c ⌝ }
+{
+    if c < 0x40 {
         return false;
     }
-    c <= hi
+    if c >= 0x80 {
+        return false;
+    }
+    has(set, c)
 }
 
 // Whether c is a letter or national: it may start a part of a name.
 pub fn starts_part(c: u8) -> bool
     ensures { λ r. ⌜ r ≡ startsPart c ⌝ }
 {
-    if within(0xC1, 0xC9, c) {
-        return true;
+    if c >= 0xC0 {
+        return has(STARTS_HIGH, c);
     }
-    if within(0xD1, 0xD9, c) {
-        return true;
-    }
-    if within(0xE2, 0xE9, c) {
-        return true;
-    }
-    if c == 0x5B {
-        return true;
-    }
-    if c == 0x7B {
-        return true;
-    }
-    c == 0x7C
+    has_low(STARTS_LOW, c)
 }
 
 // Whether c may stand in a part of a name, behind its start.
 pub fn in_part(c: u8) -> bool
     ensures { λ r. ⌜ r ≡ inPart c ⌝ }
 {
-    if starts_part(c) {
-        return true;
+    if c >= 0xC0 {
+        return has(PARTS_HIGH, c);
     }
-    if within(0xF0, 0xF9, c) {
-        return true;
-    }
-    c == 0x60
+    has_low(PARTS_LOW, c)
 }
 
-// The length of a name's present part after the character c, which is no blank; it was n before c, 0 where a part is to
-// start. More than 8: c cannot stand there.
-fn part_after(n: u32, c: u8) -> u32
-    requires { ⌜ n ≤ 8 ⌝ }
-    ensures { λ r. ⌜ (r ≡ partAfter n c) × (r ≤ 9) ⌝ }
+// Where the characters that may stand in a part, from place `from` on, end.
+fn part_end(name: &[u8], from: usize) -> usize
+    requires { ⌜ from ≤ length (now name) ⌝ }
+    ensures { λ r. ⌜ PartEnd (now (name .entry)) from r ⌝ }
 {
-    if n == 0 {
-        if starts_part(c) {
-            return 1;
+    let mut i = from;
+    while i < name.len() {
+        if in_part(name[i]) {
+            i += 1;
+        } else {
+            return i;
         }
-        return 9;
     }
-    if c == 0x4B {
-        return 0;
-    }
-    if in_part(c) {
-        return n + 1;
-    }
-    9
+    i
 }
 
-// Whether a name obeys the rule: parts of 1 to 8 characters joined by periods, then blanks.
+// Whether a name obeys the rule: parts of 1 to 8 characters joined by periods, then blanks. A turn sees one part.
 pub fn name_ok(name: &[u8]) -> bool
     ensures { λ r. ⌜ r ≡ goodName (now (name .entry)) ⌝ }
 {
-    let mut n: u32 = 0;
-    let mut i = 0;
+    let mut i: usize = 0;
     while i < name.len() {
-        let c = name[i];
-        if c == 0x40 {
-            if n == 0 {
-                return false;
-            }
-            return all_are(&name[i..], 0x40);
-        }
-        let m = part_after(n, c);
-        if m > 8 {
+        if starts_part(name[i]) {} else {
             return false;
         }
-        n = m;
-        i += 1;
+        let e = part_end(name, i + 1);
+        if e - i > 8 {
+            return false;
+        }
+        if e == name.len() {
+            return true;
+        }
+        if name[e] != 0x4B {
+            return all_are(&name[e..], 0x40);
+        }
+        i = e + 1;
     }
-    n != 0
+    false
 }
 
 // ---- extents

@@ -3,21 +3,21 @@ use Rattle.label_check.specs.declared.Form.the-variants.{Bad, Good}
 use mathlib.Core.Path.{_≡_, refl, sym, ap, ap₂, _∙_, subst}
 use mathlib.Core.Bool.{Bool, true, false}
 use mathlib.Core.List.{List, _++_}
-use Prim.Native.Nat.{ℕ, _≤_, _<_}
+use Prim.Native.Nat.{ℕ, _*_, _≤_, _<_}
+use native.Mathlib.Nat.{mul-le-mul-left}
 use native.Mathlib.Omega.{arith}
 use lib.ListN.{length, getD}
 use Rattle.model.specs.Model.{Extent, Geometry, Label, oneSlot, overs, slots, slotsOf, tracks}
-use Rattle.model.proofs.Lists.{All, clash}
+use Rattle.model.proofs.Lists.{by, clash}
 use Rattle.model.proofs.Runs.{Once}
 use Rattle.rules.specs.Reading.{chop, readExtents, readLabel, recordAt, slotAt}
-use Rattle.rules.proofs.Valid.{GoodExtent}
 use Rattle.sound.specs.Sound.{LabelOk}
 use Rattle.tracks.specs.Map.{Shows}
 use Rattle.fields.specs.Records.{Bytes, slotBytes}
-use Rattle.fields.proofs.Slots.{chop-slot}
-use Rattle.forms.proofs.Written.{read-length}
-use Rattle.label_check.specs.Label.{formOf}
-use Rattle.label_check.specs.Marks.{AtLabel, Took, TookLabel, TookSlots, labelAt, units}
+use Rattle.fields.proofs.Slots.{chop-slot, length-part}
+use Rattle.label_check.specs.Label.{formOf, shapeOf, usedOk}
+use Rattle.label_check.specs.Marks.{AtLabel, Took, TookLabel, TookSlots, TookTested, labelAt, units}
+use Rattle.label_check.proofs.Shape.{Shaped, formIf, shape-bad, shape-good}
 use Rattle.label_check.proofs.Meaning.{form-bad, form-good, label-slot, slot3-is}
 
 module _ (g : Geometry) (t : List ℕ) (k : ℕ) (a : AtLabel g t k) (bytes : Bytes t) where
@@ -36,16 +36,25 @@ module _ (g : Geometry) (t : List ℕ) (k : ℕ) (a : AtLabel g t k) (bytes : By
   pub good-form : (q : ℕ) → formOf g t k ≡ Good q → Good-with q
   good-form q e = form-good g (a .limits) t bytes (a .long) k (a .low) (a .high) (a .id) q e
 
-  pub label-bad : (m s : List ℕ) → formOf g t k ≡ Bad → TookLabel g t k m m s s false
-  label-bad m s e =
+  bad-form : (m m′ s s′ : List ℕ) → length m′ ≡ length m → length s′ ≡ length s → formOf g t k ≡ Bad → TookLabel g t k m m′ s s′ false
+  bad-form m m′ s s′ lm ls e =
       record {
-        longMap = refl;
-        longSlots = refl;
+        longMap = lm;
+        longSlots = ls;
         good = λ q. clash {b = false} q refl;
         free = λ q. clash {b = false} q refl;
         empty = λ q. clash {b = false} q refl;
         no = λ q hs us h u ok o w. form-bad g (a .limits) t bytes (a .long) k (a .low) (a .high) (a .id) e ok;
       }
+
+  pub slot-long : (j : ℕ) → j < slots g → length (slotBytes t j) ≡ 140
+  slot-long j u = length-part (140 * j) 140 t (let m = mul-le-mul-left 140 u in omega (arith, a .long))
+
+  pub label-bad : (m s : List ℕ) → shapeOf g t k ≡ Bad → TookLabel g t k m m s s false
+  label-bad m s e = bad-form m m s s refl refl (shape-bad g (a .limits) t slot-long k (a .high) e)
+
+  pub shaped : (q : ℕ) → shapeOf g t k ≡ Good q → Shaped g (a .limits) t slot-long k (a .high) q
+  shaped q e = shape-good g (a .limits) t slot-long k (a .high) q e
 
   module _ (q : ℕ) (ok : Good-with q) where
     slots-are : slotsOf l ≡ oneSlot k ++ oneSlot q
@@ -69,15 +78,6 @@ module _ (g : Geometry) (t : List ℕ) (k : ℕ) (a : AtLabel g t k) (bytes : By
     unfolding readLabel
     extents-are = ap (λ (x : List ℕ). readExtents (g .heads) f1 x (getD f1 59 0)) third-is
 
-    pub extents-good : All (GoodExtent g) (readExtents (g .heads) f1 (slotBytes t q) (getD f1 59 0))
-    extents-good = subst (All (GoodExtent g)) extents-are (ok .0 .good .extents)
-
-    pub few-extents : getD f1 59 0 ≤ 16
-    few-extents =
-        let m = ok .0 .good .most in
-        let e = ap length extents-are ∙ read-length g f1 (slotBytes t q) (getD f1 59 0) in
-        omega arith
-
     pub label-taken : (m m′ s s′ : List ℕ) (r : Bool) → TookSlots k q s s′ true → Took (tracks g) (overs (readExtents (g .heads) f1 (slotBytes t q) (getD f1 59 0))) m m′ r
         → TookLabel g t k m m′ s s′ r
     label-taken m m′ s s′ r x y =
@@ -90,19 +90,35 @@ module _ (g : Geometry) (t : List ℕ) (k : ℕ) (a : AtLabel g t k) (bytes : By
           no = λ e hs us h u good o w. y .no e hs h (subst (λ (es : List Extent). Once (tracks g) (overs es ++ hs)) extents-are o);
         }
 
+  -- ---- the shape is good: the extents in use decide
+
+  module _ (q : ℕ) (e : shapeOf g t k ≡ Good q) where
+    abbrev used : Bool
+    used = usedOk g f1 (slotBytes t q) (getD f1 59 0)
+
+    form-is : formOf g t k ≡ formIf used q
+    form-is = shaped q e .form
+
+    when-good : used ≡ true → Good-with q
+    when-good u = good-form q (form-is ∙ ap (λ (b : Bool). formIf b q) u)
+
+    when-bad : used ≡ false → (m m′ s s′ : List ℕ) → length m′ ≡ length m → length s′ ≡ length s → TookLabel g t k m m′ s s′ false
+    when-bad u m m′ s s′ lm ls = bad-form m m′ s s′ lm ls (form-is ∙ ap (λ (b : Bool). formIf b q) u)
+
+    pub slots-refused : (m s s′ : List ℕ) → TookSlots k q s s′ false → TookLabel g t k m m s s′ false
+    slots-refused m s s′ x = by used (λ u. slots-bad q (when-good u) m s s′ x) (λ u. when-bad u m m s s′ refl (x .long))
+
+    tested : (m m′ s s′ : List ℕ) (r : Bool) → TookSlots k q s s′ true → TookTested g f1 (slotBytes t q) (getD f1 59 0) m m′ r → TookLabel g t k m m′ s s′ r
+    tested m m′ s s′ true x y = label-taken q (when-good (y .good refl)) m m′ s s′ true x (y .took (y .good refl))
+    tested m m′ s s′ false x y = by used (λ u. label-taken q (when-good u) m m′ s s′ false x (y .took u)) (λ u. when-bad u m m′ s s′ (y .long) (x .long))
+
     -- the same for the records and the count as the code has them
     module _ (x1 x3 : List ℕ) (n : ℕ) (e1 : x1 ≡ f1) (e3 : x3 ≡ slotBytes t q) (en : n ≡ getD x1 59 0) where
       count : n ≡ getD f1 59 0
       count = en ∙ ap (λ (x : List ℕ). getD x 59 0) e1
 
-      same-extents : readExtents (g .heads) x1 x3 n ≡ readExtents (g .heads) f1 (slotBytes t q) (getD f1 59 0)
-      same-extents = λ i. readExtents (g .heads) (e1 i) (e3 i) (count i)
-
       pub asked-few : n ≤ 16
-      asked-few = let a = few-extents in let b = count in omega arith
+      asked-few = let a = shaped q e .few in let b = count in omega arith
 
-      pub asked-good : All (GoodExtent g) (readExtents (g .heads) x1 x3 n)
-      asked-good = subst (All (GoodExtent g)) (sym same-extents) extents-good
-
-      pub taken-so : (m m′ s s′ : List ℕ) (r : Bool) → TookSlots k q s s′ true → Took (tracks g) (overs (readExtents (g .heads) x1 x3 n)) m m′ r → TookLabel g t k m m′ s s′ r
-      taken-so m m′ s s′ r x y = label-taken m m′ s s′ r x (subst (λ (es : List Extent). Took (tracks g) (overs es) m m′ r) same-extents y)
+      pub taken-so : (m m′ s s′ : List ℕ) (r : Bool) → TookSlots k q s s′ true → TookTested g x1 x3 n m m′ r → TookLabel g t k m m′ s s′ r
+      taken-so m m′ s s′ r x y = tested m m′ s s′ r x (subst (λ (i : ℕ). TookTested g f1 (slotBytes t q) i m m′ r) count (subst (λ (z : List ℕ). TookTested g f1 z n m m′ r) e3 (subst (λ (z : List ℕ). TookTested g z x3 n m m′ r) e1 y)))

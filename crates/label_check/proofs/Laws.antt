@@ -9,13 +9,13 @@ use native.Mathlib.Numerals.{add-one}
 use borrow.Author.Tests.{lt-leb, le-leb}
 use lib.ListN.{getD}
 use Rattle.model.specs.Basics.{part}
-use Rattle.model.specs.Model.{Geometry, tracks}
+use Rattle.model.specs.Model.{Geometry}
 use Rattle.rules.specs.Layout.{extentPart}
 use Rattle.rules.proofs.Keyed.{count}
 use Rattle.fields.specs.Records.{slotBytes}
 use Rattle.fields.specs.Tests.{allAre}
 use Rattle.forms.specs.Forms.{extentOk, oneOk, threeOk}
-use Rattle.label_check.specs.Label.{extentsOk, fewOk, formOf, goodIf, goodThird, namedThird, orZero, thirdOf}
+use Rattle.label_check.specs.Label.{extentsOk, fewShape, goodIf, goodThird, namedThird, orZero, shapeOf, thirdShape, unusedOk}
 
 module _ (h t : ℕ) (f1 f3 : List ℕ) (n e m : ℕ) (u : e < m) where
   step : extentsOk h t f1 f3 n e (m - e) ≡ (extentOk h t n e (extentPart f1 f3 e) && extentsOk h t f1 f3 n (e + 1) (m - (e + 1)))
@@ -32,15 +32,30 @@ pub extents-end : (h t : ℕ) (f1 f3 : List ℕ) (n e m : ℕ) → m ≤ e → e
 unfolding extentsOk
 extents-end h t f1 f3 n e m u = let q : m - e ≡ 0 = omega arith in rw q
 
+module _ (f1 f3 : List ℕ) (e m : ℕ) (u : e < m) where
+  zero-step : unusedOk f1 f3 e (m - e) ≡ (allAre 0 (extentPart f1 f3 e) && unusedOk f1 f3 (e + 1) (m - (e + 1)))
+  unfolding unusedOk
+  zero-step = let q : m - e ≡ suc (m - suc e) = omega arith in rw (q, add-one)
+
+  pub unused-next : allAre 0 (extentPart f1 f3 e) ≡ true → unusedOk f1 f3 e (m - e) ≡ unusedOk f1 f3 (e + 1) (m - (e + 1))
+  unused-next p = rw (zero-step, p)
+
+  pub unused-bad : allAre 0 (extentPart f1 f3 e) ≡ false → unusedOk f1 f3 e (m - e) ≡ false
+  unused-bad p = rw (zero-step, p)
+
+pub unused-end : (f1 f3 : List ℕ) (e m : ℕ) → m ≤ e → unusedOk f1 f3 e (m - e) ≡ true
+unfolding unusedOk
+unused-end f1 f3 e m u = let q : m - e ≡ 0 = omega arith in rw q
+
 -- ---- a label: the definitions, by the tests that led to an answer
 
-module _ (h t : ℕ) (f1 : List ℕ) (n : ℕ) where
-  pub few-linked : allAre 0 (part 135 5 f1) ≡ false → false ≡ fewOk h t f1 n
-  unfolding fewOk
+module _ (f1 : List ℕ) (n : ℕ) where
+  pub few-linked : allAre 0 (part 135 5 f1) ≡ false → false ≡ fewShape f1 n
+  unfolding fewShape
   few-linked e = rw e
 
-  pub few-free : (r : Bool) → allAre 0 (part 135 5 f1) ≡ true → r ≡ extentsOk h t f1 f1 n 0 3 → r ≡ fewOk h t f1 n
-  unfolding fewOk
+  pub few-free : (r : Bool) → allAre 0 (part 135 5 f1) ≡ true → r ≡ unusedOk f1 f1 n (3 - n) → r ≡ fewShape f1 n
+  unfolding fewShape
   few-free r e q = rw e q
 
 or-zero : (b : Bool) → orZero b 0 ≡ 0
@@ -48,26 +63,26 @@ or-zero true = refl
 or-zero false = refl
 
 module _ (g : Geometry) (t f1 : List ℕ) (n q : ℕ) (e : q ≡ namedThird g f1) where
-  pub third-none : q ≡ 0 → 0 ≡ thirdOf g t f1 n
-  unfolding thirdOf
-  third-none z = let y : namedThird g f1 ≡ 0 = sym e ∙ z in rw y (sym (or-zero (threeOk (slotBytes t 0) && extentsOk (g .heads) (tracks g) f1 (slotBytes t 0) n 0 16)))
+  pub third-none : q ≡ 0 → 0 ≡ thirdShape g t f1 n
+  unfolding thirdShape
+  third-none z = let y : namedThird g f1 ≡ 0 = sym e ∙ z in rw y (sym (or-zero (threeOk (slotBytes t 0) && unusedOk f1 (slotBytes t 0) n (16 - n))))
 
   module _ (f3 : List ℕ) (at : f3 ≡ slotBytes t q) where
-    pub third-wrong : threeOk f3 ≡ false → 0 ≡ thirdOf g t f1 n
-    unfolding thirdOf
+    pub third-wrong : threeOk f3 ≡ false → 0 ≡ thirdShape g t f1 n
+    unfolding thirdShape
     third-wrong b = let y : threeOk (slotBytes t (namedThird g f1)) ≡ false = subst (λ (x : ℕ). threeOk (slotBytes t x) ≡ false) e (subst (λ (x : List ℕ). threeOk x ≡ false) at b) in rw y
 
-    pub third-tested : (b : Bool) → threeOk f3 ≡ true → extentsOk (g .heads) (tracks g) f1 f3 n 0 16 ≡ b → orZero b q ≡ thirdOf g t f1 n
-    unfolding thirdOf
+    pub third-tested : (b : Bool) → threeOk f3 ≡ true → unusedOk f1 f3 n (16 - n) ≡ b → orZero b q ≡ thirdShape g t f1 n
+    unfolding thirdShape
     third-tested b x y =
         let x′ : threeOk (slotBytes t (namedThird g f1)) ≡ true = subst (λ (z : ℕ). threeOk (slotBytes t z) ≡ true) e (subst (λ (z : List ℕ). threeOk z ≡ true) at x) in
-        let y′ : extentsOk (g .heads) (tracks g) f1 (slotBytes t (namedThird g f1)) n 0 16 ≡ b
-        = subst (λ (z : ℕ). extentsOk (g .heads) (tracks g) f1 (slotBytes t z) n 0 16 ≡ b) e (subst (λ (z : List ℕ). extentsOk (g .heads) (tracks g) f1 z n 0 16 ≡ b) at y) in
+        let y′ : unusedOk f1 (slotBytes t (namedThird g f1)) n (16 - n) ≡ b
+        = subst (λ (z : ℕ). unusedOk f1 (slotBytes t z) n (16 - n) ≡ b) e (subst (λ (z : List ℕ). unusedOk f1 z n (16 - n) ≡ b) at y) in
         rw (x′, y′) (ap (orZero b) e)
 
 module _ (g : Geometry) (t : List ℕ) (k : ℕ) (f1 : List ℕ) (at : f1 ≡ slotBytes t k) where
-  pub form-wrong : oneOk f1 ≡ false → Bad ≡ formOf g t k
-  unfolding formOf
+  pub form-wrong : oneOk f1 ≡ false → Bad ≡ shapeOf g t k
+  unfolding shapeOf
   form-wrong b = let y : oneOk (slotBytes t k) ≡ false = subst (λ (x : List ℕ). oneOk x ≡ false) at b in rw y
 
   module _ (n : ℕ) (one : oneOk f1 ≡ true) (count : n ≡ getD f1 59 0) where
@@ -77,16 +92,16 @@ module _ (g : Geometry) (t : List ℕ) (k : ℕ) (f1 : List ℕ) (at : f1 ≡ sl
     count′ : getD (slotBytes t k) 59 0 ≡ n
     count′ = sym (count ∙ ap (λ (x : List ℕ). getD x 59 0) at)
 
-    pub form-few : (b : Bool) → n ≤ 3 → fewOk (g .heads) (tracks g) f1 n ≡ b → goodIf b ≡ formOf g t k
-    unfolding formOf
+    pub form-few : (b : Bool) → n ≤ 3 → fewShape f1 n ≡ b → goodIf b ≡ shapeOf g t k
+    unfolding shapeOf
     form-few b u y =
-        let y′ : fewOk (g .heads) (tracks g) (slotBytes t k) n ≡ b = subst (λ (x : List ℕ). fewOk (g .heads) (tracks g) x n ≡ b) at y in
+        let y′ : fewShape (slotBytes t k) n ≡ b = subst (λ (x : List ℕ). fewShape x n ≡ b) at y in
         rw (one′, count′, le-leb n 3 u, y′)
 
-    pub form-many : (q : ℕ) → 3 < n → q ≡ thirdOf g t f1 n → goodThird q ≡ formOf g t k
-    unfolding formOf
+    pub form-many : (q : ℕ) → 3 < n → q ≡ thirdShape g t f1 n → goodThird q ≡ shapeOf g t k
+    unfolding shapeOf
     form-many q u y =
-        let y′ : thirdOf g t (slotBytes t k) n ≡ q = sym (y ∙ ap (λ (x : List ℕ). thirdOf g t x n) at) in
+        let y′ : thirdShape g t (slotBytes t k) n ≡ q = sym (y ∙ ap (λ (x : List ℕ). thirdShape g t x n) at) in
         rw (one′, count′, lt-leb n 3 u, y′)
 
 pub third-positive : (q : ℕ) → (q ≡ 0 → ⊥) → Good q ≡ goodThird q

@@ -2,23 +2,27 @@
 use mathlib.Core.Path.{_≡_, _∙_, sym, subst, ap, refl, ap₂}
 use mathlib.Core.Bool.{Bool, true, false}
 use mathlib.Core.List.{List, _∷_, _++_, [], map}
-use Prim.Native.Nat.{ℕ, _+_, _≤_, zero, suc, _-_, _<_}
+use Prim.Native.Nat.{ℕ, _+_, _*_, _≤_, zero, suc, _-_, _<_}
 use native.Mathlib.Omega.{arith}
 use native.Mathlib.Nat.{zero-add, le-refl, add-zero}
 use native.Mathlib.Numerals.{add-one}
-use Rattle.model.specs.Basics.{bit, sumOf, upFrom}
+use Rattle.model.specs.Basics.{bit, get2, sumOf, upFrom}
+use borrow.Author.Tests.{leb-true, lt-ltb, ltb-true}
+use lib.Dec.{eqb, leb, ltb}
+use lib.ListN.{getD, length}
 use Rattle.model.specs.Choice.{before}
 use Rattle.model.specs.Model.{Geometry, Run, covers, oneSlot, overs, run, times, tracks}
-use Rattle.model.proofs.Lists.{All, All-at, clash, sum-append}
+use Rattle.model.proofs.Lists.{and-l, and-r, by, clash, is-true, sum-append, true-is}
 use Rattle.model.proofs.Runs.{Once}
 use Rattle.rules.specs.Layout.{extentPart}
 use Rattle.rules.specs.Reading.{readExtent, readExtents, trackAt}
-use Rattle.rules.proofs.Valid.{GoodExtent}
 use Rattle.tracks.specs.Map.{Shows, Taken}
 use Rattle.tracks.proofs.Held.{shows-hit, shows-same, shows-take}
-use Rattle.forms.proofs.Blocks.{noExtent}
-use Rattle.forms.proofs.Written.{read-at, read-length}
-use Rattle.label_check.specs.Marks.{TookSlots, units}
+use Rattle.fields.specs.Tests.{goodTen}
+use Rattle.forms.specs.Forms.{extentOk}
+use Rattle.label_check.specs.Label.{extentsOk, usedOk}
+use Rattle.label_check.specs.Marks.{TookSlots, TookTen, TookTested, units}
+use Rattle.label_check.proofs.Laws.{bad-here, extents-end, good-next}
 
 -- ---- one run
 
@@ -168,15 +172,78 @@ slots-hit k q s s₁ pos a =
 
 -- ---- an extent that is good has its tracks in their order and on the volume
 
-pub in-order : (g : Geometry) (f1 f3 : List ℕ) (n e s z : ℕ) → All (GoodExtent g) (readExtents (g .heads) f1 f3 n) → e < n
-    → s ≡ trackAt (g .heads) (extentPart f1 f3 e) 2 → z ≡ trackAt (g .heads) (extentPart f1 f3 e) 6 → (s ≤ z) × (z + 1 ≤ tracks g)
-in-order g f1 f3 n e s z a u first last =
-    let l = read-length g f1 f3 n in
-    let x = subst (GoodExtent g) (read-at g f1 f3 n e u) (All-at (GoodExtent g) noExtent (readExtents (g .heads) f1 f3 n) a e (omega arith)) in
-    let p = x .full in
-    let q = x .ends in
-    (omega arith, omega arith)
+pub ten-order : (h t i : ℕ) (x : List ℕ) → goodTen h t i x ≡ true → (trackAt h x 2 ≤ trackAt h x 6) × (trackAt h x 6 < t)
+unfolding goodTen
+ten-order h t i x e =
+    let a = true-is e in
+    let b = and-r (ltb (get2 x 4) h) _ a in
+    let c = and-r (ltb (get2 x 8) h) _ b in
+    let d = and-r (eqb (getD x 1 0) i) _ c in
+    let p = and-l (leb (trackAt h x 2) (trackAt h x 6)) _ d in
+    let q = and-l (ltb (trackAt h x 6) t) _ (and-r (leb (trackAt h x 2) (trackAt h x 6)) _ d) in
+    (leb-true _ _ (is-true p), ltb-true _ _ (is-true q))
 
--- reading a track in ten bytes that are handed back
-pub track-of : (h i : ℕ) (x y : List ℕ) (r : ℕ) → x ≡ y → r ≡ trackAt h x i → r ≡ trackAt h y i
-track-of h i x y r e q = q ∙ ap (λ (z : List ℕ). trackAt h z i) e
+-- not good: nothing is taken
+pub ten-bad : (g : Geometry) (e : ℕ) (x m : List ℕ) → goodTen (g .heads) (tracks g) e x ≡ false → TookTen g e x m m false
+ten-bad g e x m q = record { long = refl; good = λ r. clash {b = false} r refl; taken = λ r. clash r q }
+
+pub ten-taken : (g : Geometry) (e : ℕ) (x m m′ : List ℕ) (r : Bool) (s z : ℕ) → s ≡ trackAt (g .heads) x 2 → z ≡ trackAt (g .heads) x 6
+    → goodTen (g .heads) (tracks g) e x ≡ true → Taken m m′ s (z + 1) r → TookTen g e x m m′ r
+ten-taken g e x m m′ r s z p q u y =
+    record {
+      long = y .long;
+      good = λ _. u;
+      taken = λ _. subst (λ (i : ℕ). Taken m m′ i (trackAt (g .heads) x 6 + 1) r) p (subst (λ (i : ℕ). Taken m m′ s (i + 1) r) q y);
+    }
+
+-- a turn: extent number e of n, in use
+module _ (g : Geometry) (f1 f3 : List ℕ) (n e : ℕ) (m₀ m m′ : List ℕ) (r : Bool) (x : List ℕ) (at : x ≡ extentPart f1 f3 e) (u : e < n)
+    (y : TookTen g e x m m′ r) (left : Left (g .heads) f1 f3 e m₀ m) (same : usedOk g f1 f3 n ≡ extentsOk (g .heads) (tracks g) f1 f3 n e (n - e)) where
+  abbrev H : ℕ
+  H = g .heads
+
+  abbrev ten : List ℕ
+  ten = extentPart f1 f3 e
+
+  used-is : extentOk H (tracks g) n e ten ≡ goodTen H (tracks g) e ten
+  unfolding extentOk
+  used-is = rw (lt-ltb e n u)
+
+  there : TookTen g e ten m m′ r
+  there = subst (λ (z : List ℕ). TookTen g e z m m′ r) at y
+
+  pub turn-left : r ≡ true → Left H f1 f3 (e + 1) m₀ m′
+  turn-left q =
+      let w = there .good q in
+      let o = ten-order H (tracks g) e ten w in
+      left-next H f1 f3 e m₀ m m′ r (trackAt H ten 2) (trackAt H ten 6) refl refl (o .0) (there .taken w) left q
+
+  pub turn-same : r ≡ true → usedOk g f1 f3 n ≡ extentsOk H (tracks g) f1 f3 n (e + 1) (n - (e + 1))
+  turn-same q = same ∙ good-next H (tracks g) f1 f3 n e n u (used-is ∙ there .good q)
+
+  pub turn-stop : r ≡ false → length m′ ≡ length m₀ → TookTested g f1 f3 n m₀ m′ false
+  turn-stop q l =
+      record {
+        long = l;
+        good = λ z. clash {b = false} z refl;
+        took = λ w.
+            let v : goodTen H (tracks g) e ten ≡ true
+            = by (goodTen H (tracks g) e ten) (λ a. a) (λ a. clash w (same ∙ bad-here H (tracks g) f1 f3 n e n u (used-is ∙ a))) in
+            let o = ten-order H (tracks g) e ten v in
+            record {
+              long = l;
+              yes = λ z. clash {b = false} z refl;
+              no = λ z hs h once.
+                  left-stop H f1 f3 e m₀ m m′ r (trackAt H ten 2) (trackAt H ten 6) refl refl (o .0) (there .taken v) left q n (tracks g) u (omega (arith, o .1)) hs h once;
+            };
+      }
+
+pub all-taken : (g : Geometry) (f1 f3 : List ℕ) (n e : ℕ) (m₀ m : List ℕ) → e ≤ n → n ≤ e → length m ≡ length m₀ → Left (g .heads) f1 f3 e m₀ m
+    → usedOk g f1 f3 n ≡ extentsOk (g .heads) (tracks g) f1 f3 n e (n - e) → TookTested g f1 f3 n m₀ m true
+all-taken g f1 f3 n e m₀ m u v l left same =
+    let q : e ≡ n = omega arith in
+    record {
+      long = l;
+      good = λ _. same ∙ extents-end (g .heads) (tracks g) f1 f3 n e n v;
+      took = λ _. record { long = l; yes = λ _ hs h. subst (λ (k : ℕ). Shows m (tracks g) (overs (readExtents (g .heads) f1 f3 k) ++ hs)) q (left (tracks g) hs h); no = λ z. clash {b = true} refl z };
+    }

@@ -1,5 +1,5 @@
 -- What the tests of a label answer, as the code goes. Assumes nothing.
-use Prim.Native.Nat.{ℕ, zero, suc}
+use Prim.Native.Nat.{ℕ, zero, suc, _-_}
 use mathlib.Core.Bool.{Bool, true, false, cond, _&&_}
 use mathlib.Core.List.{List}
 use lib.ListN.{getD}
@@ -50,3 +50,28 @@ formOf g t k =
     let f1 : List ℕ = slotBytes t k in
     let n : ℕ = getD f1 59 0 in
     cond (oneOk f1) (cond (leb n 3) (goodIf (fewOk (g .heads) (tracks g) f1 n)) (goodThird (thirdOf g t f1 n))) Bad
+
+-- ---- the same but for the extents in use, which are tested where they are taken
+
+-- k extents from number e on are zeros
+unfoldable pub unusedOk : List ℕ → List ℕ → ℕ → ℕ → Bool
+unusedOk f1 f3 e zero = true
+unusedOk f1 f3 e (suc k) = allAre 0 (extentPart f1 f3 e) && unusedOk f1 f3 (suc e) k
+
+unfoldable pub fewShape : List ℕ → ℕ → Bool
+fewShape f1 n = allAre 0 (part 135 5 f1) && unusedOk f1 f1 n (3 - n)
+
+unfoldable pub thirdShape : Geometry → List ℕ → List ℕ → ℕ → ℕ
+thirdShape g t f1 n =
+    let q : ℕ = namedThird g f1 in
+    orZero (threeOk (slotBytes t q) && unusedOk f1 (slotBytes t q) n (16 - n)) q
+
+unfoldable pub shapeOf : Geometry → List ℕ → ℕ → Form
+shapeOf g t k =
+    let f1 : List ℕ = slotBytes t k in
+    let n : ℕ = getD f1 59 0 in
+    cond (oneOk f1) (cond (leb n 3) (goodIf (fewShape f1 n)) (goodThird (thirdShape g t f1 n))) Bad
+
+-- the extents in use are good
+abbrev pub usedOk : Geometry → List ℕ → List ℕ → ℕ → Bool
+usedOk g f1 f3 n = extentsOk (g .heads) (tracks g) f1 f3 n 0 n

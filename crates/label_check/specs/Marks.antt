@@ -1,24 +1,38 @@
 -- What taking tracks and slots out of the maps of free ones answers and leaves. The list of what was held before is the
 -- caller's: it is quantified, and no ghost argument is needed. Assumes nothing.
 use mathlib.Core.Path.{_≡_}
-use Prim.Native.Nat.{ℕ, _≤_, _<_, _*_}
+use Prim.Native.Nat.{ℕ, _+_, _≤_, _<_, _*_}
 use mathlib.Core.Bool.{Bool, true, false}
 use mathlib.Core.List.{List, _++_, map}
 use lib.ListN.{length, getD}
-use Rattle.model.specs.Model.{Geometry, Label, Run, oneSlot, run, runsOf, slots, slotsOf, tracks}
+use Rattle.model.specs.Model.{Geometry, Label, Run, oneSlot, overs, run, runsOf, slots, slotsOf, tracks}
 use Rattle.model.proofs.Runs.{Once}
-use Rattle.rules.specs.Reading.{chop, readLabel}
+use Rattle.rules.specs.Reading.{chop, readExtents, readLabel, trackAt}
 use Rattle.rules.specs.Table.{limits}
 use Rattle.rules.proofs.Valid.{Limits}
 use Rattle.sound.specs.Sound.{LabelOk}
-use Rattle.tracks.specs.Map.{Shows}
+use Rattle.tracks.specs.Map.{Shows, Taken}
 use Rattle.fields.specs.Records.{slotBytes}
+use Rattle.fields.specs.Tests.{goodTen}
+use Rattle.label_check.specs.Label.{usedOk}
 
 -- the runs rs have left the map of n tracks, or a track would be held twice
 pub record Took (n : ℕ) (rs : List Run) (m m′ : List ℕ) (r : Bool) : Type 0 where
   pub long : length m′ ≡ length m
   pub yes : r ≡ true → (hs : List Run) → Shows m n hs → Shows m′ n (rs ++ hs)
   pub no : r ≡ false → (hs : List Run) → Shows m n hs → Once n (rs ++ hs) → ⊥
+
+-- extent number e, the ten bytes x, is good and has left the map; or it is not good, or a track of its was not free
+pub record TookTen (g : Geometry) (e : ℕ) (x m m′ : List ℕ) (r : Bool) : Type 0 where
+  pub long : length m′ ≡ length m
+  pub good : r ≡ true → goodTen (g .heads) (tracks g) e x ≡ true
+  pub taken : goodTen (g .heads) (tracks g) e x ≡ true → Taken m m′ (trackAt (g .heads) x 2) (trackAt (g .heads) x 6 + 1) r
+
+-- the first n extents are good and have left the map; or one is not good, or a track would be held twice
+pub record TookTested (g : Geometry) (f1 f3 : List ℕ) (n : ℕ) (m m′ : List ℕ) (r : Bool) : Type 0 where
+  pub long : length m′ ≡ length m
+  pub good : r ≡ true → usedOk g f1 f3 n ≡ true
+  pub took : usedOk g f1 f3 n ≡ true → Took (tracks g) (overs (readExtents (g .heads) f1 f3 n)) m m′ r
 
 -- slots as runs of one
 abbrev pub units : List ℕ → List Run

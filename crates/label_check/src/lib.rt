@@ -2,15 +2,13 @@
 // out of the maps of free ones.
 use forms::Geometry;
 ghost use mathlib.Core.Path.{_≡_};
-ghost use Prim.Native.Nat.{_+_, _*_, _≤_, _<_};
+ghost use Prim.Native.Nat.{_+_, _-_, _*_, _≤_, _<_};
 ghost use lib.ListN.{length};
-ghost use Rattle.model.specs.Model.{overs, slots, tracks};
-ghost use Rattle.model.proofs.Lists.{All};
-ghost use Rattle.rules.specs.Reading.{readExtents};
-ghost use Rattle.rules.proofs.Valid.{GoodExtent, Limits};
+ghost use Rattle.model.specs.Model.{slots, tracks};
+ghost use Rattle.rules.proofs.Valid.{Limits};
 ghost use Rattle.forms.specs.Forms.{geometryOf};
-ghost use Rattle.label_check.specs.Label.{extentsOk, fewOk, thirdOf, formOf};
-ghost use Rattle.label_check.specs.Marks.{AtLabel, Took, TookLabel, TookSlots};
+ghost use Rattle.label_check.specs.Label.{fewShape, shapeOf, thirdShape, unusedOk};
+ghost use Rattle.label_check.specs.Marks.{AtLabel, TookLabel, TookSlots, TookTen, TookTested};
 
 // What the label in a slot turns out to be: good, with the slot of its format 3, 0 for none; or bad.
 pub enum Form {
@@ -18,15 +16,14 @@ pub enum Form {
     Bad,
 }
 
-// Whether the first m extents are as they must be where n are in use.
-fn extents_ok<'a>(f1: &'a [u8], f3: &'a [u8], n: usize, m: usize, h: u32, t: u32) -> bool
-    requires { ⌜ (length (now f1) ≡ 140) × (length (now f3) ≡ 140) × (m ≤ 16) × (h < 65536) ⌝ }
-    ensures { λ r. ⌜ r ≡ extentsOk h t (now (f1 .entry)) (now (f3 .entry)) n 0 m ⌝ }
+// Whether the extents from number n on and below m are zeros.
+fn unused_ok<'a>(f1: &'a [u8], f3: &'a [u8], n: usize, m: usize) -> bool
+    requires { ⌜ (length (now f1) ≡ 140) × (length (now f3) ≡ 140) × (n ≤ m) × (m ≤ 16) ⌝ }
+    ensures { λ r. ⌜ r ≡ unusedOk (now (f1 .entry)) (now (f3 .entry)) n (m - n) ⌝ }
 {
-    let mut e: usize = 0;
+    let mut e = n;
     while e < m {
-        let x = fields::extent_part(f1, f3, e);
-        if forms::extent_ok(x, e, n, h, t) {
+        if fields::all_are(fields::extent_part(f1, f3, e), 0) {
             e += 1;
         } else {
             return false;
@@ -35,21 +32,21 @@ fn extents_ok<'a>(f1: &'a [u8], f3: &'a [u8], n: usize, m: usize, h: u32, t: u32
     true
 }
 
-// Whether a format 1 of n extents, 3 at most, is right in its extents and has no link.
-fn few_ok(f1: &[u8], n: usize, h: u32, t: u32) -> bool
-    requires { ⌜ (length (now f1) ≡ 140) × (h < 65536) ⌝ }
-    ensures { λ r. ⌜ r ≡ fewOk h t (now (f1 .entry)) n ⌝ }
+// Whether a format 1 of n extents, 3 at most, has zeros behind them and no link.
+fn few_ok(f1: &[u8], n: usize) -> bool
+    requires { ⌜ (length (now f1) ≡ 140) × (n ≤ 3) ⌝ }
+    ensures { λ r. ⌜ r ≡ fewShape (now (f1 .entry)) n ⌝ }
 {
     if fields::part_is(f1, 135, 5, 0) {
-        return extents_ok(f1, f1, n, 3, h, t);
+        return unused_ok(f1, f1, n, 3);
     }
     false
 }
 
-// The slot of the format 3 of a format 1 of n extents, more than 3, where both are right in their extents; else 0.
+// The slot of the format 3 of a format 1 of n extents, more than 3, where it has zeros behind them; else 0.
 fn third_of<'a>(table: &'a [u8], f1: &'a [u8], n: usize, g: Geometry) -> usize
-    requires { ⌜ (length (now f1) ≡ 140) × Limits (geometryOf g) × (140 * slots (geometryOf g) ≤ length (now table)) ⌝ }
-    ensures { λ r. ⌜ r ≡ thirdOf (geometryOf g) (now (table .entry)) (now (f1 .entry)) n ⌝ }
+    requires { ⌜ (length (now f1) ≡ 140) × (n ≤ 16) × Limits (geometryOf g) × (140 * slots (geometryOf g) ≤ length (now table)) ⌝ }
+    ensures { λ r. ⌜ r ≡ thirdShape (geometryOf g) (now (table .entry)) (now (f1 .entry)) n ⌝ }
 {
     let many = (g.tracks * g.records) as usize;
     let q = fields::slot_of(&f1[135..140], g.heads, g.records, g.start, many);
@@ -60,16 +57,16 @@ fn third_of<'a>(table: &'a [u8], f1: &'a [u8], n: usize, g: Geometry) -> usize
     if forms::three_ok(f3) {} else {
         return 0;
     }
-    if extents_ok(f1, f3, n, 16, g.heads, g.cylinders * g.heads) {
+    if unused_ok(f1, f3, n, 16) {
         return q;
     }
     0
 }
 
-// What the label in slot k is; that the slot has a format 1 is known.
-pub fn form_of(table: &[u8], k: usize, g: Geometry) -> Form
+// What the label in slot k is, but for the extents in use; that the slot has a format 1 is known.
+fn shape_of(table: &[u8], k: usize, g: Geometry) -> Form
     requires { ⌜ (k < slots (geometryOf g)) × Limits (geometryOf g) × (140 * slots (geometryOf g) ≤ length (now table)) ⌝ }
-    ensures { λ r. ⌜ r ≡ formOf (geometryOf g) (now (table .entry)) k ⌝ }
+    ensures { λ r. ⌜ r ≡ shapeOf (geometryOf g) (now (table .entry)) k ⌝ }
 {
     let f1 = fields::record_at(table, k);
     if forms::one_ok(f1) {} else {
@@ -77,7 +74,7 @@ pub fn form_of(table: &[u8], k: usize, g: Geometry) -> Form
     }
     let n = fields::wide(f1[59]) as usize;
     if n <= 3 {
-        if few_ok(f1, n, g.heads, g.cylinders * g.heads) {
+        if few_ok(f1, n) {
             return Form::Good(0);
         }
         return Form::Bad;
@@ -89,19 +86,31 @@ pub fn form_of(table: &[u8], k: usize, g: Geometry) -> Form
     Form::Good(q)
 }
 
-// Takes the first n extents of a label out of the map of free tracks: false if a track of theirs was not free.
-fn take_extents<'a>(f1: &'a [u8], f3: &'a [u8], n: usize, g: Geometry, map: &mut [u64]) -> bool
-    requires { ⌜ (length (now f1) ≡ 140) × (length (now f3) ≡ 140) × (n ≤ 16) × Limits (geometryOf g) × (tracks (geometryOf g) ≤ 64 * length (now map)) × All (GoodExtent (geometryOf g)) (readExtents (geometryOf g .heads) (now f1) (now f3) n) ⌝ }
-    ensures { λ r. ⌜ Took (tracks (geometryOf g)) (overs (readExtents (geometryOf g .heads) (now (f1 .entry)) (now (f3 .entry)) n)) (now (map .entry)) (now (map .exit)) r ⌝ }
+// Tests extent number e, the ten bytes x, and takes it out of the map of free tracks: false if it is not good, or if a track
+// of its was not free.
+fn take_extent(x: &[u8], e: usize, g: Geometry, map: &mut [u64]) -> bool
+    requires { ⌜ (length (now x) ≡ 10) × (e < 16) × Limits (geometryOf g) × (tracks (geometryOf g) ≤ 64 * length (now map)) ⌝ }
+    ensures { λ r. ⌜ TookTen (geometryOf g) e (now (x .entry)) (now (map .entry)) (now (map .exit)) r ⌝ }
 {
     let h = g.heads;
+    if fields::good_ten(x, e as u32, h, g.cylinders * h) {} else {
+        return false;
+    }
+    let first = fields::track_at(x, 2, h) as usize;
+    let last = fields::track_at(x, 6, h) as usize;
+    let end = last + 1;
+    tracks::take_range(map, first, end)
+}
+
+// Tests the first n extents of a label and takes them out of the map of free tracks, in one pass.
+fn take_extents<'a>(f1: &'a [u8], f3: &'a [u8], n: usize, g: Geometry, map: &mut [u64]) -> bool
+    requires { ⌜ (length (now f1) ≡ 140) × (length (now f3) ≡ 140) × (n ≤ 16) × Limits (geometryOf g) × (tracks (geometryOf g) ≤ 64 * length (now map)) ⌝ }
+    ensures { λ r. ⌜ TookTested (geometryOf g) (now (f1 .entry)) (now (f3 .entry)) n (now (map .entry)) (now (map .exit)) r ⌝ }
+{
     let mut e: usize = 0;
     while e < n {
         let x = fields::extent_part(f1, f3, e);
-        let first = fields::track_at(x, 2, h) as usize;
-        let last = fields::track_at(x, 6, h) as usize;
-        let end = last + 1;
-        if tracks::take_range(map, first, end) {
+        if take_extent(x, e, g, map) {
             e += 1;
         } else {
             return false;
@@ -132,7 +141,7 @@ pub fn take_label(table: &[u8], k: usize, g: Geometry, map: &mut [u64], slots: &
     requires { ⌜ AtLabel (geometryOf g) (now table) k × (tracks (geometryOf g) ≤ 64 * length (now map)) × (length (now slots) ≡ 8) ⌝ }
     ensures { λ r. ⌜ TookLabel (geometryOf g) (now (table .entry)) k (now (map .entry)) (now (map .exit)) (now (slots .entry)) (now (slots .exit)) r ⌝ }
 {
-    let Form::Good(q) = form_of(table, k, g) else {
+    let Form::Good(q) = shape_of(table, k, g) else {
         return false;
     };
     if take_slots(slots, k, q) {} else {

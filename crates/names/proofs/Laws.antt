@@ -2,7 +2,7 @@
 use mathlib.Core.Path.{_≡_, refl, ap, _∙_, subst, sym}
 use mathlib.Core.Bool.{true, false, cond, _&&_, _||_, Bool}
 use mathlib.Core.List.{List, [], _∷_}
-use Prim.Native.Nat.{ℕ, zero, suc, _+_, _-_, _≤_, _<_, _*_, _%_}
+use Prim.Native.Nat.{ℕ, zero, suc, _+_, _-_, _≤_, _<_, _*_, _/_, _%_}
 use native.Mathlib.Nat.{lt-of-not-le}
 use native.Mathlib.Decide.{decLe, ℕ-discrete}
 use native.Mathlib.Omega.{arith}
@@ -17,7 +17,7 @@ use Rattle.model.specs.Basics.{same}
 use Rattle.model.specs.Choice.{before}
 use Rattle.model.proofs.Lists.{and-l, and-r, by, clash, is-true, same→eq, true-is}
 use Rattle.fields.specs.Records.{slotBytes}
-use Rattle.names.specs.Find.{Entered, Tagged, distinctFrom, findSlot, firstNamed, hasTag, isLabel, isNamed, isNothing, nameOf, newAt, tagFrom, tagOf}
+use Rattle.names.specs.Find.{Entered, Seen, Tagged, distinctFrom, findSlot, firstNamed, hasTag, isLabel, isNamed, isNothing, nameOf, newAt, tagOf, weightOf, wordAt, wordSum}
 
 module _ (t name : List ℕ) (k n : ℕ) (h : k < n) where
   step : firstNamed t name k (n - k) ≡ cond (isNamed (slotBytes t k) name) (Slot k) (firstNamed t name (k + 1) (n - (k + 1)))
@@ -168,44 +168,79 @@ pub tag-end : (tags : List ℕ) (x i : ℕ) (b : Bool) → length tags ≤ i →
 unfolding hasTag
 tag-end tags x i b h = rw (drop-of-length-le tags {i = i} h) (or-false b)
 
-pub tag-turn : (name : List ℕ) (i : ℕ) → i < length name → tagFrom (i + 1) (drop i name) ≡ getD name i 0 * ((i + 1) * 27245 % 65521) + tagFrom (i + 1 + 1) (drop (i + 1) name)
-unfolding tagFrom
-tag-turn name i h = let e : i + 1 + 1 ≡ suc (i + 1) = omega arith in rw (e, drop-cons name i 0 h, add-one)
+pub word-more : (name : List ℕ) (i : ℕ) → wordSum name (i + 1) ≡ wordSum name i + wordAt name (4 * i) * weightOf i
+unfolding wordSum
+word-more name i = rw add-one
 
-pub tag-done : (name : List ℕ) (i : ℕ) → length name ≤ i → tagFrom (i + 1) (drop i name) ≡ 0
-unfolding tagFrom
-tag-done name i h = rw (drop-of-length-le name {i = i} h)
+pub word-none : (name : List ℕ) → wordSum name 0 ≡ 0
+unfolding wordSum
+word-none name = refl
 
-pub tag-value : (name : List ℕ) → tagFrom 1 name % 65536 ≡ tagOf name
+pub tag-value : (name : List ℕ) → wordSum name 11 / 16777216 % 65536 ≡ tagOf name
 unfolding tagOf
 tag-value name = refl
 
 pub tag-first : (t tags : List ℕ) (k : ℕ) → Tagged t k tags → Tagged t k (take k tags)
 tag-first t tags k g j u e = getD-take k tags j 0 u ∙ g j u e
 
+-- ---- marks
+
+-- no mark for such a tag, so no such name before slot k
+pub no-mark : (t seen : List ℕ) (k : ℕ) → Seen t k seen → (name : List ℕ) → getD seen (tagOf name % 1024) 0 ≡ 0 → findSlot t name k ≡ Nothing
+no-mark t seen k g name e = go (findSlot t name k) refl
+  where
+    go : (f : Found) → findSlot t name k ≡ f → f ≡ Nothing
+    go Nothing q = refl
+    go (Slot j) q =
+        let a = found-at t name k j q in
+        let b = named-label (slotBytes t j) name (a .here) in
+        let u = a .high in
+        absurd (g j (omega arith) (b .0) (ap (λ (x : List ℕ). getD seen (tagOf x % 1024) 0) (b .1) ∙ e))
+
+pub mark-next : (t seen : List ℕ) (k x : ℕ) → x ≡ tagOf (nameOf (slotBytes t k)) → x % 1024 < length seen → Seen t k seen → Seen t (k + 1) (set seen (x % 1024) 1)
+mark-next t seen k x q l g j u e z =
+    elim (ℕ-discrete (tagOf (nameOf (slotBytes t j)) % 1024) (x % 1024)) [
+      | yes p ↦ absurd (let w : _≡_ {A = ℕ} 1 0 = sym (getD-set-same seen (x % 1024) 1 0 l) ∙ sym (ap (λ (y : ℕ). getD (set seen (x % 1024) 1) y 0) p) ∙ z in omega arith)
+      | no p ↦
+          elim (ℕ-discrete j k) [
+            | yes r ↦ absurd (p (ap (λ (y : ℕ). tagOf (nameOf (slotBytes t y)) % 1024) r ∙ sym (ap (λ (y : ℕ). y % 1024) q)))
+            | no r ↦ g j (omega arith) e (sym (getD-set-other seen (x % 1024) (tagOf (nameOf (slotBytes t j)) % 1024) 1 0 p) ∙ z)
+          ]
+    ]
+
+pub mark-skip : (t seen : List ℕ) (k : ℕ) → isLabel (slotBytes t k) ≡ false → Seen t k seen → Seen t (k + 1) seen
+mark-skip t seen k f g j u e z =
+    elim (ℕ-discrete j k) [
+      | yes q ↦ clash (subst (λ (x : ℕ). isLabel (slotBytes t x) ≡ true) q e) f
+      | no q ↦ g j (omega arith) e z
+    ]
+
 -- ---- what `enter` leaves, by the record r in slot k
 
-module _ (t tags r : List ℕ) (k : ℕ) (e : r ≡ slotBytes t k) (g : Tagged t k tags) where
-  pub enter-skip : (getD r 44 0 ≡ 0xF1 → ⊥) → Entered t k tags tags true
+module _ (t tags seen r : List ℕ) (k : ℕ) (e : r ≡ slotBytes t k) (g : Tagged t k tags) (h : Seen t k seen) where
+  pub enter-skip : (getD r 44 0 ≡ 0xF1 → ⊥) → Entered t k tags tags seen seen true
   enter-skip n =
       let f : isLabel (slotBytes t k) ≡ false = subst (λ (x : List ℕ). isLabel x ≡ false) e (ne-eqb _ _ n) in
-      record { new = sym (no-label t k f); long = refl; tagged = λ q. tag-skip t tags k f g }
+      record { new = sym (no-label t k f); long = refl; wide = refl; tagged = λ q. tag-skip t tags k f g; marked = λ q. mark-skip t seen k f h }
 
   module _ (m : getD r 44 0 ≡ 0xF1) where
     label : isLabel (slotBytes t k) ≡ true
     label = subst (λ (x : List ℕ). isLabel x ≡ true) e (eq-eqb _ _ m)
 
-    pub enter-new : (x : ℕ) → k < length tags → x ≡ tagOf (nameOf r) → isNothing (findSlot t (nameOf r) k) ≡ true → Entered t k tags (set tags k x) true
-    enter-new x l q n =
+    pub enter-new : (x : ℕ) → k < length tags → x % 1024 < length seen → x ≡ tagOf (nameOf r) → isNothing (findSlot t (nameOf r) k) ≡ true
+        → Entered t k tags (set tags k x) seen (set seen (x % 1024) 1) true
+    enter-new x l w q n =
         let a : x ≡ tagOf (nameOf (slotBytes t k)) = q ∙ ap (λ (y : List ℕ). tagOf (nameOf y)) e in
         let b : isNothing (findSlot t (nameOf (slotBytes t k)) k) ≡ true = subst (λ (y : List ℕ). isNothing (findSlot t (nameOf y) k) ≡ true) e n in
         record {
           new = sym (label-at t k label ∙ b);
           long = length-set tags k x;
+          wide = length-set seen (x % 1024) 1;
           tagged = λ _. subst (λ (y : ℕ). Tagged t (k + 1) (set tags k y)) (sym a) (tag-next t tags k l g);
+          marked = λ _. mark-next t seen k x a w h;
         }
 
-    pub enter-old : (m′ : List ℕ) → length m′ ≡ length tags → isNothing (findSlot t (nameOf r) k) ≡ false → Entered t k tags m′ false
-    enter-old m′ l n =
+    pub enter-old : isNothing (findSlot t (nameOf r) k) ≡ false → Entered t k tags tags seen seen false
+    enter-old n =
         let b : isNothing (findSlot t (nameOf (slotBytes t k)) k) ≡ false = subst (λ (y : List ℕ). isNothing (findSlot t (nameOf y) k) ≡ false) e n in
-        record { new = sym (label-at t k label ∙ b); long = l; tagged = λ q. clash {b = false} q refl }
+        record { new = sym (label-at t k label ∙ b); long = refl; wide = refl; tagged = λ q. clash {b = false} q refl; marked = λ q. clash {b = false} q refl }

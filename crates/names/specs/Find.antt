@@ -1,5 +1,5 @@
 -- The lookup of a name in a table's slots, and that names differ, as the code goes. Assumes nothing.
-use Prim.Native.Nat.{ℕ, zero, suc, _+_, _*_, _%_, _<_}
+use Prim.Native.Nat.{ℕ, zero, suc, _+_, _*_, _/_, _%_, _<_}
 use mathlib.Core.Bool.{Bool, true, false, cond, _&&_}
 use mathlib.Core.List.{List, [], _∷_}
 use mathlib.Core.Path.{_≡_}
@@ -53,12 +53,20 @@ distinct t n = distinctFrom t 0 n
 
 -- ---- a number made of a name: any function of it would do
 
-unfoldable pub tagFrom : ℕ → List ℕ → ℕ
-tagFrom i [] = 0
-tagFrom i (b ∷ bs) = b * (i * 27245 % 65521) + tagFrom (suc i) bs
+-- four bytes from place i on as a number, the low one first
+abbrev pub wordAt : List ℕ → ℕ → ℕ
+wordAt s i = getD s i 0 + getD s (i + 1) 0 * 256 + getD s (i + 2) 0 * 65536 + getD s (i + 3) 0 * 16777216
+
+abbrev pub weightOf : ℕ → ℕ
+weightOf i = (i + 5) * 2246822519 % 268435456
+
+-- the first n words, each with its weight
+unfoldable pub wordSum : List ℕ → ℕ → ℕ
+wordSum s zero = 0
+wordSum s (suc n) = wordSum s n + wordAt s (4 * n) * weightOf n
 
 unfoldable pub tagOf : List ℕ → ℕ
-tagOf name = tagFrom 1 name % 65536
+tagOf name = wordSum name 11 / 16777216 % 65536
 
 unfoldable pub hasTag : List ℕ → ℕ → Bool
 hasTag tags t = any (λ x. eqb x t) tags
@@ -67,8 +75,14 @@ hasTag tags t = any (λ x. eqb x t) tags
 abbrev pub Tagged : List ℕ → ℕ → List ℕ → Type 0
 Tagged t k tags = (j : ℕ) → j < k → isLabel (slotBytes t j) ≡ true → getD tags j 0 ≡ tagOf (nameOf (slotBytes t j))
 
--- slot k was looked at: whether its name is new, and the tags then
-pub record Entered (t : List ℕ) (k : ℕ) (tags tags′ : List ℕ) (r : Bool) : Type 0 where
+-- each label among the first k slots has its mark
+abbrev pub Seen : List ℕ → ℕ → List ℕ → Type 0
+Seen t k seen = (j : ℕ) → j < k → isLabel (slotBytes t j) ≡ true → getD seen (tagOf (nameOf (slotBytes t j)) % 1024) 0 ≡ 0 → ⊥
+
+-- slot k was looked at: whether its name is new, and the tags and marks then
+pub record Entered (t : List ℕ) (k : ℕ) (tags tags′ seen seen′ : List ℕ) (r : Bool) : Type 0 where
   pub new : r ≡ newAt t k
   pub long : length tags′ ≡ length tags
+  pub wide : length seen′ ≡ length seen
   pub tagged : r ≡ true → Tagged t (k + 1) tags′
+  pub marked : r ≡ true → Seen t (k + 1) seen′

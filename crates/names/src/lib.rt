@@ -3,7 +3,7 @@ use fields::*;
 ghost use mathlib.Core.Path.{_≡_};
 ghost use Prim.Native.Nat.{_+_, _*_, _%_, _≤_, _<_};
 ghost use lib.ListN.{length};
-ghost use Rattle.names.specs.Find.{isNamed, findSlot, isNothing, distinct, tagOf, hasTag, Tagged, Entered};
+ghost use Rattle.names.specs.Find.{isNamed, findSlot, isNothing, distinct, wordAt, weightOf, tagOf, hasTag, Tagged, Seen, Entered};
 
 // A lookup's answer.
 pub enum Found {
@@ -37,26 +37,48 @@ pub fn find(table: &[u8], n: usize, name: &[u8]) -> Found
     Found::Nothing
 }
 
-// What character number i adds to a name's tag.
-fn weighed(b: u8, i: u32) -> u32
-    requires { ⌜ i < 100 ⌝ }
-    ensures { λ r. ⌜ (r ≡ b * (i * 27245 % 65521)) × (r ≤ 16711425) ⌝ }
+// Four bytes of a name as a number.
+fn word(name: &[u8], i: usize) -> u32
+    requires { ⌜ i + 3 < length (now name) ⌝ }
+    ensures { λ r. ⌜ (r ≡ wordAt (now (name .entry)) i) × (r < 4294967296) ⌝ }
 {
-    fields::wide(b) * (i * 27245 % 65521)
+    let a = fields::wide(name[i]);
+    let b = fields::wide(name[i + 1]);
+    let c = fields::wide(name[i + 2]);
+    let d = fields::wide(name[i + 3]);
+    a + b * 256 + c * 65536 + d * 16777216
 }
 
-// A number made of a name, so that most names that differ are told apart by one comparison.
+// What word number i is multiplied by in a name's tag: 28 bits, so that the sum of 11 products fits.
+fn weight(i: usize) -> u64
+    requires { ⌜ i < 11 ⌝ }
+    ensures { λ r. ⌜ (r ≡ weightOf i) × (r ≤ 268435455) ⌝ }
+{
+    (i as u64 + 5) * 2246822519 % 268435456
+}
+
+// A word's share of a tag.
+fn weighed(name: &[u8], i: usize) -> u64
+    requires { ⌜ (i < 11) × (length (now name) ≡ 44) ⌝ }
+    ensures { λ r. ⌜ (r ≡ wordAt (now (name .entry)) (4 * i) * weightOf i) × (r ≤ 1152921504606846976) ⌝ }
+{
+    let x = word(name, 4 * i) as u64;
+    x * weight(i)
+}
+
+// A number made of a name, so that most names that differ are told apart by one comparison. The loop has a fixed number of
+// turns, so that the weights are constants in the end.
 fn tag(name: &[u8]) -> u16
-    requires { ⌜ length (now name) ≤ 44 ⌝ }
+    requires { ⌜ length (now name) ≡ 44 ⌝ }
     ensures { λ r. ⌜ r ≡ tagOf (now (name .entry)) ⌝ }
 {
-    let mut sum: u32 = 0;
-    let mut i: u32 = 0;
-    while (i as usize) < name.len() {
-        sum += weighed(name[i as usize], i + 1);
+    let mut sum: u64 = 0;
+    let mut i: usize = 0;
+    while i < 11 {
+        sum += weighed(name, i);
         i += 1;
     }
-    (sum % 65536) as u16
+    (sum / 16777216 % 65536) as u16
 }
 
 // Whether the tag is among these. There is no exit from the loop, so that it is done many tags at a time.
@@ -74,11 +96,16 @@ fn has_tag(tags: &[u16], t: u16) -> bool
     hit
 }
 
-// Whether no slot before k has this name, whose tag is t; the tags of the labels before k are at hand.
-fn is_new(table: &[u8], k: usize, tags: &[u16], t: u16, name: &[u8]) -> bool
-    requires { ⌜ (140 * k ≤ length (now table)) × (length (now tags) ≡ k) × Tagged (now table) k (now tags) × (t ≡ tagOf (now name)) ⌝ }
+// Whether no slot before k has this name, whose tag is t; the tags of the labels before k are at hand, and a mark for each
+// remainder of them by 1,024.
+fn is_new<'a>(table: &[u8], k: usize, tags: &'a [u16], seen: &'a [u8], t: u16, name: &[u8]) -> bool
+    requires { ⌜ (140 * k ≤ length (now table)) × (length (now tags) ≡ k) × Tagged (now table) k (now tags) × (t ≡ tagOf (now name)) × (length (now seen) ≡ 1024) × Seen (now table) k (now seen) ⌝ }
     ensures { λ r. ⌜ r ≡ isNothing (findSlot (now (table .entry)) (now (name .entry)) k) ⌝ }
 {
+    let at = (t % 1024) as usize;
+    if seen[at] == 0 {
+        return true;
+    }
     if has_tag(tags, t) {
         let Found::Slot(j) = find(table, k, name) else {
             return true;
@@ -89,9 +116,9 @@ fn is_new(table: &[u8], k: usize, tags: &[u16], t: u16, name: &[u8]) -> bool
 }
 
 // Whether slot k has no label, or one with a new name; its tag joins the others then.
-fn enter(table: &[u8], k: usize, tags: &mut [u16]) -> bool
-    requires { ⌜ (140 * k + 140 ≤ length (now table)) × (k < length (now tags)) × Tagged (now table) k (now tags) ⌝ }
-    ensures { λ r. ⌜ Entered (now (table .entry)) k (now (tags .entry)) (now (tags .exit)) r ⌝ }
+fn enter(table: &[u8], k: usize, tags: &mut [u16], seen: &mut [u8]) -> bool
+    requires { ⌜ (140 * k + 140 ≤ length (now table)) × (k < length (now tags)) × Tagged (now table) k (now tags) × (length (now seen) ≡ 1024) × Seen (now table) k (now seen) ⌝ }
+    ensures { λ r. ⌜ Entered (now (table .entry)) k (now (tags .entry)) (now (tags .exit)) (now (seen .entry)) (now (seen .exit)) r ⌝ }
 {
     let rec = fields::record_at(table, k);
     if rec[44] != 0xF1 {
@@ -99,8 +126,10 @@ fn enter(table: &[u8], k: usize, tags: &mut [u16]) -> bool
     }
     let name = &rec[..44];
     let t = tag(name);
-    if is_new(table, k, &tags[..k], t, name) {
+    if is_new(table, k, &tags[..k], seen, t, name) {
         tags[k] = t;
+        let at = (t % 1024) as usize;
+        seen[at] = 1;
         return true;
     }
     false
@@ -112,9 +141,10 @@ pub fn names_differ(table: &[u8], n: usize) -> bool
     ensures { λ r. ⌜ r ≡ distinct (now (table .entry)) n ⌝ }
 {
     let mut tags = [0u16; 468];
+    let mut seen = [0u8; 1024];
     let mut k: usize = 0;
     while k < n {
-        if enter(table, k, &mut tags) {
+        if enter(table, k, &mut tags, &mut seen) {
             k += 1;
         } else {
             return false;

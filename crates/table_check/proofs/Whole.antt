@@ -17,8 +17,8 @@ use Rattle.rules.proofs.Taken.{length-encode, taken-is}
 use Rattle.rules.proofs.Valid.{Limits, limits→}
 use Rattle.sound.specs.Sound.{Sound}
 use Rattle.sound.proofs.Meaning.{recordsOf, sound-taken, taken-sound}
-use Rattle.tracks.specs.Map.{AllFree, Begun, Shows, Taken, freeBit}
-use Rattle.tracks.proofs.Held.{shows-begin, shows-take, taken-true}
+use Rattle.tracks.specs.Map.{AllFree, Opened, Shows, Taken, freeBit}
+use Rattle.tracks.proofs.Held.{shows-opened, shows-take, taken-true}
 use Rattle.fields.specs.Records.{slotBytes}
 use Rattle.fields.proofs.Slots.{chop-slot}
 use Rattle.label_check.specs.Marks.{units}
@@ -31,19 +31,19 @@ use Rattle.table_check.proofs.Read.{records-are, volume-is}
 -- ---- the maps
 
 -- slot 0, or the first track, of a map in which nothing is held
-first-taken : (m m₁ m₂ : List ℕ) (n : ℕ) (r : Bool) → 1 ≤ n → n ≤ 64 * length m → Begun m m₁ n → Taken m₁ m₂ 0 1 r → Shows m₂ n (run 0 1 ∷ [])
-first-taken m m₁ m₂ n r pos fits b x =
-    let h = shows-begin m m₁ n fits b in
+first-taken : (m m₁ m₂ : List ℕ) (n : ℕ) (r : Bool) → 1 ≤ n → Opened m m₁ n → Taken m₁ m₂ 0 1 r → Shows m₂ n (run 0 1 ∷ [])
+first-taken m m₁ m₂ n r pos b x =
+    let h = shows-opened m m₁ n b in
     let a : AllFree m₁ 0 1 = λ t u w. let z = h t (omega arith) in omega arith in
     let e = taken-true m₁ m₂ 0 1 r a x in
     shows-take m₁ m₂ n 0 1 [] h a (x .made e)
 
-module _ (g : Geometry) (limit : Limits g) (m m₁ m₂ m₃ : List ℕ) (r₁ r₂ : Bool) (fits : tracks g ≤ 64 * length m) (b : Begun m m₁ (tracks g))
+module _ (g : Geometry) (limit : Limits g) (m m₁ m₂ m₃ : List ℕ) (r₁ r₂ : Bool) (b : Opened m m₁ (tracks g))
     (x : Taken m₁ m₂ (g .vtocStart) (g .vtocStart + g .vtocTracks) r₁) (y : Taken m₂ m₃ 0 1 r₂) where
   pub tracks-begun : Shows m₃ (tracks g) (held g [])
   unfolding held
   tracks-begun =
-      let h = shows-begin m m₁ (tracks g) fits b in
+      let h = shows-opened m m₁ (tracks g) b in
       let n = limit .ends in
       let f : AllFree m₁ (g .vtocStart) (g .vtocStart + g .vtocTracks) = λ t u w. let z = h t (omega arith) in omega arith in
       let e = taken-true m₁ m₂ (g .vtocStart) (g .vtocStart + g .vtocTracks) r₁ f x in
@@ -57,13 +57,13 @@ module _ (g : Geometry) (limit : Limits g) (m m₁ m₂ m₃ : List ℕ) (r₁ r
       let q = taken-true m₂ m₃ 0 1 r₂ p y in
       shows-take m₂ m₃ (tracks g) 0 1 (run (g .vtocStart) (g .vtocTracks) ∷ []) k p (y .made q)
 
-  pub maps-begun : (s s₁ s₂ : List ℕ) (r₃ : Bool) → slots g ≤ 64 * length s → Begun s s₁ (slots g) → Taken s₁ s₂ 0 1 r₃ → MapsBegun g m m₃ s s₂
-  maps-begun s s₁ s₂ r₃ room c z =
+  pub maps-begun : (s s₁ s₂ : List ℕ) (r₃ : Bool) → Opened s s₁ (slots g) → Taken s₁ s₂ 0 1 r₃ → MapsBegun g m m₃ s s₂
+  maps-begun s s₁ s₂ r₃ c z =
       record {
         longMap = y .long ∙ x .long ∙ b .long;
         longSlots = z .long ∙ c .long;
         freeTracks = tracks-begun;
-        freeSlots = first-taken s s₁ s₂ (slots g) r₃ (omega (arith, limit .least)) room c z;
+        freeSlots = first-taken s s₁ s₂ (slots g) r₃ (omega (arith, limit .least)) c z;
       }
 
 -- ---- the rest

@@ -31,12 +31,12 @@ pub fn begin_maps(g: Geometry, map: &mut [u64], empty: &mut [u64])
     requires { ⌜ Limits (geometryOf g) × (length (now map) ≡ 1024) × (length (now empty) ≡ 8) ⌝ }
     ensures { λ _. ⌜ MapsBegun (geometryOf g) (now (map .entry)) (now (map .exit)) (now (empty .entry)) (now (empty .exit)) ⌝ }
 {
-    tracks::begin(map, (g.cylinders * g.heads) as usize);
+    tracks::free_below(map, (g.cylinders * g.heads) as usize);
     let start = g.start as usize;
     let end = start + g.tracks as usize;
     let vtoc = tracks::take_range(map, start, end);
     let label = tracks::take_range(map, 0, 1);
-    tracks::begin(empty, (g.tracks * g.records) as usize);
+    tracks::free_below(empty, (g.tracks * g.records) as usize);
     let first = tracks::take_range(empty, 0, 1);
 }
 

@@ -187,3 +187,7 @@ upto-more m w n r h p q t u =
     store-in m w r t h (omega arith) ∙ q (t % 64) (omega arith) ∙ ap (λ (x : ℕ). bit (ltb x n)) e)
     (λ g. store-off m w r t (λ z. absurd (omega arith)) ∙ p t g)
     (le-or-lt (64 * w) t)
+
+-- w words of ones cover n tracks
+pub upto-ones : (m : List ℕ) (w l n : ℕ) → w ≤ l → n ≤ 64 * w → Upto m w (64 * l) → (t : ℕ) → t < n → freeBit m t ≡ 1
+upto-ones m w l n h k p t u = p t (omega arith) ∙ ap bit (lt-ltb t (64 * l) (omega arith))

@@ -36,6 +36,11 @@ pub record Begun (m m′ : List ℕ) (n : ℕ) : Type 0 where
   pub long : length m′ ≡ length m
   pub only : (t : ℕ) → t < 64 * length m → freeBit m′ t ≡ bit (ltb t n)
 
+-- m′ is a map of the tracks of m in which those below n are free
+pub record Opened (m m′ : List ℕ) (n : ℕ) : Type 0 where
+  pub long : length m′ ≡ length m
+  pub below : (t : ℕ) → t < n → freeBit m′ t ≡ 1
+
 -- m′ is m but for the tracks from s up to e, whose bits are b
 pub record Made (b : ℕ) (m m′ : List ℕ) (s e : ℕ) : Type 0 where
   pub long : length m′ ≡ length m

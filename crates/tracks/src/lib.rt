@@ -3,7 +3,7 @@
 ghost use mathlib.Core.Path.{_≡_};
 ghost use Prim.Native.Nat.{_+_, _-_, _*_, _%_, _≤_, _<_, min};
 ghost use lib.ListN.{length};
-ghost use Rattle.tracks.specs.Map.{freeFrom, Begun, Taken, Given, NextRun};
+ghost use Rattle.tracks.specs.Map.{freeFrom, Begun, Opened, Taken, Given, NextRun};
 ghost use Rattle.tracks.specs.Steps.{block, WordAt, flipped, First, Starts};
 
 const ALL: u64 = 0xffff_ffff_ffff_ffff;
@@ -47,6 +47,18 @@ pub fn begin(map: &mut [u64], n: usize)
     let mut w = 0;
     while w < map.len() {
         map[w] = word_at(w * 64, n);
+        w += 1;
+    }
+}
+
+// Makes the tracks below n free, by whole words: those from n on are not looked at. A small volume costs a few words.
+pub fn free_below(map: &mut [u64], n: usize)
+    requires { ⌜ (length (now map) ≤ 1024) × (n ≤ 64 * length (now map)) ⌝ }
+    ensures { λ _. ⌜ Opened (now (map .entry)) (now (map .exit)) n ⌝ }
+{
+    let mut w = 0;
+    while w * 64 < n {
+        map[w] = ALL;
         w += 1;
     }
 }

@@ -1,114 +1,80 @@
-use mathlib.Core.Path.{subst}
-use mathlib.Core.Bool.{true, false}
-use mathlib.Core.List.{_++_}
-use Rattle.model.specs.Model.{overs}
-use Rattle.model.proofs.Lists.{clash}
-use Rattle.rules.specs.Reading.{readExtents}
-use Rattle.tracks.specs.Map.{Shows}
-use Rattle.label_check.proofs.Taking.{Left, left-none, left-next, left-stop, in-order, track-of}
-use Rattle.fields.proofs.Tens.{extent-length}
-use Rattle.forms.specs.Forms.{geometryOf}
-use Rattle.model.specs.Model.{tracks}
-use lib.ListN.{length}
-use native.Mathlib.Omega.{arith}
-use Prim.Native.Nat.{ℕ, _+_, _-_, _≤_}
 use mathlib.Core.Path.{_≡_, refl, sym, ap, _∙_}
+use Prim.Native.Nat.{ℕ, _+_, _-_, _≤_}
+use native.Mathlib.Omega.{arith}
+use native.Mathlib.Nat.{sub-zero}
+use lib.ListN.{length}
+use Rattle.model.specs.Model.{tracks}
+use Rattle.forms.specs.Forms.{geometryOf}
+use Rattle.fields.proofs.Tens.{extent-length}
+use Rattle.label_check.specs.Label.{extentsOk, usedOk}
+use Rattle.label_check.proofs.Taking.{Left, all-taken, left-none, turn-left, turn-same, turn-stop}
 use borrow.Author.Needs.{needs}
 use Rattle.label_check.proofs.take_extents.Statement.{statement}
 use Rattle.label_check.proofs.take_extents.Tie as tie
 use Rattle.label_check.proofs.take_extents.Reads as reads
 use Rattle.label_check.proofs.take_extents.Lts as lts
 use Rattle.fields.proofs.extent_part.Reads as extent-part-reads
-use Rattle.fields.proofs.track_at.Reads as track-at-reads
-use Rattle.tracks.proofs.take_range.Reads as take-range-reads
+use Rattle.label_check.proofs.take_extent.Reads as take-extent-reads
 
 abbrev Inv-loop : tie.InvT-loop
-Inv-loop f1 f3 n map₀ h e₀ map e = (length map ≡ length map₀) × (e ≤ n) × Left h f1 f3 e map₀ map
+Inv-loop f1 f3 n g map₀ e₀ map e =
+    (length map ≡ length map₀) × (e ≤ n) × Left (g .heads) f1 f3 e map₀ map × (usedOk (geometryOf g) f1 f3 n ≡ extentsOk (g .heads) (tracks (geometryOf g)) f1 f3 n e (n - e))
 
 abbrev μ-loop : tie.MeasureT-loop
-μ-loop f1 f3 n map₀ h e₀ map e = n - e
+μ-loop f1 f3 n g map₀ e₀ map e = n - e
 
--- src/lib.rt:99:5
+-- src/lib.rt:111:5
 loop-holds : tie.Need-loop-holds Inv-loop μ-loop
-loop-holds c = (refl, omega arith, left-none (c .before .before .before .args .g .heads) (c .before .before .before .args .f1 .now) (c .before .before .before .args .f3 .now) (c .before .before .before .args .map .now))
+loop-holds c = (refl, omega arith, left-none (c .before .before .before .args .g .heads) (c .before .before .before .args .f1 .now) (c .before .before .before .args .f3 .now) (c .before .before .before .args .map .now), ap (extentsOk (c .before .before .before .args .g .heads) (tracks (geometryOf (c .before .before .before .args .g))) (c .before .before .before .args .f1 .now) (c .before .before .before .args .f3 .now) (c .before .before .before .args .n) 0) (sym (sub-zero (c .before .before .before .args .n))))
 
--- src/lib.rt:100:13
+-- src/lib.rt:112:13
 extent-part-requires : tie.Need-extent-part-requires Inv-loop μ-loop
 extent-part-requires c κs = search needs
 
--- src/lib.rt:101:21
-track-at-requires : tie.Need-track-at-requires Inv-loop μ-loop
-track-at-requires c κs = let l = ap length (c .extent-part .ensures) ∙ extent-length (c .before .before .before .before .before .before .args .f1 .now) (c .before .before .before .before .before .before .args .f3 .now) (c .before .before .loop .e) (c .before .before .before .before .before .before .pre .0) (c .before .before .before .before .before .before .pre .1) (omega (arith, c .before .before .before .before .before .before .pre .2)) in (omega arith, omega (arith, c .before .before .before .before .before .before .pre .3 .headsMost))
+-- src/lib.rt:113:12
+take-extent-requires : tie.Need-take-extent-requires Inv-loop μ-loop
+take-extent-requires c κs = (
+  ap length (c .before .extent-part .ensures) ∙ extent-length (c .before .before .before .before .before .before .before .args .f1 .now) (c .before .before .before .before .before .before .before .args .f3 .now) (c .before .before .before .loop .e) (c .before .before .before .before .before .before .before .pre .0) (c .before .before .before .before .before .before .before .pre .1) (omega (arith, c .before .before .before .before .before .before .before .pre .2)),
+  omega (arith, c .before .before .before .before .before .before .before .pre .2),
+  c .before .before .before .before .before .before .before .pre .3,
+  omega (arith, c .before .before .before .before .before .before .before .pre .4, c .before .before .before .loop .inv .0),
+)
 
--- src/lib.rt:101:21
-cast-first : tie.Need-cast-first Inv-loop μ-loop
-cast-first c = search needs
-
--- src/lib.rt:102:20
-track-at-requires-2 : tie.Need-track-at-requires-2 Inv-loop μ-loop
-track-at-requires-2 c κs = let l = ap length (c .before .extent-part .ensures) ∙ extent-length (c .before .before .before .before .before .before .before .args .f1 .now) (c .before .before .before .before .before .before .before .args .f3 .now) (c .before .before .before .loop .e) (c .before .before .before .before .before .before .before .pre .0) (c .before .before .before .before .before .before .before .pre .1) (omega (arith, c .before .before .before .before .before .before .before .pre .2)) in (omega arith, omega (arith, c .before .before .before .before .before .before .before .pre .3 .headsMost))
-
--- src/lib.rt:102:20
-cast-last : tie.Need-cast-last Inv-loop μ-loop
-cast-last c = search needs
-
--- src/lib.rt:103:19
-add-end : tie.Need-add-end Inv-loop μ-loop
-add-end c = search needs
-
--- src/lib.rt:104:12
-take-range-requires : tie.Need-take-range-requires Inv-loop μ-loop
-take-range-requires c κs =
-    let p = c .before .before .before .before .before .before .before .before .before .pre in
-    let o = in-order (geometryOf (c .before .before .before .before .before .before .before .before .before .args .g)) (c .before .before .before .before .before .before .before .before .before .args .f1 .now) (c .before .before .before .before .before .before .before .before .before .args .f3 .now) (c .before .before .before .before .before .before .before .before .before .args .n) (c .before .before .before .before .before .loop .e) (c .before .before .track-at .result) (c .before .track-at2 .result) (p .5) (c .before .before .before .before .loop-test .taken) (track-of (c .before .before .before .before .before .before .before .before .before .args .g .heads) 2 _ _ _ (c .before .before .before .extent-part .ensures) (c .before .before .track-at .ensures .0)) (track-of (c .before .before .before .before .before .before .before .before .before .args .g .heads) 6 _ _ _ (c .before .before .before .extent-part .ensures) (c .before .track-at2 .ensures .0)) in
-    let l = c .before .before .before .before .before .loop .inv .0 in
-    (omega (arith, o .0), omega (arith, o .1, p .4))
-
--- src/lib.rt:105:13
+-- src/lib.rt:114:13
 add-e : tie.Need-add-e Inv-loop μ-loop
 add-e c = search needs
 
--- src/lib.rt:99:5
+-- src/lib.rt:111:5
 loop-less : tie.Need-loop-less Inv-loop μ-loop
 loop-less c = search needs
 
--- src/lib.rt:99:5
+-- src/lib.rt:111:5
 loop-again : tie.Need-loop-again Inv-loop μ-loop
 loop-again c =
-    let p = c .before .before .before .before .before .before .before .before .before .before .before .before .before .pre in
-    let o = in-order (geometryOf (c .before .before .before .before .before .before .before .before .before .before .before .before .before .args .g)) (c .before .before .before .before .before .before .before .before .before .before .before .before .before .args .f1 .now) (c .before .before .before .before .before .before .before .before .before .before .before .before .before .args .f3 .now) (c .before .before .before .before .before .before .before .before .before .before .before .before .before .args .n) (c .before .before .before .before .before .before .before .before .before .loop .e) (c .before .before .before .before .before .before .track-at .result) (c .before .before .before .before .before .track-at2 .result) (p .5) (c .before .before .before .before .before .before .before .before .loop-test .taken) (track-of (c .before .before .before .before .before .before .before .before .before .before .before .before .before .args .g .heads) 2 _ _ _ (c .before .before .before .before .before .before .before .extent-part .ensures) (c .before .before .before .before .before .before .track-at .ensures .0)) (track-of (c .before .before .before .before .before .before .before .before .before .before .before .before .before .args .g .heads) 6 _ _ _ (c .before .before .before .before .before .before .before .extent-part .ensures) (c .before .before .before .before .before .track-at2 .ensures .0)) in
-    (c .before .before .before .take-range .ensures .long ∙ c .before .before .before .before .before .before .before .before .before .loop .inv .0, omega arith, left-next (c .before .before .before .before .before .before .before .before .before .before .before .before .before .args .g .heads) (c .before .before .before .before .before .before .before .before .before .before .before .before .before .args .f1 .now) (c .before .before .before .before .before .before .before .before .before .before .before .before .before .args .f3 .now) (c .before .before .before .before .before .before .before .before .before .loop .e) (c .before .before .before .before .before .before .before .before .before .before .before .before .before .args .map .now) (c .before .before .before .before .before .before .before .before .before .loop .map) _ _ (c .before .before .before .before .before .before .track-at .result) (c .before .before .before .before .before .track-at2 .result) (track-of (c .before .before .before .before .before .before .before .before .before .before .before .before .before .args .g .heads) 2 _ _ _ (c .before .before .before .before .before .before .before .extent-part .ensures) (c .before .before .before .before .before .before .track-at .ensures .0)) (track-of (c .before .before .before .before .before .before .before .before .before .before .before .before .before .args .g .heads) 6 _ _ _ (c .before .before .before .before .before .before .before .extent-part .ensures) (c .before .before .before .before .before .track-at2 .ensures .0)) (o .0) (c .before .before .before .take-range .ensures) (c .before .before .before .before .before .before .before .before .before .loop .inv .2) (c .if1 .taken))
+    let y = c .before .before .before .take-extent .ensures in (
+      y .long ∙ c .before .before .before .before .before .before .before .loop .inv .0,
+      omega arith,
+      turn-left (geometryOf (c .before .before .before .before .before .before .before .before .before .before .before .args .g)) (c .before .before .before .before .before .before .before .before .before .before .before .args .f1 .now) (c .before .before .before .before .before .before .before .before .before .before .before .args .f3 .now) (c .before .before .before .before .before .before .before .before .before .before .before .args .n) (c .before .before .before .before .before .before .before .loop .e) (c .before .before .before .before .before .before .before .before .before .before .before .args .map .now) (c .before .before .before .before .before .before .before .loop .map) _ (c .before .before .before .take-extent .result) (c .before .before .before .before .before .extent-part .result .now) (c .before .before .before .before .before .extent-part .ensures) (c .before .before .before .before .before .before .loop-test .taken) y (c .before .before .before .before .before .before .before .loop .inv .2) (c .before .before .before .before .before .before .before .loop .inv .3) (c .if1 .taken),
+      turn-same (geometryOf (c .before .before .before .before .before .before .before .before .before .before .before .args .g)) (c .before .before .before .before .before .before .before .before .before .before .before .args .f1 .now) (c .before .before .before .before .before .before .before .before .before .before .before .args .f3 .now) (c .before .before .before .before .before .before .before .before .before .before .before .args .n) (c .before .before .before .before .before .before .before .loop .e) (c .before .before .before .before .before .before .before .before .before .before .before .args .map .now) (c .before .before .before .before .before .before .before .loop .map) _ (c .before .before .before .take-extent .result) (c .before .before .before .before .before .extent-part .result .now) (c .before .before .before .before .before .extent-part .ensures) (c .before .before .before .before .before .before .loop-test .taken) y (c .before .before .before .before .before .before .before .loop .inv .2) (c .before .before .before .before .before .before .before .loop .inv .3) (c .if1 .taken),
+    )
 
--- src/lib.rt:107:13
+-- src/lib.rt:116:13
 same-length : tie.Need-same-length Inv-loop μ-loop
 same-length c = search needs
 
--- src/lib.rt:107:13
+-- src/lib.rt:116:13
 returns : tie.Need-returns Inv-loop μ-loop
 returns c =
-    let p = c .before .before .before .before .before .before .before .before .before .before .before .before .before .pre in
-    let a = track-of (c .before .before .before .before .before .before .before .before .before .before .before .before .before .args .g .heads) 2 _ _ _ (c .before .before .before .before .before .before .before .extent-part .ensures) (c .before .before .before .before .before .before .track-at .ensures .0) in
-    let b = track-of (c .before .before .before .before .before .before .before .before .before .before .before .before .before .args .g .heads) 6 _ _ _ (c .before .before .before .before .before .before .before .extent-part .ensures) (c .before .before .before .before .before .track-at2 .ensures .0) in
-    let o = in-order (geometryOf (c .before .before .before .before .before .before .before .before .before .before .before .before .before .args .g)) (c .before .before .before .before .before .before .before .before .before .before .before .before .before .args .f1 .now) (c .before .before .before .before .before .before .before .before .before .before .before .before .before .args .f3 .now) (c .before .before .before .before .before .before .before .before .before .before .before .before .before .args .n) (c .before .before .before .before .before .before .before .before .before .loop .e) (c .before .before .before .before .before .before .track-at .result) (c .before .before .before .before .before .track-at2 .result) (p .5) (c .before .before .before .before .before .before .before .before .loop-test .taken) a b in
-    record {
-      long = c .before .before .before .take-range .ensures .long ∙ c .before .before .before .before .before .before .before .before .before .loop .inv .0;
-      yes = λ q. clash {b = false} q refl;
-      no = λ q hs h w. left-stop (c .before .before .before .before .before .before .before .before .before .before .before .before .before .args .g .heads) (c .before .before .before .before .before .before .before .before .before .before .before .before .before .args .f1 .now) (c .before .before .before .before .before .before .before .before .before .before .before .before .before .args .f3 .now) (c .before .before .before .before .before .before .before .before .before .loop .e) (c .before .before .before .before .before .before .before .before .before .before .before .before .before .args .map .now) (c .before .before .before .before .before .before .before .before .before .loop .map) _ _ (c .before .before .before .before .before .before .track-at .result) (c .before .before .before .before .before .track-at2 .result) a b (o .0) (c .before .before .before .take-range .ensures) (c .before .before .before .before .before .before .before .before .before .loop .inv .2) (c .if1 .left) (c .before .before .before .before .before .before .before .before .before .before .before .before .before .args .n) (tracks (geometryOf (c .before .before .before .before .before .before .before .before .before .before .before .before .before .args .g))) (c .before .before .before .before .before .before .before .before .loop-test .taken) (o .1) hs h w;
-    }
+    let y = c .before .before .before .take-extent .ensures in
+    turn-stop (geometryOf (c .before .before .before .before .before .before .before .before .before .before .before .args .g)) (c .before .before .before .before .before .before .before .before .before .before .before .args .f1 .now) (c .before .before .before .before .before .before .before .before .before .before .before .args .f3 .now) (c .before .before .before .before .before .before .before .before .before .before .before .args .n) (c .before .before .before .before .before .before .before .loop .e) (c .before .before .before .before .before .before .before .before .before .before .before .args .map .now) (c .before .before .before .before .before .before .before .loop .map) _ (c .before .before .before .take-extent .result) (c .before .before .before .before .before .extent-part .result .now) (c .before .before .before .before .before .extent-part .ensures) (c .before .before .before .before .before .before .loop-test .taken) y (c .before .before .before .before .before .before .before .loop .inv .2) (c .before .before .before .before .before .before .before .loop .inv .3) (c .if1 .left) (y .long ∙ c .before .before .before .before .before .before .before .loop .inv .0)
 
--- src/lib.rt:93:1
+-- src/lib.rt:106:1
 same-length-2 : tie.Need-same-length-2 Inv-loop μ-loop
 same-length-2 c = search needs
 
--- src/lib.rt:93:1
+-- src/lib.rt:106:1
 returns-2 : tie.Need-returns-2 Inv-loop μ-loop
-returns-2 c =
-    let e : c .before .loop .e ≡ c .before .before .before .before .before .args .n = omega arith in
-    record {
-      long = c .before .loop .inv .0;
-      yes = λ q hs h. subst (λ (x : ℕ). Shows (c .before .loop .map) (tracks (geometryOf (c .before .before .before .before .before .args .g))) (overs (readExtents (c .before .before .before .before .before .args .g .heads) (c .before .before .before .before .before .args .f1 .now) (c .before .before .before .before .before .args .f3 .now) x) ++ hs)) e (c .before .loop .inv .2 (tracks (geometryOf (c .before .before .before .before .before .args .g))) hs h);
-      no = λ q. clash {b = true} refl q;
-    }
+returns-2 c = all-taken (geometryOf (c .before .before .before .before .before .args .g)) (c .before .before .before .before .before .args .f1 .now) (c .before .before .before .before .before .args .f3 .now) (c .before .before .before .before .before .args .n) (c .before .loop .e) (c .before .before .before .before .before .args .map .now) (c .before .loop .map) (c .before .loop .inv .1) (c .loop-test .left) (c .before .loop .inv .0) (c .before .loop .inv .2) (c .before .loop .inv .3)
 
 pub take-extents-spec : {M : Type 1} → statement M
 take-extents-spec =
@@ -118,12 +84,7 @@ take-extents-spec =
     μ-loop
     loop-holds
     extent-part-requires
-    track-at-requires
-    cast-first
-    track-at-requires-2
-    cast-last
-    add-end
-    take-range-requires
+    take-extent-requires
     add-e
     loop-less
     loop-again

@@ -1,11 +1,11 @@
-use Rattle.label_check.proofs.Laws.{third-none, third-wrong, third-tested}
-use Rattle.fields.proofs.Links.{slot-below}
-use Rattle.forms.specs.Forms.{geometryOf}
-use Rattle.model.specs.Model.{slots}
-use Rattle.model.specs.Basics.{part}
-use native.Mathlib.Omega.{arith}
+use mathlib.Core.Path.{_≡_, sym, _∙_}
 use mathlib.Core.Bool.{true, false}
-use mathlib.Core.Path.{_≡_, sym, ap, _∙_}
+use native.Mathlib.Omega.{arith}
+use Rattle.model.specs.Basics.{part}
+use Rattle.model.specs.Model.{slots}
+use Rattle.forms.specs.Forms.{geometryOf}
+use Rattle.fields.proofs.Links.{slot-below}
+use Rattle.label_check.proofs.Laws.{third-none, third-wrong, third-tested}
 use borrow.Author.Needs.{needs}
 use Rattle.label_check.proofs.third_of.Statement.{statement}
 use Rattle.label_check.proofs.third_of.Tie as tie
@@ -14,7 +14,7 @@ use Rattle.label_check.proofs.third_of.Lts as lts
 use Rattle.fields.proofs.record_at.Reads as record-at-reads
 use Rattle.fields.proofs.slot_of.Reads as slot-of-reads
 use Rattle.forms.proofs.three_ok.Reads as three-ok-reads
-use Rattle.label_check.proofs.extents_ok.Reads as extents-ok-reads
+use Rattle.label_check.proofs.unused_ok.Reads as unused-ok-reads
 
 -- src/lib.rt:51:17
 mul-many : tie.Need-mul-many
@@ -48,9 +48,9 @@ returns c = third-none (geometryOf (c .before .before .before .before .before .b
 record-at-requires : tie.Need-record-at-requires
 record-at-requires c κs =
     let g = geometryOf (c .before .before .before .before .before .before .args .g) in
-    let n = c .before .before .before .before .before .before .pre .1 .least in
+    let n = c .before .before .before .before .before .before .pre .2 .least in
     let b = slot-below (g .heads) (g .records) (g .vtocStart) (slots g) (part 135 5 (c .before .before .before .before .before .before .args .f1 .now)) (omega arith) in
-    omega (arith, c .before .slot-of .ensures, c .before .before .before .before .before .before .pre .2)
+    omega (arith, c .before .slot-of .ensures, c .before .before .before .before .before .before .pre .3)
 
 -- src/lib.rt:57:8
 three-ok-requires : tie.Need-three-ok-requires
@@ -60,21 +60,17 @@ three-ok-requires c κs = search needs
 returns-2 : tie.Need-returns-2
 returns-2 c = third-wrong (geometryOf (c .before .before .before .before .before .before .before .before .before .args .g)) (c .before .before .before .before .before .before .before .before .before .args .table .now) (c .before .before .before .before .before .before .before .before .before .args .f1 .now) (c .before .before .before .before .before .before .before .before .before .args .n) (c .before .before .before .before .slot-of .result) (c .before .before .before .before .slot-of .ensures) (c .before .before .record-at .result .now) (c .before .before .record-at .ensures .0) (sym (c .before .three-ok .ensures) ∙ c .if2 .left)
 
--- src/lib.rt:60:43
-mul-extents-ok : tie.Need-mul-extents-ok
-mul-extents-ok c = search needs
-
 -- src/lib.rt:60:8
-extents-ok-requires : tie.Need-extents-ok-requires
-extents-ok-requires c κs = search needs
+unused-ok-requires : tie.Need-unused-ok-requires
+unused-ok-requires c κs = search needs
 
 -- src/lib.rt:61:9
 returns-3 : tie.Need-returns-3
-returns-3 c = third-tested (geometryOf (c .before .before .before .before .before .before .before .before .before .before .before .before .args .g)) (c .before .before .before .before .before .before .before .before .before .before .before .before .args .table .now) (c .before .before .before .before .before .before .before .before .before .before .before .before .args .f1 .now) (c .before .before .before .before .before .before .before .before .before .before .before .before .args .n) (c .before .before .before .before .before .before .before .slot-of .result) (c .before .before .before .before .before .before .before .slot-of .ensures) (c .before .before .before .before .before .record-at .result .now) (c .before .before .before .before .before .record-at .ensures .0) true (sym (c .before .before .before .before .three-ok .ensures) ∙ c .before .before .before .if2 .taken) (sym (c .before .extents-ok .ensures) ∙ c .if3 .taken)
+returns-3 c = third-tested (geometryOf (c .before .before .before .before .before .before .before .before .before .before .before .args .g)) (c .before .before .before .before .before .before .before .before .before .before .before .args .table .now) (c .before .before .before .before .before .before .before .before .before .before .before .args .f1 .now) (c .before .before .before .before .before .before .before .before .before .before .before .args .n) (c .before .before .before .before .before .before .slot-of .result) (c .before .before .before .before .before .before .slot-of .ensures) (c .before .before .before .before .record-at .result .now) (c .before .before .before .before .record-at .ensures .0) true (sym (c .before .before .before .three-ok .ensures) ∙ c .before .before .if2 .taken) (sym (c .before .unused-ok .ensures) ∙ c .if3 .taken)
 
 -- src/lib.rt:47:1
 returns-4 : tie.Need-returns-4
-returns-4 c = third-tested (geometryOf (c .before .before .before .before .before .before .before .before .before .before .before .before .args .g)) (c .before .before .before .before .before .before .before .before .before .before .before .before .args .table .now) (c .before .before .before .before .before .before .before .before .before .before .before .before .args .f1 .now) (c .before .before .before .before .before .before .before .before .before .before .before .before .args .n) (c .before .before .before .before .before .before .before .slot-of .result) (c .before .before .before .before .before .before .before .slot-of .ensures) (c .before .before .before .before .before .record-at .result .now) (c .before .before .before .before .before .record-at .ensures .0) false (sym (c .before .before .before .before .three-ok .ensures) ∙ c .before .before .before .if2 .taken) (sym (c .before .extents-ok .ensures) ∙ c .if3 .left)
+returns-4 c = third-tested (geometryOf (c .before .before .before .before .before .before .before .before .before .before .before .args .g)) (c .before .before .before .before .before .before .before .before .before .before .before .args .table .now) (c .before .before .before .before .before .before .before .before .before .before .before .args .f1 .now) (c .before .before .before .before .before .before .before .before .before .before .before .args .n) (c .before .before .before .before .before .before .slot-of .result) (c .before .before .before .before .before .before .slot-of .ensures) (c .before .before .before .before .record-at .result .now) (c .before .before .before .before .record-at .ensures .0) false (sym (c .before .before .before .three-ok .ensures) ∙ c .before .before .if2 .taken) (sym (c .before .unused-ok .ensures) ∙ c .if3 .left)
 
 pub third-of-spec : {M : Type 1} → statement M
 third-of-spec =
@@ -90,7 +86,6 @@ third-of-spec =
     record-at-requires
     three-ok-requires
     returns-2
-    mul-extents-ok
-    extents-ok-requires
+    unused-ok-requires
     returns-3
     returns-4)

@@ -1,8 +1,7 @@
-use Rattle.names.proofs.Laws.{enter-skip, enter-new, enter-old, tag-first}
-use lib.Seq.{length-take-le}
-use lib.ListN.{length-take}
+use mathlib.Core.Path.{_≡_, sym, _∙_}
 use native.Mathlib.Omega.{arith}
-use mathlib.Core.Path.{_≡_, refl, sym, ap, _∙_}
+use lib.ListN.{length-take}
+use Rattle.names.proofs.Laws.{enter-skip, enter-new, enter-old, tag-first}
 use borrow.Author.Needs.{needs}
 use Rattle.names.proofs.enter.Statement.{statement}
 use Rattle.names.proofs.enter.Tie as tie
@@ -12,61 +11,79 @@ use Rattle.fields.proofs.record_at.Reads as record-at-reads
 use Rattle.names.proofs.is_new.Reads as is-new-reads
 use Rattle.names.proofs.tag.Reads as tag-reads
 
--- src/lib.rt:96:9
+-- src/lib.rt:123:9
 record-at-requires : tie.Need-record-at-requires
 record-at-requires c κs = search needs
 
--- src/lib.rt:97:8
+-- src/lib.rt:124:8
 shared-slice-read-if1 : tie.Need-shared-slice-read-if1
 shared-slice-read-if1 c = search needs
 
--- src/lib.rt:98:9
+-- src/lib.rt:125:9
 returns : tie.Need-returns
-returns c = enter-skip (c .before .before .before .before .before .args .table .now) (c .before .before .before .before .before .args .tags .now) (c .before .before .record-at .result .now) (c .before .before .before .before .before .args .k) (c .before .before .record-at .ensures .0) (c .before .before .before .before .before .pre .2) (c .if1 .taken)
+returns c = enter-skip (c .before .before .before .before .before .before .args .table .now) (c .before .before .before .before .before .before .args .tags .now) (c .before .before .before .before .before .before .args .seen .now) (c .before .before .record-at .result .now) (c .before .before .before .before .before .before .args .k) (c .before .before .record-at .ensures .0) (c .before .before .before .before .before .before .pre .2) (c .before .before .before .before .before .before .pre .4) (c .if1 .taken)
 
--- src/lib.rt:100:9
+-- src/lib.rt:127:9
 slice-aggregate-name : tie.Need-slice-aggregate-name
 slice-aggregate-name c = let l = c .before .before .before .record-at .ensures .1 in simp length-take (omega arith)
 
--- src/lib.rt:101:9
+-- src/lib.rt:128:9
 tag-requires : tie.Need-tag-requires
-tag-requires c κs = simp length-take (omega arith)
+tag-requires c κs = let l = c .before .before .before .record-at .ensures .1 in simp length-take (omega arith)
 
--- src/lib.rt:102:25
+-- src/lib.rt:129:25
 slice-reshare-prefix-is-new : tie.Need-slice-reshare-prefix-is-new
 slice-reshare-prefix-is-new c = search needs
 
--- src/lib.rt:102:25
+-- src/lib.rt:129:25
 slice-aggregate-is-new : tie.Need-slice-aggregate-is-new
 slice-aggregate-is-new c = simp length-take (omega arith)
 
--- src/lib.rt:102:8
+-- src/lib.rt:129:8
 is-new-requires : tie.Need-is-new-requires
-is-new-requires c κs = (omega arith, simp length-take (omega arith), tag-first (c .before .before .before .before .before .before .before .before .args .table .now) (c .before .before .before .before .before .before .before .before .args .tags .now) (c .before .before .before .before .before .before .before .before .args .k) (c .before .before .before .before .before .before .before .before .pre .2), c .before .tag .ensures)
+is-new-requires c κs = (omega arith, simp length-take (omega arith), tag-first (c .before .before .before .before .before .before .before .before .before .before .args .table .now) (c .before .before .before .before .before .before .before .before .before .before .args .tags .now) (c .before .before .before .before .before .before .before .before .before .before .args .k) (c .before .before .before .before .before .before .before .before .before .before .pre .2), c .before .before .tag .ensures, c .before .before .before .before .before .before .before .before .before .before .pre .3, c .before .before .before .before .before .before .before .before .before .before .pre .4)
 
--- src/lib.rt:103:9
+-- src/lib.rt:130:9
 mul-tags : tie.Need-mul-tags
 mul-tags c = search needs
 
--- src/lib.rt:103:9
+-- src/lib.rt:130:9
 slice-write-tags : tie.Need-slice-write-tags
 slice-write-tags c = search needs
 
--- src/lib.rt:104:9
+-- src/lib.rt:131:18
+cast-at : tie.Need-cast-at
+cast-at c = search needs
+
+-- src/lib.rt:132:9
+slice-write-seen : tie.Need-slice-write-seen
+slice-write-seen c = search needs
+
+-- src/lib.rt:133:9
 same-length : tie.Need-same-length
 same-length c = search needs
 
--- src/lib.rt:104:9
-returns-2 : tie.Need-returns-2
-returns-2 c = enter-new (c .before .before .before .before .before .before .before .before .before .before .args .table .now) (c .before .before .before .before .before .before .before .before .before .before .args .tags .now) (c .before .before .before .before .before .before .before .record-at .result .now) (c .before .before .before .before .before .before .before .before .before .before .args .k) (c .before .before .before .before .before .before .before .record-at .ensures .0) (c .before .before .before .before .before .before .before .before .before .before .pre .2) (c .before .before .before .before .before .if1 .left) (c .before .before .before .tag .result) (c .before .before .before .before .before .before .before .before .before .before .pre .1) (c .before .before .before .tag .ensures) (sym (c .before .is-new .ensures) ∙ c .if2 .taken)
-
--- src/lib.rt:92:1
+-- src/lib.rt:133:9
 same-length-2 : tie.Need-same-length-2
 same-length-2 c = search needs
 
--- src/lib.rt:92:1
+-- src/lib.rt:133:9
+returns-2 : tie.Need-returns-2
+returns-2 c =
+    enter-new (c .before .before .before .before .before .before .before .before .before .before .before .before .args .table .now) (c .before .before .before .before .before .before .before .before .before .before .before .before .args .tags .now) (c .before .before .before .before .before .before .before .before .before .before .before .before .args .seen .now) (c .before .before .before .before .before .before .before .before .record-at .result .now) (c .before .before .before .before .before .before .before .before .before .before .before .before .args .k) (c .before .before .before .before .before .before .before .before .record-at .ensures .0) (c .before .before .before .before .before .before .before .before .before .before .before .before .pre .2) (c .before .before .before .before .before .before .before .before .before .before .before .before .pre .4) (c .before .before .before .before .before .before .if1 .left) (c .before .before .before .before .tag .result) (c .before .before .before .before .before .before .before .before .before .before .before .before .pre .1) (omega (arith, c .before .before .before .before .before .before .before .before .before .before .before .before .pre .3)) (c .before .before .before .before .tag .ensures) (sym (c .before .is-new .ensures) ∙ c .if2 .taken)
+
+-- src/lib.rt:119:1
+same-length-3 : tie.Need-same-length-3
+same-length-3 c = search needs
+
+-- src/lib.rt:119:1
+same-length-4 : tie.Need-same-length-4
+same-length-4 c = search needs
+
+-- src/lib.rt:119:1
 returns-3 : tie.Need-returns-3
-returns-3 c = enter-old (c .before .before .before .before .before .before .before .before .before .before .args .table .now) (c .before .before .before .before .before .before .before .before .before .before .args .tags .now) (c .before .before .before .before .before .before .before .record-at .result .now) (c .before .before .before .before .before .before .before .before .before .before .args .k) (c .before .before .before .before .before .before .before .record-at .ensures .0) (c .before .before .before .before .before .before .before .before .before .before .pre .2) (c .before .before .before .before .before .if1 .left) (c .before .before .before .before .before .before .before .before .before .before .args .tags .now) refl (sym (c .before .is-new .ensures) ∙ c .if2 .left)
+returns-3 c =
+    enter-old (c .before .before .before .before .before .before .before .before .before .before .before .before .args .table .now) (c .before .before .before .before .before .before .before .before .before .before .before .before .args .tags .now) (c .before .before .before .before .before .before .before .before .before .before .before .before .args .seen .now) (c .before .before .before .before .before .before .before .before .record-at .result .now) (c .before .before .before .before .before .before .before .before .before .before .before .before .args .k) (c .before .before .before .before .before .before .before .before .record-at .ensures .0) (c .before .before .before .before .before .before .before .before .before .before .before .before .pre .2) (c .before .before .before .before .before .before .before .before .before .before .before .before .pre .4) (c .before .before .before .before .before .before .if1 .left) (sym (c .before .is-new .ensures) ∙ c .if2 .left)
 
 pub enter-spec : {M : Type 1} → statement M
 enter-spec =
@@ -82,7 +99,11 @@ enter-spec =
     is-new-requires
     mul-tags
     slice-write-tags
+    cast-at
+    slice-write-seen
     same-length
-    returns-2
     same-length-2
+    returns-2
+    same-length-3
+    same-length-4
     returns-3)

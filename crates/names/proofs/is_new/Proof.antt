@@ -1,6 +1,8 @@
-use Rattle.names.proofs.Laws.{no-tag}
-use Rattle.names.specs.Find.{hasTag, isNothing}
 use mathlib.Core.Path.{_≡_, sym, ap, _∙_}
+use lib.ListN.{getD}
+use Prim.Native.Nat.{ℕ, _%_}
+use Rattle.names.specs.Find.{hasTag, isNothing}
+use Rattle.names.proofs.Laws.{no-mark, no-tag}
 use borrow.Author.Needs.{needs}
 use Rattle.names.proofs.is_new.Statement.{statement}
 use Rattle.names.proofs.is_new.Tie as tie
@@ -9,36 +11,59 @@ use Rattle.names.proofs.is_new.Lts as lts
 use Rattle.names.proofs.find.Reads as find-reads
 use Rattle.names.proofs.has_tag.Reads as has-tag-reads
 
--- src/lib.rt:82:8
+-- src/lib.rt:105:14
+cast-at : tie.Need-cast-at
+cast-at c = search needs
+
+-- src/lib.rt:106:8
+shared-slice-read-if1 : tie.Need-shared-slice-read-if1
+shared-slice-read-if1 c = search needs
+
+-- src/lib.rt:107:9
+returns : tie.Need-returns
+returns c =
+    rw (no-mark (c .before .before .before .before .before .before .args .table .now) (c .before .before .before .before .before .before .args .seen .now) (c .before .before .before .before .before .before .args .k) (c .before .before .before .before .before .before .pre .5) (c .before .before .before .before .before .before .args .name .now) (ap (λ (x : ℕ). getD (c .before .before .before .before .before .before .args .seen .now) (x % 1024) 0) (sym (c .before .before .before .before .before .before .pre .3)) ∙ c .if1 .taken))
+
+-- src/lib.rt:109:8
 has-tag-requires : tie.Need-has-tag-requires
 has-tag-requires c κs = search needs
 
--- src/lib.rt:83:31
+-- src/lib.rt:110:30
 find-requires : tie.Need-find-requires
 find-requires c κs = search needs
 
--- src/lib.rt:83:25
+-- src/lib.rt:110:25
 enum-known-j : tie.Need-enum-known-j
 enum-known-j c = search needs
 
--- src/lib.rt:84:13
+-- src/lib.rt:111:13
 enum-told : tie.Need-enum-told
 enum-told c = search needs
 
--- src/lib.rt:84:13
-returns : tie.Need-returns
-returns c = rw (← c .before .before .find .ensures, c .enum-told .given .1)
-
--- src/lib.rt:86:9
+-- src/lib.rt:111:13
 returns-2 : tie.Need-returns-2
-returns-2 c = rw (← c .before .before .before .find .ensures, c .before .j .given .1)
+returns-2 c = rw (← c .before .before .find .ensures, c .enum-told .given .1)
 
--- src/lib.rt:78:1
+-- src/lib.rt:113:9
 returns-3 : tie.Need-returns-3
-returns-3 c =
-    rw (no-tag (c .before .before .before .before .before .args .table .now) (c .before .before .before .before .before .args .tags .now) (c .before .before .before .before .before .args .k) (c .before .before .before .before .before .pre .1) (c .before .before .before .before .before .pre .2) (c .before .before .before .before .before .args .name .now) (ap (hasTag (c .before .before .before .before .before .args .tags .now)) (sym (c .before .before .before .before .before .pre .3)) ∙ sym (c .before .has-tag .ensures) ∙ c .if1 .left))
+returns-3 c = rw (← c .before .before .before .find .ensures, c .before .j .given .1)
+
+-- src/lib.rt:101:1
+returns-4 : tie.Need-returns-4
+returns-4 c =
+    rw (no-tag (c .before .before .before .before .before .before .before .before .args .table .now) (c .before .before .before .before .before .before .before .before .args .tags .now) (c .before .before .before .before .before .before .before .before .args .k) (c .before .before .before .before .before .before .before .before .pre .1) (c .before .before .before .before .before .before .before .before .pre .2) (c .before .before .before .before .before .before .before .before .args .name .now) (ap (hasTag (c .before .before .before .before .before .before .before .before .args .tags .now)) (sym (c .before .before .before .before .before .before .before .before .pre .3)) ∙ sym (c .before .has-tag .ensures) ∙ c .if2 .left))
 
 pub is-new-spec : {M : Type 1} → statement M
 is-new-spec =
     tie.close
-    (tie.spec has-tag-requires find-requires enum-known-j enum-told returns returns-2 returns-3)
+    (tie.spec
+    cast-at
+    shared-slice-read-if1
+    returns
+    has-tag-requires
+    find-requires
+    enum-known-j
+    enum-told
+    returns-2
+    returns-3
+    returns-4)

@@ -1,35 +1,44 @@
-use Prim.Native.Nat.{ℕ, _*_, _%_, _≤_}
-use mathlib.Core.Path.{ap}
-use native.Mathlib.Nat.{mul-le-mul}
+use mathlib.Core.Path.{ap₂}
 use native.Mathlib.Omega.{arith}
+use native.Mathlib.Nat.{mul-le-mul}
+use Prim.Native.Nat.{ℕ, _*_, _≤_}
+use Rattle.names.specs.Find.{weightOf, wordAt}
 use borrow.Author.Needs.{needs}
 use Rattle.names.proofs.weighed.Statement.{statement}
 use Rattle.names.proofs.weighed.Tie as tie
 use Rattle.names.proofs.weighed.Reads as reads
 use Rattle.names.proofs.weighed.Lts as lts
-use Rattle.fields.proofs.wide.Reads as wide-reads
+use Rattle.names.proofs.weight.Reads as weight-reads
+use Rattle.names.proofs.word.Reads as word-reads
 
--- src/lib.rt:47:5
-wide-requires : tie.Need-wide-requires
-wide-requires c κs = search needs
+-- src/lib.rt:65:24
+mul-word : tie.Need-mul-word
+mul-word c = search needs
 
--- src/lib.rt:47:24
+-- src/lib.rt:65:13
+word-requires : tie.Need-word-requires
+word-requires c κs = search needs
+
+-- src/lib.rt:65:13
+cast-x : tie.Need-cast-x
+cast-x c = search needs
+
+-- src/lib.rt:66:9
+weight-requires : tie.Need-weight-requires
+weight-requires c κs = search needs
+
+-- src/lib.rt:66:5
 mul-result : tie.Need-mul-result
-mul-result c = search needs
+mul-result c =
+    let w : c .before .word .result ≤ 4294967295 = omega (arith, c .before .word .ensures .1) in
+    omega (arith, mul-le-mul w (c .weight .ensures .1))
 
--- src/lib.rt:47:5
-mul-result-2 : tie.Need-mul-result-2
-mul-result-2 c =
-    let w : c .wide .result ≤ 255 = omega arith in
-    let r : c .before .args .i * 27245 % 65521 ≤ 65535 = omega arith in
-    omega (arith, mul-le-mul w r)
-
--- src/lib.rt:43:1
+-- src/lib.rt:61:1
 returns : tie.Need-returns
 returns c =
-    let w : c .wide .result ≤ 255 = omega arith in
-    let r : c .before .args .i * 27245 % 65521 ≤ 65535 = omega arith in
-    (ap (λ (x : ℕ). x * (c .before .args .i * 27245 % 65521)) (c .wide .ensures .0), omega (arith, mul-le-mul w r))
+    let w : c .before .word .result ≤ 4294967295 = omega (arith, c .before .word .ensures .1) in
+    (ap₂ (λ (x y : ℕ). x * y) (c .before .word .ensures .0) (c .weight .ensures .0), omega (arith, mul-le-mul w (c .weight .ensures .1)))
 
 pub weighed-spec : {M : Type 1} → statement M
-weighed-spec = tie.close (tie.spec wide-requires mul-result mul-result-2 returns)
+weighed-spec =
+    tie.close (tie.spec mul-word word-requires cast-x weight-requires mul-result returns)

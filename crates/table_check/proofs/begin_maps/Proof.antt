@@ -7,20 +7,20 @@ use Rattle.table_check.proofs.begin_maps.Statement.{statement}
 use Rattle.table_check.proofs.begin_maps.Tie as tie
 use Rattle.table_check.proofs.begin_maps.Reads as reads
 use Rattle.table_check.proofs.begin_maps.Lts as lts
-use Rattle.tracks.proofs.begin.Reads as begin-reads
+use Rattle.tracks.proofs.free_below.Reads as free-below-reads
 use Rattle.tracks.proofs.take_range.Reads as take-range-reads
 
 -- src/lib.rt:19:25
-mul-begin : tie.Need-mul-begin
-mul-begin c = search needs
+mul-free-below : tie.Need-mul-free-below
+mul-free-below c = search needs
 
 -- src/lib.rt:19:24
-cast-begin : tie.Need-cast-begin
-cast-begin c = search needs
+cast-free-below : tie.Need-cast-free-below
+cast-free-below c = search needs
 
 -- src/lib.rt:19:5
-begin-requires : tie.Need-begin-requires
-begin-requires c κs = search needs
+free-below-requires : tie.Need-free-below-requires
+free-below-requires c κs = search needs
 
 -- src/lib.rt:20:17
 cast-start : tie.Need-cast-start
@@ -43,16 +43,16 @@ take-range-requires-2 : tie.Need-take-range-requires-2
 take-range-requires-2 c κs = search needs
 
 -- src/lib.rt:24:27
-mul-begin-2 : tie.Need-mul-begin-2
-mul-begin-2 c = search needs
+mul-free-below-2 : tie.Need-mul-free-below-2
+mul-free-below-2 c = search needs
 
 -- src/lib.rt:24:26
-cast-begin-2 : tie.Need-cast-begin-2
-cast-begin-2 c = search needs
+cast-free-below-2 : tie.Need-cast-free-below-2
+cast-free-below-2 c = search needs
 
 -- src/lib.rt:24:5
-begin-requires-2 : tie.Need-begin-requires-2
-begin-requires-2 c κs = search needs
+free-below-requires-2 : tie.Need-free-below-requires-2
+free-below-requires-2 c κs = search needs
 
 -- src/lib.rt:25:9
 take-range-requires-3 : tie.Need-take-range-requires-3
@@ -69,24 +69,24 @@ same-length-2 c = search needs
 -- src/lib.rt:15:1
 returns : tie.Need-returns
 returns c =
-    maps-begun (geometryOf (c .before .before .before .before .before .before .before .before .before .before .before .before .before .before .before .before .before .before .before .before .before .before .before .before .before .before .args .g)) (c .before .before .before .before .before .before .before .before .before .before .before .before .before .before .before .before .before .before .before .before .before .before .before .before .before .before .pre .0) (c .before .before .before .before .before .before .before .before .before .before .before .before .before .before .before .before .before .before .before .before .before .before .before .before .before .before .args .map .now) _ _ _ (c .before .before .before .before .before .before .before .before .before .before .before .before .before .before .before .take-range .result) (c .before .before .before .before .before .before .before .before .before .before .before .take-range2 .result) (omega (arith, c .before .before .before .before .before .before .before .before .before .before .before .before .before .before .before .before .before .before .before .before .before .before .before .before .before .before .pre .1, c .before .before .before .before .before .before .before .before .before .before .before .before .before .before .before .before .before .before .before .before .before .before .before .before .before .before .pre .0 .tracksMost)) (c .before .before .before .before .before .before .before .before .before .before .before .before .before .before .before .before .before .before .before .before .before .begin .ensures) (c .before .before .before .before .before .before .before .before .before .before .before .before .before .before .before .take-range .ensures) (c .before .before .before .before .before .before .before .before .before .before .before .take-range2 .ensures)
-    (c .before .before .before .before .before .before .before .before .before .before .before .before .before .before .before .before .before .before .before .before .before .before .before .before .before .before .args .empty .now) _ _ (c .before .before .take-range3 .result) (omega (arith, c .before .before .before .before .before .before .before .before .before .before .before .before .before .before .before .before .before .before .before .before .before .before .before .before .before .before .pre .2, c .before .before .before .before .before .before .before .before .before .before .before .before .before .before .before .before .before .before .before .before .before .before .before .before .before .before .pre .0 .most)) (c .before .before .before .before .before .before .begin2 .ensures) (c .before .before .take-range3 .ensures)
+    maps-begun (geometryOf (c .before .before .before .before .before .before .before .before .before .before .before .before .before .before .before .before .before .before .before .before .before .before .before .before .before .before .args .g)) (c .before .before .before .before .before .before .before .before .before .before .before .before .before .before .before .before .before .before .before .before .before .before .before .before .before .before .pre .0) (c .before .before .before .before .before .before .before .before .before .before .before .before .before .before .before .before .before .before .before .before .before .before .before .before .before .before .args .map .now) _ _ _ (c .before .before .before .before .before .before .before .before .before .before .before .before .before .before .before .take-range .result) (c .before .before .before .before .before .before .before .before .before .before .before .take-range2 .result) (c .before .before .before .before .before .before .before .before .before .before .before .before .before .before .before .before .before .before .before .before .before .free-below .ensures) (c .before .before .before .before .before .before .before .before .before .before .before .before .before .before .before .take-range .ensures) (c .before .before .before .before .before .before .before .before .before .before .before .take-range2 .ensures)
+    (c .before .before .before .before .before .before .before .before .before .before .before .before .before .before .before .before .before .before .before .before .before .before .before .before .before .before .args .empty .now) _ _ (c .before .before .take-range3 .result) (c .before .before .before .before .before .before .free-below2 .ensures) (c .before .before .take-range3 .ensures)
 
 pub begin-maps-spec : {M : Type 1} → statement M
 begin-maps-spec =
     tie.close
     (tie.spec
-    mul-begin
-    cast-begin
-    begin-requires
+    mul-free-below
+    cast-free-below
+    free-below-requires
     cast-start
     cast-end
     add-end
     take-range-requires
     take-range-requires-2
-    mul-begin-2
-    cast-begin-2
-    begin-requires-2
+    mul-free-below-2
+    cast-free-below-2
+    free-below-requires-2
     take-range-requires-3
     same-length
     same-length-2

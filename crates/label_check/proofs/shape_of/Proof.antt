@@ -1,15 +1,15 @@
-use Rattle.label_check.proofs.Laws.{form-wrong, form-few, form-many, third-positive}
-use Rattle.label_check.specs.Label.{goodThird}
-use Rattle.forms.specs.Forms.{geometryOf}
-use native.Mathlib.Omega.{arith}
-use Prim.Native.Nat.{ℕ, zero, suc}
+use mathlib.Core.Path.{_≡_, sym, ap, _∙_}
 use mathlib.Core.Bool.{true, false}
-use mathlib.Core.Path.{_≡_, refl, sym, ap, _∙_, subst}
+use native.Mathlib.Omega.{arith}
+use Rattle.forms.specs.Forms.{geometryOf}
+use Rattle.label_check.specs.Label.{goodThird}
+use Rattle.label_check.proofs.Shape.{one-few}
+use Rattle.label_check.proofs.Laws.{form-wrong, form-few, form-many, third-positive}
 use borrow.Author.Needs.{needs}
-use Rattle.label_check.proofs.form_of.Statement.{statement}
-use Rattle.label_check.proofs.form_of.Tie as tie
-use Rattle.label_check.proofs.form_of.Reads as reads
-use Rattle.label_check.proofs.form_of.Lts as lts
+use Rattle.label_check.proofs.shape_of.Statement.{statement}
+use Rattle.label_check.proofs.shape_of.Tie as tie
+use Rattle.label_check.proofs.shape_of.Reads as reads
+use Rattle.label_check.proofs.shape_of.Lts as lts
 use Rattle.fields.proofs.record_at.Reads as record-at-reads
 use Rattle.fields.proofs.wide.Reads as wide-reads
 use Rattle.forms.proofs.one_ok.Reads as one-ok-reads
@@ -40,25 +40,21 @@ wide-requires c κs = search needs
 cast-n : tie.Need-cast-n
 cast-n c = search needs
 
--- src/lib.rt:77:35
-mul-few-ok : tie.Need-mul-few-ok
-mul-few-ok c = search needs
-
 -- src/lib.rt:77:12
 few-ok-requires : tie.Need-few-ok-requires
 few-ok-requires c κs = search needs
 
 -- src/lib.rt:78:13
 returns-2 : tie.Need-returns-2
-returns-2 c = form-few (geometryOf (c .before .before .before .before .before .before .before .before .before .before .args .g)) (c .before .before .before .before .before .before .before .before .before .before .args .table .now) (c .before .before .before .before .before .before .before .before .before .before .args .k) (c .before .before .before .before .before .before .before .before .record-at .result .now) (c .before .before .before .before .before .before .before .before .record-at .ensures .0) (c .before .before .before .before .wide .result) (sym (c .before .before .before .before .before .before .before .one-ok .ensures) ∙ c .before .before .before .before .before .before .if1 .taken) (c .before .before .before .before .wide .ensures .0) true (c .before .before .before .if2 .taken) (sym (c .before .few-ok .ensures) ∙ c .if3 .taken)
+returns-2 c = form-few (geometryOf (c .before .before .before .before .before .before .before .before .before .args .g)) (c .before .before .before .before .before .before .before .before .before .args .table .now) (c .before .before .before .before .before .before .before .before .before .args .k) (c .before .before .before .before .before .before .before .record-at .result .now) (c .before .before .before .before .before .before .before .record-at .ensures .0) (c .before .before .before .wide .result) (sym (c .before .before .before .before .before .before .one-ok .ensures) ∙ c .before .before .before .before .before .if1 .taken) (c .before .before .before .wide .ensures .0) true (c .before .before .if2 .taken) (sym (c .before .few-ok .ensures) ∙ c .if3 .taken)
 
 -- src/lib.rt:80:9
 returns-3 : tie.Need-returns-3
-returns-3 c = form-few (geometryOf (c .before .before .before .before .before .before .before .before .before .before .args .g)) (c .before .before .before .before .before .before .before .before .before .before .args .table .now) (c .before .before .before .before .before .before .before .before .before .before .args .k) (c .before .before .before .before .before .before .before .before .record-at .result .now) (c .before .before .before .before .before .before .before .before .record-at .ensures .0) (c .before .before .before .before .wide .result) (sym (c .before .before .before .before .before .before .before .one-ok .ensures) ∙ c .before .before .before .before .before .before .if1 .taken) (c .before .before .before .before .wide .ensures .0) false (c .before .before .before .if2 .taken) (sym (c .before .few-ok .ensures) ∙ c .if3 .left)
+returns-3 c = form-few (geometryOf (c .before .before .before .before .before .before .before .before .before .args .g)) (c .before .before .before .before .before .before .before .before .before .args .table .now) (c .before .before .before .before .before .before .before .before .before .args .k) (c .before .before .before .before .before .before .before .record-at .result .now) (c .before .before .before .before .before .before .before .record-at .ensures .0) (c .before .before .before .wide .result) (sym (c .before .before .before .before .before .before .one-ok .ensures) ∙ c .before .before .before .before .before .if1 .taken) (c .before .before .before .wide .ensures .0) false (c .before .before .if2 .taken) (sym (c .before .few-ok .ensures) ∙ c .if3 .left)
 
 -- src/lib.rt:82:9
 third-of-requires : tie.Need-third-of-requires
-third-of-requires c κs = search needs
+third-of-requires c κs = (c .before .before .before .before .before .record-at .ensures .1, omega (arith, c .before .wide .ensures .0, one-few (c .before .before .before .before .before .record-at .result .now) (sym (c .before .before .before .before .one-ok .ensures) ∙ c .before .before .before .if1 .taken)), c .before .before .before .before .before .before .before .pre .1, c .before .before .before .before .before .before .before .pre .2)
 
 -- src/lib.rt:84:9
 returns-4 : tie.Need-returns-4
@@ -72,8 +68,8 @@ returns-5 c =
     let m = form-many (geometryOf (c .before .before .before .before .before .before .before .before .before .args .g)) (c .before .before .before .before .before .before .before .before .before .args .table .now) (c .before .before .before .before .before .before .before .before .before .args .k) (c .before .before .before .before .before .before .before .record-at .result .now) (c .before .before .before .before .before .before .before .record-at .ensures .0) (c .before .before .before .wide .result) (sym (c .before .before .before .before .before .before .one-ok .ensures) ∙ c .before .before .before .before .before .if1 .taken) (c .before .before .before .wide .ensures .0) (c .before .third-of .result) (c .before .before .if2 .left) (c .before .third-of .ensures) in
     third-positive (c .before .third-of .result) (c .if4 .left) ∙ m
 
-pub form-of-spec : {M : Type 1} → statement M
-form-of-spec =
+pub shape-of-spec : {M : Type 1} → statement M
+shape-of-spec =
     tie.close
     (tie.spec
     record-at-requires
@@ -82,7 +78,6 @@ form-of-spec =
     shared-slice-read-wide
     wide-requires
     cast-n
-    mul-few-ok
     few-ok-requires
     returns-2
     returns-3

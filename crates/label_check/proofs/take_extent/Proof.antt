@@ -1,0 +1,81 @@
+use mathlib.Core.Path.{_≡_, sym, _∙_}
+use native.Mathlib.Omega.{arith}
+use Rattle.model.specs.Model.{tracks}
+use Rattle.forms.specs.Forms.{geometryOf}
+use Rattle.label_check.proofs.Taking.{ten-bad, ten-order, ten-taken}
+use borrow.Author.Needs.{needs}
+use Rattle.label_check.proofs.take_extent.Statement.{statement}
+use Rattle.label_check.proofs.take_extent.Tie as tie
+use Rattle.label_check.proofs.take_extent.Reads as reads
+use Rattle.label_check.proofs.take_extent.Lts as lts
+use Rattle.fields.proofs.good_ten.Reads as good-ten-reads
+use Rattle.fields.proofs.track_at.Reads as track-at-reads
+use Rattle.tracks.proofs.take_range.Reads as take-range-reads
+
+-- src/lib.rt:96:28
+cast-good-ten : tie.Need-cast-good-ten
+cast-good-ten c = search needs
+
+-- src/lib.rt:96:41
+mul-good-ten : tie.Need-mul-good-ten
+mul-good-ten c = search needs
+
+-- src/lib.rt:96:8
+good-ten-requires : tie.Need-good-ten-requires
+good-ten-requires c κs = search needs
+
+-- src/lib.rt:97:9
+returns : tie.Need-returns
+returns c = ten-bad (geometryOf (c .before .before .before .before .before .args .g)) (c .before .before .before .before .before .args .e) (c .before .before .before .before .before .args .x .now) (c .before .before .before .before .before .args .map .now) (sym (c .before .good-ten .ensures) ∙ c .if1 .left)
+
+-- src/lib.rt:99:17
+track-at-requires : tie.Need-track-at-requires
+track-at-requires c κs = search needs
+
+-- src/lib.rt:99:17
+cast-first : tie.Need-cast-first
+cast-first c = search needs
+
+-- src/lib.rt:100:16
+track-at-requires-2 : tie.Need-track-at-requires-2
+track-at-requires-2 c κs = search needs
+
+-- src/lib.rt:100:16
+cast-last : tie.Need-cast-last
+cast-last c = search needs
+
+-- src/lib.rt:101:15
+add-end : tie.Need-add-end
+add-end c = search needs
+
+-- src/lib.rt:102:5
+take-range-requires : tie.Need-take-range-requires
+take-range-requires c κs =
+    let o = ten-order (c .before .before .before .before .before .before .before .before .args .g .heads) (tracks (geometryOf (c .before .before .before .before .before .before .before .before .args .g))) (c .before .before .before .before .before .before .before .before .args .e) (c .before .before .before .before .before .before .before .before .args .x .now) (sym (c .before .before .before .before .good-ten .ensures) ∙ c .before .before .before .if1 .taken) in
+    (omega (arith, o .0, c .before .before .track-at .ensures .0, c .before .track-at2 .ensures .0), omega (arith, o .1, c .before .track-at2 .ensures .0, c .before .before .before .before .before .before .before .before .pre .3))
+
+-- src/lib.rt:91:1
+same-length : tie.Need-same-length
+same-length c = search needs
+
+-- src/lib.rt:91:1
+returns-2 : tie.Need-returns-2
+returns-2 c =
+    ten-taken (geometryOf (c .before .before .before .before .before .before .before .before .before .before .before .args .g)) (c .before .before .before .before .before .before .before .before .before .before .before .args .e) (c .before .before .before .before .before .before .before .before .before .before .before .args .x .now) (c .before .before .before .before .before .before .before .before .before .before .before .args .map .now) _ (c .before .before .take-range .result) (c .before .before .before .before .before .track-at .result) (c .before .before .before .before .track-at2 .result) (c .before .before .before .before .before .track-at .ensures .0) (c .before .before .before .before .track-at2 .ensures .0) (sym (c .before .before .before .before .before .before .before .good-ten .ensures) ∙ c .before .before .before .before .before .before .if1 .taken) (c .before .before .take-range .ensures)
+
+pub take-extent-spec : {M : Type 1} → statement M
+take-extent-spec =
+    tie.close
+    (tie.spec
+    cast-good-ten
+    mul-good-ten
+    good-ten-requires
+    returns
+    track-at-requires
+    cast-first
+    track-at-requires-2
+    cast-last
+    add-end
+    take-range-requires
+    same-length
+    returns-2)
