@@ -2,20 +2,19 @@
 use mathlib.Core.Path.{_≡_, refl, sym, ap, ap₂, _∙_}
 use mathlib.Core.Bool.{Bool, true, false, _&&_}
 use mathlib.Core.List.{List, [], _∷_}
-use Prim.Native.Nat.{ℕ, zero, suc, _+_, _-_, _*_, _/_, _%_, _≤_, _<_, max, min}
+use Prim.Native.Nat.{ℕ, zero, suc, _+_, _-_, _/_, _%_, _≤_, _<_, max, min}
 use native.Mathlib.Nat.{div-le-self, mod-le, zero-div, zero-mod}
 use mathlib.Core.Logic.{⊎-elim}
 use native.Mathlib.Omega.{arith}
-use lib.Dec.{T, eqb}
-use lib.ListN.{getD, length}
+use lib.Dec.{eqb}
+use lib.ListN.{length}
 use Rattle.model.specs.Basics.{get2, sumOf}
-use Rattle.model.specs.Model.{Geometry, Run, Volume, format0s, free, run, slots, tracks}
+use Rattle.model.specs.Model.{Geometry, Run, Volume, format0s, free, slots, tracks}
 use Rattle.model.proofs.Lists.{All}
 use Rattle.rules.specs.Calls.{answer, longest, lspace, numbers, rule, spaceNumbers}
 use Rattle.rules.specs.Entries.{lent, perform, result, written}
-use Rattle.rules.specs.Layout.{encode, format4, highest}
+use Rattle.rules.specs.Layout.{format4, highest}
 use Rattle.rules.specs.Reading.{read}
-use Rattle.rules.specs.Table.{taken}
 use Rattle.rules.proofs.Bytes.{be2-back}
 use Rattle.tracks.specs.Map.{NextRun, freeFrom}
 use Rattle.tracks.proofs.Bits.{le-or-lt}

@@ -1,9 +1,9 @@
 -- The lookup in a taken table finds the slot of the data set that the rules find. Assumes nothing.
-use mathlib.Core.Path.{_≡_, refl, sym, ap, ap₂, _∙_}
+use mathlib.Core.Path.{_≡_, refl, sym, ap, ap₂, _∙_, subst}
 use mathlib.Core.Bool.{Bool, true, false, cond, _&&_}
 use mathlib.Core.Option.{Option, none, some}
 use mathlib.Core.List.{List, [], _∷_}
-use Prim.Native.Nat.{ℕ, suc, _+_, _/_, _<_}
+use Prim.Native.Nat.{ℕ, suc, _+_, _*_, _/_, _<_}
 use native.Mathlib.Nat.{add-zero, zero-add}
 use native.Mathlib.Omega.{arith}
 use lib.Dec.{T}
@@ -16,11 +16,12 @@ use Rattle.model.proofs.Lists.{by}
 use Rattle.rules.specs.Reading.{chop, read, readLabel, readLabels, readRecords}
 use Rattle.rules.specs.Slots.{found}
 use Rattle.rules.specs.Table.{named, taken}
+use Rattle.rules.proofs.Valid.{Limits}
 use Rattle.fields.specs.Records.{slotBytes}
 use Rattle.fields.proofs.Slots.{chop-slot, length-chop}
 use Rattle.names.specs.Find.{findSlot, firstNamed, isLabel, isNamed, nameOf}
 use Rattle.opening.specs.Opening.{foundSlot}
-use Rattle.opening.proofs.Laws.{ready}
+use Rattle.opening.proofs.Laws.{LabelIn, found-label, ready}
 
 module _ (g : Geometry) (R : List (List ℕ)) (name : List ℕ) where
   -- a record that is no label, one that has another name, and one that has this
@@ -62,3 +63,36 @@ found-none v name e = go (found v name) e
     go : (o : Option Label) → foundSlot o ≡ Nothing → o ≡ none
     go none q = refl
     go (some l) q = absurd (let z : _≡_ {A = ℕ} 0 1 = cc in omega arith)
+
+-- ---- as a call has it: the geometry read from the table, and the answer of the lookup
+
+-- the data set found in slot k, with its records in the table t of the volume v
+pub record FoundAt (t : List ℕ) (v : Volume) (name : List ℕ) (k : ℕ) : Type 0 where
+  pub label : Label
+  pub same : found v name ≡ some label
+  pub slot : label .slot ≡ k
+  pub records : LabelIn t (v .geometry) name label
+
+module _ (t : List ℕ) (x : T (taken t)) (g : Geometry) (e : g ≡ read t .geometry) where
+  pub limits-of : Limits g
+  limits-of = subst Limits (sym e) (ready t x .limits)
+
+  slots-of : slots g ≡ slots (read t .geometry)
+  slots-of = ap slots e
+
+  pub table-long : length t ≡ 140 * slots g
+  table-long = let l = ready t x .long in let s = slots-of in omega arith
+
+  pub looked-up : (name : List ℕ) → findSlot t name (slots g) ≡ foundSlot (found (read t) name)
+  looked-up name = ap (λ (n : ℕ). findSlot t name n) slots-of ∙ lookup t x name
+
+  pub not-there : (name : List ℕ) → Nothing ≡ findSlot t name (slots g) → found (read t) name ≡ none
+  not-there name n = found-none (read t) name (sym (looked-up name) ∙ sym n)
+
+  pub there : (name : List ℕ) (k : ℕ) → Slot k ≡ findSlot t name (slots g) → FoundAt t (read t) name k
+  there name k n =
+      let f = found-slot (read t) name k (sym (looked-up name) ∙ sym n) in
+      record { label = f .0; same = f .1; slot = f .2; records = found-label t (read t) (ready t x) name (f .0) (f .1) }
+
+  pub there-inside : (name : List ℕ) (k : ℕ) → Slot k ≡ findSlot t name (slots g) → k < slots g
+  there-inside name k n = let y = there name k n in let s = slots-of in let a = y .slot in let b = y .records .inside in omega arith

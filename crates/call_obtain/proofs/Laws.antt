@@ -1,0 +1,114 @@
+-- Obtain's 280 bytes, and the call as a whole. Assumes nothing.
+use mathlib.Core.Path.{_≡_, refl, sym, ap, ap₂, _∙_}
+use mathlib.Core.Bool.{Bool, true, false, cond, _&&_}
+use mathlib.Core.List.{List, _++_, append-nil}
+use Prim.Native.Nat.{ℕ, zero, suc, _≤_}
+use native.Mathlib.Omega.{arith}
+use borrow.Author.Tests.{eq-eqb, ne-eqb}
+use lib.Dec.{T, eqb, eqb→eq}
+use lib.ListN.{drop, drop-of-length-le, length, length-append, length-drop}
+use lib.Seq.{take-at}
+use Rattle.names.specs.declared.Found.the-variants.{Nothing, Slot}
+use Rattle.model.specs.Basics.{zeros}
+use Rattle.model.specs.Model.{Geometry, Label, slots}
+use Rattle.model.proofs.Lists.{and-l, and-r, true-is}
+use Rattle.rules.specs.Calls.{obtain, obtain₁, refuse, rule}
+use Rattle.rules.specs.Entries.{lent, perform, result, written}
+use Rattle.rules.specs.Layout.{format1, format3}
+use Rattle.rules.specs.Reading.{read}
+use Rattle.rules.specs.Slots.{found}
+use Rattle.rules.specs.Table.{goodName, taken}
+use Rattle.rules.proofs.Valid.{Limits}
+use Rattle.fields.specs.Records.{putRecord, slotBytes}
+use Rattle.names.specs.Find.{findSlot}
+use Rattle.label_check.specs.Label.{namedThird}
+use Rattle.opening.specs.Opening.{openNumber}
+use Rattle.opening.proofs.Laws.{LabelIn, ready, third-is}
+use Rattle.opening.proofs.Lookup.{not-there, there}
+use Rattle.opening.proofs.Numbers.{opened-good, opened-taken, passed, refused}
+use Rattle.call_obtain.specs.Third.{orZeros}
+
+-- ---- the bytes
+
+pub no-third : (t : List ℕ) (q : ℕ) → q ≡ 0 → zeros 140 ≡ orZeros t q
+unfolding orZeros
+no-third t q e = rw (eq-eqb q 0 e)
+
+pub some-third : (t : List ℕ) (q : ℕ) → (q ≡ 0 → ⊥) → slotBytes t q ≡ orZeros t q
+unfolding orZeros
+some-third t q e = rw (ne-eqb q 0 e)
+
+-- two records fill 280 bytes
+pub two-records : (o a b : List ℕ) → length o ≡ 280 → length a ≡ 140 → length b ≡ 140 → putRecord (putRecord o 0 a) 1 b ≡ a ++ b
+unfolding putRecord
+two-records o a b l la lb =
+    let rest = drop 140 o in
+    let n : length (a ++ rest) ≡ 280 = length-append a rest ∙ omega (arith, length-drop 140 o) in
+    ap₂ (λ (x y : List ℕ). x ++ (b ++ y)) (take-at a rest 140 la) (drop-of-length-le (a ++ rest) {i = 280} (omega arith)) ∙ ap (λ (x : List ℕ). a ++ x) (append-nil b)
+
+-- as they are copied: the format 1 in slot k, and what slot q holds, which it names
+pub two-filled : (g : Geometry) (t : List ℕ) (k : ℕ) (o rec o₁ a b : List ℕ) (q : ℕ) → length o ≡ 280 → length a ≡ 140 → length b ≡ 140 → rec ≡ slotBytes t k → a ≡ rec → q ≡ namedThird g rec
+    → b ≡ orZeros t q → o₁ ≡ putRecord o 0 a → putRecord o₁ 1 b ≡ slotBytes t k ++ orZeros t (namedThird g (slotBytes t k))
+two-filled g t k o rec o₁ a b q lo la lb er ea eq eb eo =
+    ap (λ (x : List ℕ). putRecord x 1 b) eo
+    ∙ two-records o a b lo la lb
+    ∙ ap₂ (λ (x y : List ℕ). x ++ y) (ea ∙ er) (eb ∙ ap (orZeros t) (eq ∙ ap (λ (x : List ℕ). namedThird g x) er))
+
+label-bytes : (t : List ℕ) (g : Geometry) (n : List ℕ) (l : Label) → Limits g → LabelIn t g n l
+    → slotBytes t (l .slot) ++ orZeros t (namedThird g (slotBytes t (l .slot))) ≡ format1 g l ++ cond (eqb (l .slot3) 0) (zeros 140) (format3 g l)
+unfolding orZeros
+label-bytes t g n l lim x =
+    ap₂ (λ (a b : List ℕ). a ++ b) (x .one) (ap (λ (q : ℕ). cond (eqb q 0) (zeros 140) (slotBytes t q)) (third-is t g n l lim x) ∙ go (l .slot3) (x .three))
+  where
+    go : (q : ℕ) → (1 ≤ q → slotBytes t q ≡ format3 g l) → cond (eqb q 0) (zeros 140) (slotBytes t q) ≡ cond (eqb q 0) (zeros 140) (format3 g l)
+    go zero h = refl
+    go (suc q) h = rw (ne-eqb (suc q) 0 (λ e. absurd (omega arith))) (h (omega arith))
+
+-- ---- the call
+
+module _ (t name l a : List ℕ) (ok : Bool) (r : ℕ) (long : ok ≡ (eqb (length a) 24 && (eqb (length name) 44 && eqb (length l) 280))) (number : r ≡ openNumber t ok) where
+  pub not-opened : (r ≡ 0 → ⊥) → result r (lent t a l) ≡ perform (lent t a l) (obtain name)
+  not-opened n = refused (lent t a l) (obtain name) ok r long number n
+
+  module _ (z : r ≡ 0) where
+    ruled : written (lent t a l) (rule (read t) (obtain name)) ≡ perform (lent t a l) (obtain name)
+    ruled = passed (lent t a l) (obtain name) ok r long number z
+
+    all-long : T (eqb (length a) 24 && (eqb (length name) 44 && eqb (length l) 280))
+    all-long = true-is (sym long ∙ opened-good t ok (sym z ∙ number))
+
+    pub answer-long : length a ≡ 24
+    answer-long = eqb→eq (length a) 24 (and-l (eqb (length a) 24) _ all-long)
+
+    pub labels-long : length l ≡ 280
+    labels-long = eqb→eq (length l) 280 (and-r (eqb (length name) 44) _ (and-r (eqb (length a) 24) _ all-long))
+
+    refused-4 : goodName name ≡ false → rule (read t) (obtain name) ≡ refuse 4
+    unfolding rule
+    refused-4 h = rw h
+
+    pub bad-name : goodName name ≡ false → result 4 (lent t a l) ≡ perform (lent t a l) (obtain name)
+    bad-name h = sym (ap (written (lent t a l)) (refused-4 h)) ∙ ruled
+
+    pub is-taken : T (taken t)
+    is-taken = opened-taken t ok (sym z ∙ number)
+
+    module _ (h : goodName name ≡ true) (g : Geometry) (eg : g ≡ read t .geometry) where
+      rule-is : rule (read t) (obtain name) ≡ obtain₁ (read t) (found (read t) name)
+      unfolding rule
+      rule-is = rw h
+
+      pub not-found : Nothing ≡ findSlot t name (slots g) → result 5 (lent t a l) ≡ perform (lent t a l) (obtain name)
+      not-found e = sym (ap (written (lent t a l)) (rule-is ∙ ap (obtain₁ (read t)) (not-there t is-taken g eg name e))) ∙ ruled
+
+      pub obtained : (k : ℕ) (l′ a′ : List ℕ) → Slot k ≡ findSlot t name (slots g) → l′ ≡ slotBytes t k ++ orZeros t (namedThird g (slotBytes t k)) → a′ ≡ zeros 24
+          → result 0 (lent t a′ l′) ≡ perform (lent t a l) (obtain name)
+      obtained k l′ a′ e el ea =
+          let x = ready t is-taken in
+          let f = there t is-taken g eg name k e in
+          let m = f .label in
+          let q : l′ ≡ format1 (read t .geometry) m ++ cond (eqb (m .slot3) 0) (zeros 140) (format3 (read t .geometry) m)
+          = el ∙ ap₂ (λ (i : ℕ) (u : Geometry). slotBytes t i ++ orZeros t (namedThird u (slotBytes t i))) (sym (f .slot)) eg ∙ label-bytes t (read t .geometry) name m (x .limits) (f .records) in
+          (λ i. result 0 (lent (x .bytes i) (ea i) (q i)))
+          ∙ sym (ap (written (lent t a l)) (rule-is ∙ ap (obtain₁ (read t)) (f .same)))
+          ∙ ruled

@@ -1,0 +1,59 @@
+// Obtain: the label records of a data set.
+use forms::Geometry;
+use names::Found;
+ghost use mathlib.Core.Path.{_≡_};
+ghost use mathlib.Core.List.{_++_};
+ghost use Prim.Native.Nat.{_+_, _*_, _≤_, _<_};
+ghost use lib.ListN.{length};
+ghost use Rattle.model.specs.Model.{slots};
+ghost use Rattle.rules.specs.Contracts.{Obtains};
+ghost use Rattle.rules.proofs.Valid.{Limits};
+ghost use Rattle.fields.specs.Records.{slotBytes};
+ghost use Rattle.forms.specs.Forms.{geometryOf};
+ghost use Rattle.label_check.specs.Label.{namedThird};
+ghost use Rattle.call_obtain.specs.Third.{orZeros};
+
+// The record in slot q, or zeros where q is 0.
+fn record_or_zeros(table: &[u8], q: usize) -> [u8; 140]
+    requires { ⌜ 140 * q + 140 ≤ length (now table) ⌝ }
+    ensures { λ r. ⌜ r ≡ orZeros (now (table .entry)) q ⌝ }
+{
+    if q == 0 {
+        return [0u8; 140];
+    }
+    records::record_of(fields::record_at(table, q))
+}
+
+// Fills 280 bytes: the format 1 in slot k, then its format 3 or zeros.
+fn put_labels(table: &[u8], g: Geometry, k: usize, out: &mut [u8])
+    requires { ⌜ Limits (geometryOf g) × (length (now table) ≡ 140 * slots (geometryOf g)) × (k < slots (geometryOf g)) × (length (now out) ≡ 280) ⌝ }
+    ensures { λ _. ⌜ now (out .exit) ≡ slotBytes (now (table .entry)) k ++ orZeros (now (table .entry)) (namedThird (geometryOf g) (slotBytes (now (table .entry)) k)) ⌝ }
+{
+    let one = fields::record_at(table, k);
+    let copied = records::record_of(one);
+    let three = record_or_zeros(table, opening::third(one, g));
+    fields::put_record(out, 0, &copied);
+    fields::put_record(out, 1, &three);
+}
+
+pub fn obtain(table: &[u8], name: &[u8], labels: &mut [u8], answer: &mut [u8]) -> u32
+    ensures { λ r. ⌜ Obtains (now (table .entry)) (now (name .entry)) (now (labels .entry)) (now (answer .entry)) r (now (labels .exit)) (now (answer .exit)) ⌝ }
+{
+    let mut map = [0u64; 1024];
+    let mut empty = [0u64; 8];
+    let lengths = opening::and_another(answer.len(), name.len(), labels.len(), 280);
+    let r = opening::open(table, lengths, &mut map, &mut empty);
+    if r != 0 {
+        return r;
+    }
+    if fields::name_ok(name) {} else {
+        return 4;
+    }
+    let g = opening::geometry(table);
+    let Found::Slot(k) = names::find(table, (g.tracks * g.records) as usize, name) else {
+        return 5;
+    };
+    put_labels(table, g, k, labels);
+    answers::put_nothing(answer);
+    0
+}
