@@ -41,7 +41,7 @@ third-kept : (b : Bool) (q k : ℕ) → (b ≡ true → q ≡ 0) → tally k (on
 third-kept true q k h = rw (h refl)
 third-kept false q k h = refl
 
-module _ (g : Geometry) (t m s : List ℕ) (slot third n kind : ℕ) (one three : List ℕ) (rows : List (List ℕ)) (count sum : ℕ)
+module _ {g : Geometry} {t m s : List ℕ} {slot third n kind : ℕ} {one three : List ℕ} {rows : List (List ℕ)} {count sum : ℕ}
     (d : Grants g t m s slot third n kind one three rows count sum) where
   abbrev v : Volume
   v = d .volume
