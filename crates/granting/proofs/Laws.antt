@@ -25,7 +25,7 @@ use Rattle.set_change.specs.Change.{InRecords, Piece, TookPieces}
 use Rattle.set_change.specs.Change.{granted as more}
 use Rattle.set_change.proofs.Laws.{pieces-good}
 use Rattle.settling.proofs.Chains.{chain-short}
-use Rattle.commit.specs.Commit.{Becomes, Draft}
+use Rattle.commit.specs.Commit.{Becomes, Committed, Draft}
 use Rattle.commit.proofs.Put.{free-of}
 use Rattle.commit.proofs.Sets.{slots-shown}
 use Rattle.granting.specs.Granting.{Granted, Grants}
@@ -152,16 +152,20 @@ module _ {g : Geometry} {t m s : List ℕ} {slot third n kind : ℕ} {one three 
           valid = d .valid;
         }
 
-  -- ---- what is left
+    -- ---- what is left
 
-  module _ (t′ : List ℕ) (r : Bool) (b : Becomes (settleWith v (d .others) L) t t′ r) (a : List ℕ) where
-    pub full : r ≡ false → Granted d a t′ a 11
-    full e =
-        ap (λ (x : List ℕ). result 11 (lent x a [])) (b .same e)
-        ∙ sym (ap (λ (o : Option Volume). written (lent t a []) (settled (granted (d .pieces)) o)) (b .full e))
+    module _ (t′ : List ℕ) (r : Bool) (committed : Committed draft t′ r) (a : List ℕ) where
+      b : Becomes (settleWith v (d .others) L) t t′ r
+      unfolding draft
+      b = committed
 
-    pub done : r ≡ true → (a′ : List ℕ) → ((ps : List Run) → length ps ≡ count → total ps ≡ sum → rows ≡ map row ps → a′ ≡ answer (granted ps)) → Granted d a t′ a′ 0
-    done e a′ put =
-        let w = b .done e in
-        ap₂ (λ (x y : List ℕ). result 0 (lent x y [])) (w .2) (put (d .pieces) (d .countIs) (d .sumIs) (d .rowsAre))
-        ∙ sym (ap (λ (o : Option Volume). written (lent t a []) (settled (granted (d .pieces)) o)) (w .1))
+      pub full : r ≡ false → Granted d a t′ a 11
+      full e =
+          ap (λ (x : List ℕ). result 11 (lent x a [])) (b .same e)
+          ∙ sym (ap (λ (o : Option Volume). written (lent t a []) (settled (granted (d .pieces)) o)) (b .full e))
+
+      pub done : r ≡ true → (a′ : List ℕ) → ((ps : List Run) → length ps ≡ count → total ps ≡ sum → rows ≡ map row ps → a′ ≡ answer (granted ps)) → Granted d a t′ a′ 0
+      done e a′ put =
+          let w = b .done e in
+          ap₂ (λ (x y : List ℕ). result 0 (lent x y [])) (w .2) (put (d .pieces) (d .countIs) (d .sumIs) (d .rowsAre))
+          ∙ sym (ap (λ (o : Option Volume). written (lent t a []) (settled (granted (d .pieces)) o)) (w .1))
