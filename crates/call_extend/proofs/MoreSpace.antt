@@ -10,7 +10,7 @@ use lib.Dec.{T, eqb, leb}
 use lib.ListN.{length, take, getD, length-map}
 use Rattle.model.specs.Basics.{get3, upFrom}
 use Rattle.model.specs.Model.{Extent, Geometry, Label, Run, Volume, extent, held, overs, runsOf, slots, times, tracks}
-use Rattle.rules.specs.Calls.{Amount, extend, extend₁, extend₂, granted, inCylinders, inTracks, secondaryOf, settled}
+use Rattle.rules.specs.Calls.{Amount, extend, extend₁, extend₂, granted, inCylinders, inTracks, refuse, secondaryOf, settled}
 use Rattle.rules.specs.Calls.{grant as granting}
 use Rattle.rules.specs.Entries.{lent, result, written}
 use Rattle.rules.specs.Layout.{format1, format3}
@@ -158,15 +158,18 @@ module _ {t m s a : List ℕ} {g : Geometry} {k : ℕ} (d : Longer t m s a g k) 
             together : length (l .extents) + length new ≡ count + n
             together = let a = length-map (got .ps) (extent (typeOf q)) in let b = got .number in let c = it .many in omega arith
 
+            rule-10 : 16 < count + n → extend₂ v name l (some new) ≡ refuse 10
+            rule-10 u =
+                let e : leb (length (l .extents) + length new) 16 ≡ false = lt-leb (length (l .extents) + length new) 16 (let w = together in omega arith) in
+                rw e
+
             pub too-many : 16 < count + n → Extended d 10 t a
-            too-many u =
-                let e : leb (length (l .extents) + length new) 16 ≡ false = lt-leb _ 16 (let w = together in omega arith) in
-                sym (ap (written (lent t a [])) (rule-is ∙ ap (extend₂ v name l) (got .granted) ∙ rw e))
+            too-many u = sym (ap (written (lent t a [])) (rule-is ∙ ap (extend₂ v name l) (got .granted) ∙ rule-10 u))
 
             module _ (fits : count + n ≤ 16) where
               rule-done : extend₁ v name (some l) ≡ settled (granted (overs new)) (settleWith v others (withExtents (l .extents ++ new) (l .ttr) l))
               rule-done =
-                  let e : leb (length (l .extents) + length new) 16 ≡ true = le-leb _ 16 (let w = together in omega arith) in
+                  let e : leb (length (l .extents) + length new) 16 ≡ true = le-leb (length (l .extents) + length new) 16 (let w = together in omega arith) in
                   rule-is ∙ ap (extend₂ v name l) (got .granted) ∙ rw e
 
               new-valid : (w : Volume) → settleWith v others (withExtents (l .extents ++ new) (l .ttr) l) ≡ some w → Valid w

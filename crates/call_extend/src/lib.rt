@@ -22,6 +22,7 @@ fn lengthen(
 {
     let held = set_at::set_at(table, g, k);
     let one = held.one;
+    let three = held.three;
     let secondary = fields::three(&one, 95); // DS1SCALO
     if secondary == 0 {
         return 8;
@@ -41,7 +42,7 @@ fn lengthen(
         third: held.third,
         extents: held.count,
     };
-    let recs = Records { one, three: held.three };
+    let recs = Records { one, three };
     granting::put_grant(table, g, map, empty, set, recs, kind, pieces, chosen, answer)
 }
 
