@@ -1,7 +1,7 @@
 -- A data set that is to give tracks back, in the words of the rules. Assumes nothing.
 use mathlib.Core.Path.{_≡_, refl, sym, ap, _∙_, subst}
 use mathlib.Core.List.{List, _∷_}
-use Prim.Native.Nat.{ℕ, zero, suc, _+_, _≤_, _<_}
+use Prim.Native.Nat.{ℕ, zero, suc, _+_, _*_, _≤_, _<_}
 use native.Mathlib.Omega.{arith}
 use lib.ListN.{length}
 use Rattle.model.specs.Basics.{sumOf}
@@ -69,3 +69,18 @@ module _ (g : Geometry) (t m s : List ℕ) (k : ℕ) (d : At g t m s k) where
 
   pub members-few : length (v .chain) ≤ 468
   members-few = let a = chain-short _ v (d .ready .sound) in let b = d .ready .limits .most in omega arith
+
+  -- what `put_set` and `drop_set` ask of lengths and numbers
+  pub fits : length s ≡ 8 → tracks g ≤ 64 * length m → (one three : List ℕ) (count third all was : ℕ) → Measures g v l one three count third all was
+      → (m′ s′ : List ℕ) → length m′ ≡ length m → length s′ ≡ length s
+      → Limits g × (length t ≡ 140 * slots g) × (tracks g ≤ 64 * length m′) × (length s′ ≡ 8) × (was ≤ 468) × (k < slots g) × (third < slots g)
+  fits e w one three count third all was x m′ s′ n o =
+      let a = ap slots (d .geometryIs) in
+      let b = d .ready .long in
+      let c = d .it .records .inside in
+      let f = d .it .slot in
+      let p = third-small in
+      let q = x .known .slot3 in
+      let r = members-few in
+      let u = x .members in
+      (subst Limits (sym (d .geometryIs)) (d .ready .limits), omega arith, omega arith, o ∙ e, omega arith, omega arith, omega arith)
