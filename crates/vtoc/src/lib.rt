@@ -1,0 +1,106 @@
+// The eight calls for hosts in C (include/vtoc.h). A slice is a pointer and a length; the result is 0 or the number of the
+// refusal. No call asks anything of its arguments. What each ensures is one equation of rules/specs/Contracts.antt: the
+// result and every lent byte afterwards are those that `initialise`, or `perform` with the call, gives for the lent bytes
+// and numbers before. It leaves nothing free. Where the result is not 0, these definitions leave every lent byte as it was.
+ghost use Rattle.rules.specs.Contracts.{Allocates, Extends, Initialises, Inquires, Obtains, Releases, Renames, Scratches};
+
+// Initialises a volume of c cylinders with h tracks each, and a VTOC of v tracks from track s on with d records a track. The
+// result is that of `initialise`: 1 geometry, 2 length. The table is then `encode (fresh g)`, a volume with no data set, and
+// the answer 24 zeros.
+#[no_mangle]
+pub extern "C" fn vtoc_initialise(
+    table: &mut [u8],
+    c: u32,
+    h: u32,
+    d: u32,
+    s: u32,
+    v: u32,
+    answer: &mut [u8],
+) -> u32
+    ensures { λ r. ⌜ Initialises (now (table .entry)) c h d s v (now (answer .entry)) r (now (table .exit)) (now (answer .exit)) ⌝ }
+{
+    call_initialise::initialise(table, c, h, d, s, v, answer)
+}
+
+// Allocates tracks to a new data set. The refusals, in the order of `perform` and `allocate₁`: 2 length, 3 VTOC unsound,
+// 4 name, 7 amount, 6 duplicate, 9 no space, 11 VTOC full. The pieces are those of `grant`, the table that of the volume
+// which `settleWith` leaves, the answer `answer (granted pieces)`.
+#[no_mangle]
+pub extern "C" fn vtoc_allocate(
+    table: &mut [u8],
+    name: &[u8],
+    attributes: &[u8],
+    kind: u32,
+    start: u32,
+    amount: u32,
+    secondary: u32,
+    answer: &mut [u8],
+) -> u32
+    ensures { λ r. ⌜ Allocates (now (table .entry)) (now (name .entry)) (now (attributes .entry)) kind start amount secondary (now (answer .entry)) r (now (table .exit)) (now (answer .exit)) ⌝ }
+{
+    call_allocate::allocate(table, name, attributes, kind, start, amount, secondary, answer)
+}
+
+// Extends a data set by its secondary amount. The refusals, in the order of `perform` and `extend₁`: 2, 3, 4, 5 not found,
+// 8 no secondary, 9 no space, 10 extents, 11 VTOC full. Pieces, table and answer as for allocate.
+#[no_mangle]
+pub extern "C" fn vtoc_extend(table: &mut [u8], name: &[u8], answer: &mut [u8]) -> u32
+    ensures { λ r. ⌜ Extends (now (table .entry)) (now (name .entry)) (now (answer .entry)) r (now (table .exit)) (now (answer .exit)) ⌝ }
+{
+    call_extend::extend(table, name, answer)
+}
+
+// Releases the tracks behind the last block, ttr. The refusals, in the order of `perform` and `release₁`: 2, 3, 4, 5 not
+// found, 12 TTR, 11 VTOC full. The extents are those that `keep` leaves, the answer `answer (givenBack n)`.
+#[no_mangle]
+pub extern "C" fn vtoc_release(table: &mut [u8], name: &[u8], ttr: u32, answer: &mut [u8]) -> u32
+    ensures { λ r. ⌜ Releases (now (table .entry)) (now (name .entry)) ttr (now (answer .entry)) r (now (table .exit)) (now (answer .exit)) ⌝ }
+{
+    call_release::release(table, name, ttr, answer)
+}
+
+// Scratches a data set. The refusals, in the order of `perform` and `scratch₁`: 2, 3, 4, 5 not found. The table is that of the
+// volume without the set, the answer `answer (givenBack n)`, n being all its tracks.
+#[no_mangle]
+pub extern "C" fn vtoc_scratch(table: &mut [u8], name: &[u8], answer: &mut [u8]) -> u32
+    ensures { λ r. ⌜ Scratches (now (table .entry)) (now (name .entry)) (now (answer .entry)) r (now (table .exit)) (now (answer .exit)) ⌝ }
+{
+    call_scratch::scratch(table, name, answer)
+}
+
+// Renames a data set. The refusals, in the order of `perform` and `rename₁`: 2, 3, 4 (either name), 5 not found (the old one),
+// 6 duplicate. The 44 name bytes are the new name's; the answer is 24 zeros.
+#[no_mangle]
+pub extern "C" fn vtoc_rename(
+    table: &mut [u8],
+    old: &[u8],
+    new: &[u8],
+    answer: &mut [u8],
+) -> u32
+    ensures { λ r. ⌜ Renames (now (table .entry)) (now (old .entry)) (now (new .entry)) (now (answer .entry)) r (now (table .exit)) (now (answer .exit)) ⌝ }
+{
+    call_rename::rename(table, old, new, answer)
+}
+
+// Obtains the labels of a data set: format 1, then format 3 or zeros. The refusals, in the order of `perform` and `obtain₁`:
+// 2, 3, 4, 5 not found. The answer is 24 zeros; the table is only read.
+#[no_mangle]
+pub extern "C" fn vtoc_obtain(
+    table: &[u8],
+    name: &[u8],
+    labels: &mut [u8],
+    answer: &mut [u8],
+) -> u32
+    ensures { λ r. ⌜ Obtains (now (table .entry)) (now (name .entry)) (now (labels .entry)) (now (answer .entry)) r (now (labels .exit)) (now (answer .exit)) ⌝ }
+{
+    call_obtain::obtain(table, name, labels, answer)
+}
+
+// Inquires about free space (LSPACE). The refusals, in the order of `perform`: 2, 3. The answer has the six numbers of
+// `spaceNumbers`; the table is only read.
+#[no_mangle]
+pub extern "C" fn vtoc_lspace(table: &[u8], answer: &mut [u8]) -> u32
+    ensures { λ r. ⌜ Inquires (now (table .entry)) (now (answer .entry)) r (now (answer .exit)) ⌝ }
+{
+    call_lspace::lspace(table, answer)
+}
