@@ -18,14 +18,10 @@ use Rattle.rules.specs.Table.{goodName, named, taken}
 use Rattle.names.specs.Find.{findSlot, isNothing}
 use Rattle.table_check.specs.Check.{Shown}
 use Rattle.opening.specs.Opening.{foundSlot, openNumber}
-use Rattle.opening.proofs.Lookup.{looked-up}
+use Rattle.opening.proofs.Lookup.{any-is, looked-up}
 use Rattle.opening.proofs.Numbers.{opened-good, opened-taken, passed, refused}
 use Rattle.request.proofs.Laws.{unknown-kind}
 use Rattle.call_allocate.specs.Asking.{Asking, Chooses}
-
-any-is : (n : List ℕ) (ls : List Label) → any (named n) ls ≡ not (isNothing (foundSlot (find (named n) ls)))
-any-is n [] = refl
-any-is n (m ∷ ms) = by (named n m) (λ h. rw h) (λ h. rw h (any-is n ms))
 
 module _ (t name at : List ℕ) (kind start amount sec : ℕ) (a : List ℕ) (ok : Bool) (r : ℕ)
     (lengths : ok ≡ (eqb (length a) 24 && (eqb (length name) 44 && eqb (length at) 52))) (number : r ≡ openNumber t ok) where

@@ -1,29 +1,12 @@
 // Allocate: space for a new data set.
 use forms::Geometry;
 use granting::Holder;
-use names::Found;
 use request::Request;
 use set_change::Records;
-ghost use mathlib.Core.Path.{_≡_};
-ghost use mathlib.Core.Bool.{not};
-ghost use Prim.Native.Nat.{_*_, _≤_};
-ghost use lib.ListN.{length};
 ghost use Rattle.rules.specs.Contracts.{Allocates};
 ghost use Rattle.forms.specs.Forms.{geometryOf};
-ghost use Rattle.names.specs.Find.{findSlot, isNothing};
 ghost use Rattle.request.specs.Request.{toAmount};
 ghost use Rattle.call_allocate.specs.Asking.{Asking, Chooses};
-
-// Whether one of the n slots has a data set under this name.
-fn on_volume(table: &[u8], n: usize, name: &[u8]) -> bool
-    requires { ⌜ 140 * n ≤ length (now table) ⌝ }
-    ensures { λ r. ⌜ r ≡ not (isNothing (findSlot (now (table .entry)) (now (name .entry)) n)) ⌝ }
-{
-    let Found::Slot(k) = names::find(table, n, name) else {
-        return false;
-    };
-    true
-}
 
 // Chooses the pieces of a request that is not refused so far, and grants them to a new data set: 0, 9 or 11.
 fn place(
@@ -88,7 +71,7 @@ pub fn allocate(
     if request::in_range(request, g) {} else {
         return 7;
     }
-    if on_volume(table, (g.tracks * g.records) as usize, name) {
+    if opening::on_volume(table, (g.tracks * g.records) as usize, name) {
         return 6;
     }
     place(table, g, &mut map, &mut empty, name, attributes, request, answer)

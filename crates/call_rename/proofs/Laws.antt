@@ -26,7 +26,7 @@ use Rattle.labels.specs.Labels.{Format1}
 use Rattle.labels.proofs.Following.{good-is}
 use Rattle.opening.specs.Opening.{foundSlot, openNumber}
 use Rattle.opening.proofs.Laws.{Ready, ready}
-use Rattle.opening.proofs.Lookup.{FoundAt, looked-up, not-there, there}
+use Rattle.opening.proofs.Lookup.{FoundAt, any-is, looked-up, not-there, there}
 use Rattle.opening.proofs.Numbers.{opened-good, opened-taken, passed, refused}
 use Rattle.call_rename.specs.Refusal.{earlyNumber, renameLengths}
 use Rattle.call_rename.proofs.Renamed.{renamed}
@@ -53,10 +53,6 @@ module _ (t old new : List ℕ) (n k : ℕ) (e : k ≡ openNumber t (renameLengt
     none-so-far p q = ap₂ (λ (a b : Bool). cond (a && b) 0 4) (sym p) (sym q) ∙ by-names
 
 -- ---- a name that is there, and one that is not
-
-any-is : (n : List ℕ) (ls : List Label) → any (named n) ls ≡ not (isNothing (foundSlot (find (named n) ls)))
-any-is n [] = refl
-any-is n (m ∷ ms) = by (named n m) (λ h. rw h) (λ h. rw h (any-is n ms))
 
 -- ---- the call
 

@@ -1,7 +1,6 @@
 // Rename: another name for a data set.
 use names::Found;
 ghost use mathlib.Core.Path.{_≡_};
-ghost use mathlib.Core.Bool.{not};
 ghost use Prim.Native.Nat.{_+_, _*_, _≤_};
 ghost use lib.ListN.{length};
 ghost use Rattle.model.specs.Model.{Geometry, Label};
@@ -9,7 +8,6 @@ ghost use Rattle.rules.specs.Contracts.{Renames};
 ghost use Rattle.rules.specs.Layout.{format1};
 ghost use Rattle.rules.specs.Slots.{withName};
 ghost use Rattle.fields.specs.Records.{putRecord, slotBytes};
-ghost use Rattle.names.specs.Find.{findSlot, isNothing};
 ghost use Rattle.labels.specs.Labels.{Format1};
 ghost use Rattle.call_rename.specs.Refusal.{earlyNumber};
 
@@ -31,17 +29,6 @@ fn early(table: &[u8], old: &[u8], new: &[u8], answer: usize) -> u32
         return 4;
     }
     0
-}
-
-// Whether one of the n slots has a data set under this name.
-fn on_volume(table: &[u8], n: usize, name: &[u8]) -> bool
-    requires { ⌜ 140 * n ≤ length (now table) ⌝ }
-    ensures { λ r. ⌜ r ≡ not (isNothing (findSlot (now (table .entry)) (now (name .entry)) n)) ⌝ }
-{
-    let Found::Slot(k) = names::find(table, n, name) else {
-        return false;
-    };
-    true
 }
 
 // Puts a name into the format 1 in slot k.
@@ -67,7 +54,7 @@ pub fn rename(table: &mut [u8], old: &[u8], new: &[u8], answer: &mut [u8]) -> u3
     let Found::Slot(k) = names::find(table, n, old) else {
         return 5;
     };
-    if on_volume(table, n, new) {
+    if opening::on_volume(table, n, new) {
         return 6;
     }
     put_name(table, k, new);

@@ -4,9 +4,8 @@ ghost use mathlib.Core.Path.{_≡_};
 ghost use Prim.Native.Nat.{ℕ, _*_, _≤_, _<_};
 ghost use mathlib.Core.List.{List};
 ghost use lib.ListN.{length};
-ghost use Rattle.model.specs.Model.{fivesFor, slots, tracks};
+ghost use Rattle.model.specs.Model.{slots, tracks};
 ghost use Rattle.rules.proofs.Valid.{Limits};
-ghost use Rattle.tracks.specs.Map.{freeFrom};
 ghost use Rattle.forms.specs.Forms.{geometryOf};
 ghost use Rattle.giving.specs.Giving.{At, FreedSlot, Measures};
 
@@ -21,14 +20,6 @@ pub struct Measured {
     pub was: usize,
 }
 
-// The number of format 5s for the free extents that the map shows.
-fn members(map: &[u64], g: Geometry) -> usize
-    requires { ⌜ Limits (geometryOf g) × (tracks (geometryOf g) ≤ 64 * length (now map)) ⌝ }
-    ensures { λ r. ⌜ r ≡ fivesFor (length (freeFrom (now (map .entry)) (tracks (geometryOf g)) 0)) ⌝ }
-{
-    settling::fives_for(tracks::count_runs(map, (g.cylinders * g.heads) as usize))
-}
-
 // The data set whose format 1 is in slot k.
 pub fn measure(table: &[u8], g: Geometry, k: usize, map: &[u64]) -> Measured
     requires { ⌜ Limits (geometryOf g) × (length (now table) ≡ 140 * slots (geometryOf g)) × (k < slots (geometryOf g)) × (tracks (geometryOf g) ≤ 64 * length (now map)) ⌝ }
@@ -39,7 +30,7 @@ pub fn measure(table: &[u8], g: Geometry, k: usize, map: &[u64]) -> Measured
     let one = x.one;
     let three = x.three;
     let all = set_change::set_tracks(&one, &three, x.count, g);
-    let was = members(map, g);
+    let was = settling::members(map, g);
     Measured {
         one,
         three,

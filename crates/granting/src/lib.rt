@@ -7,9 +7,8 @@ ghost use mathlib.Core.Path.{_≡_};
 ghost use Prim.Native.Nat.{_+_, _*_, _≤_, _<_};
 ghost use lib.Dec.{leb};
 ghost use lib.ListN.{length, take};
-ghost use Rattle.model.specs.Model.{fivesFor, slots, tracks};
+ghost use Rattle.model.specs.Model.{slots, tracks};
 ghost use Rattle.rules.proofs.Valid.{Limits};
-ghost use Rattle.tracks.specs.Map.{freeFrom};
 ghost use Rattle.forms.specs.Forms.{geometryOf};
 ghost use Rattle.granting.specs.Granting.{Granted, Grants};
 
@@ -18,15 +17,6 @@ pub struct Holder {
     pub slot: usize,
     pub third: usize,
     pub extents: usize,
-}
-
-// How many format 5s the chain has, by the map of free tracks: as many as it needs.
-fn members(map: &[u64], g: Geometry) -> usize
-    requires { ⌜ Limits (geometryOf g) × (tracks (geometryOf g) ≤ 64 * length (now map)) ⌝ }
-    ensures { λ r. ⌜ r ≡ fivesFor (length (freeFrom (now (map .entry)) (tracks (geometryOf g)) 0)) ⌝ }
-{
-    let runs = tracks::count_runs(map, (g.cylinders * g.heads) as usize);
-    settling::fives_for(runs)
 }
 
 // Whether n extents and `count` more need no format 3.
@@ -54,7 +44,7 @@ pub fn put_grant(
     requires { ⌜ Grants (geometryOf g) (now table) (now map) (now empty) (set .slot) (set .third) (set .extents) kind (recs .one) (recs .three) (take (chosen .count) pieces) (chosen .count) (chosen .tracks) ⌝ }
     ensures { λ r. ⌜ ((d : Grants (geometryOf g) (now (table .entry)) (now (map .entry)) (now (empty .entry)) (set .slot) (set .third) (set .extents) kind (recs .one) (recs .three) (take (chosen .count) pieces) (chosen .count) (chosen .tracks)) → Granted d (now (answer .entry)) (now (table .exit)) (now (answer .exit)) r) ⌝ }
 {
-    let was = members(map, g);
+    let was = settling::members(map, g);
     set_change::take_pieces(map, pieces, chosen.count);
     let more = set_change::add_pieces(recs, g, set.extents, kind, pieces, chosen.count);
     let small = few(set.extents, chosen.count);

@@ -1,6 +1,6 @@
 -- The lookup in a taken table finds the slot of the data set that the rules find. Assumes nothing.
 use mathlib.Core.Path.{_≡_, refl, sym, ap, ap₂, _∙_, subst}
-use mathlib.Core.Bool.{Bool, true, false, cond, _&&_}
+use mathlib.Core.Bool.{Bool, true, false, cond, not, _&&_}
 use mathlib.Core.Option.{Option, none, some}
 use mathlib.Core.List.{List, [], _∷_}
 use Prim.Native.Nat.{ℕ, suc, _+_, _*_, _/_, _<_}
@@ -10,7 +10,7 @@ use lib.Dec.{T}
 use lib.ListN.{getD, length}
 use Rattle.names.specs.declared.Found.{Found}
 use Rattle.names.specs.declared.Found.the-variants.{Nothing, Slot}
-use Rattle.model.specs.Basics.{find, keepIf, same}
+use Rattle.model.specs.Basics.{any, find, keepIf, same}
 use Rattle.model.specs.Model.{Geometry, Label, Volume, slots}
 use Rattle.model.proofs.Lists.{by}
 use Rattle.rules.specs.Reading.{chop, read, readLabel, readLabels, readRecords}
@@ -19,7 +19,7 @@ use Rattle.rules.specs.Table.{named, taken}
 use Rattle.rules.proofs.Valid.{Limits}
 use Rattle.fields.specs.Records.{slotBytes}
 use Rattle.fields.proofs.Slots.{chop-slot, length-chop}
-use Rattle.names.specs.Find.{findSlot, firstNamed, isLabel, isNamed, nameOf}
+use Rattle.names.specs.Find.{findSlot, firstNamed, isLabel, isNamed, isNothing, nameOf}
 use Rattle.opening.specs.Opening.{foundSlot}
 use Rattle.opening.proofs.Laws.{LabelIn, found-label, ready}
 
@@ -96,3 +96,8 @@ module _ (t : List ℕ) (x : T (taken t)) (g : Geometry) (e : g ≡ read t .geom
 
   pub there-inside : (name : List ℕ) (k : ℕ) → Slot k ≡ findSlot t name (slots g) → k < slots g
   there-inside name k n = let y = there name k n in let s = slots-of in let a = y .slot in let b = y .records .inside in omega arith
+
+-- whether a name is on the volume
+pub any-is : (n : List ℕ) (ls : List Label) → any (named n) ls ≡ not (isNothing (foundSlot (find (named n) ls)))
+any-is n [] = refl
+any-is n (m ∷ ms) = by (named n m) (λ h. rw h) (λ h. rw h (any-is n ms))

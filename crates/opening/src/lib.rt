@@ -1,14 +1,16 @@
 // What each call but initialise does first: the lengths, the check of the table, and the geometry of a table that is taken.
 use forms::Geometry;
+use names::Found;
 ghost use mathlib.Core.Path.{_≡_};
-ghost use mathlib.Core.Bool.{_&&_};
-ghost use Prim.Native.Nat.{_<_};
+ghost use mathlib.Core.Bool.{not, _&&_};
+ghost use Prim.Native.Nat.{_*_, _≤_, _<_};
 ghost use lib.Dec.{T, eqb};
 ghost use lib.ListN.{length};
 ghost use Rattle.model.specs.Model.{slots};
 ghost use Rattle.rules.specs.Reading.{read};
 ghost use Rattle.rules.specs.Table.{taken};
 ghost use Rattle.rules.proofs.Valid.{Limits};
+ghost use Rattle.names.specs.Find.{findSlot, isNothing};
 ghost use Rattle.forms.specs.Forms.{geometryOf};
 ghost use Rattle.label_check.specs.Label.{namedThird};
 ghost use Rattle.opening.specs.Opening.{Opened};
@@ -71,4 +73,15 @@ pub fn third(one: &[u8], g: Geometry) -> usize
         g.start,
         (g.tracks * g.records) as usize,
     )
+}
+
+// Whether one of the n slots has a data set under this name.
+pub fn on_volume(table: &[u8], n: usize, name: &[u8]) -> bool
+    requires { ⌜ 140 * n ≤ length (now table) ⌝ }
+    ensures { λ r. ⌜ r ≡ not (isNothing (findSlot (now (table .entry)) (now (name .entry)) n)) ⌝ }
+{
+    let Found::Slot(k) = names::find(table, n, name) else {
+        return false;
+    };
+    true
 }

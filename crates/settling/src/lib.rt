@@ -8,7 +8,7 @@ ghost use mathlib.Core.List.{[], _∷_};
 ghost use Prim.Native.Nat.{_-_, _*_, _≤_, _<_};
 ghost use lib.ListN.{length, take};
 ghost use lib.Seq.{slice};
-ghost use Rattle.model.specs.Model.{fivesFor, slots, total};
+ghost use Rattle.model.specs.Model.{fivesFor, slots, total, tracks};
 ghost use Rattle.model.proofs.Lists.{All};
 ghost use Rattle.rules.proofs.Valid.{Limits};
 ghost use Rattle.tracks.specs.Map.{freeFrom};
@@ -89,6 +89,14 @@ pub fn fives_for(f: usize) -> usize
         return 1;
     }
     (f + 25) / 26
+}
+
+// The number of format 5s for the free extents that the map shows.
+pub fn members(map: &[u64], g: Geometry) -> usize
+    requires { ⌜ Limits (geometryOf g) × (tracks (geometryOf g) ≤ 64 * length (now map)) ⌝ }
+    ensures { λ r. ⌜ r ≡ fivesFor (length (freeFrom (now (map .entry)) (tracks (geometryOf g)) 0)) ⌝ }
+{
+    settling::fives_for(tracks::count_runs(map, (g.cylinders * g.heads) as usize))
 }
 
 // Reads the slots of the first `count` members of a table's chain. In a table that is not sound they are some slots of it.

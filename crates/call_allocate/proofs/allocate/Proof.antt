@@ -9,7 +9,7 @@ use Rattle.call_allocate.proofs.allocate.Statement.{statement}
 use Rattle.call_allocate.proofs.allocate.Tie as tie
 use Rattle.call_allocate.proofs.allocate.Reads as reads
 use Rattle.call_allocate.proofs.allocate.Lts as lts
-use Rattle.call_allocate.proofs.on_volume.Reads as on-volume-reads
+use Rattle.opening.proofs.on_volume.Reads as on-volume-reads
 use Rattle.call_allocate.proofs.place.Reads as place-reads
 use Rattle.fields.proofs.name_ok.Reads as name-ok-reads
 use Rattle.opening.proofs.and_another.Reads as and-another-reads

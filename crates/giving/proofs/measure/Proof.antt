@@ -5,7 +5,7 @@ use Rattle.giving.proofs.measure.Statement.{statement}
 use Rattle.giving.proofs.measure.Tie as tie
 use Rattle.giving.proofs.measure.Reads as reads
 use Rattle.giving.proofs.measure.Lts as lts
-use Rattle.giving.proofs.members.Reads as members-reads
+use Rattle.settling.proofs.members.Reads as members-reads
 use Rattle.set_at.proofs.set_at.Reads as set-at-reads
 use Rattle.set_change.proofs.set_tracks.Reads as set-tracks-reads
 

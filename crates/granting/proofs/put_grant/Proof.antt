@@ -10,7 +10,7 @@ use Rattle.granting.proofs.put_grant.Lts as lts
 use Rattle.answers.proofs.put_granted.Reads as put-granted-reads
 use Rattle.commit.proofs.put_set.Reads as put-set-reads
 use Rattle.granting.proofs.few.Reads as few-reads
-use Rattle.granting.proofs.members.Reads as members-reads
+use Rattle.settling.proofs.members.Reads as members-reads
 use Rattle.set_change.proofs.add_pieces.Reads as add-pieces-reads
 use Rattle.set_change.proofs.take_pieces.Reads as take-pieces-reads
 

@@ -3,8 +3,8 @@ use Rattle.names.specs.declared.Found.{Found}
 use mathlib.Core.Bool.{not}
 use mathlib.Core.Path.{sym, ap, _∙_}
 use borrow.Author.Needs.{needs}
-use Rattle.call_allocate.proofs.on_volume.Statement.{statement}
-use Rattle.call_allocate.proofs.on_volume.Tie as tie
+use Rattle.opening.proofs.on_volume.Statement.{statement}
+use Rattle.opening.proofs.on_volume.Tie as tie
 
 find-requires : tie.Need-find-requires
 find-requires c κs = search needs
