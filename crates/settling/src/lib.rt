@@ -96,7 +96,7 @@ pub fn members(map: &[u64], g: Geometry) -> usize
     requires { ⌜ Limits (geometryOf g) × (tracks (geometryOf g) ≤ 64 * length (now map)) ⌝ }
     ensures { λ r. ⌜ r ≡ fivesFor (length (freeFrom (now (map .entry)) (tracks (geometryOf g)) 0)) ⌝ }
 {
-    settling::fives_for(tracks::count_runs(map, (g.cylinders * g.heads) as usize))
+    fives_for(tracks::count_runs(map, (g.cylinders * g.heads) as usize))
 }
 
 // Reads the slots of the first `count` members of a table's chain. In a table that is not sound they are some slots of it.
