@@ -1,14 +1,14 @@
 -- Release: the draft that is written, and the call. Assumes nothing.
 use mathlib.Core.Path.{_≡_, refl, sym, ap, ap₂, _∙_, subst}
 use mathlib.Core.Bool.{Bool, true, false, cond}
-use mathlib.Core.Option.{Option, none, some}
+use mathlib.Core.Option.{none, some}
 use mathlib.Core.List.{List, [], _∷_, _++_}
-use Prim.Native.Nat.{ℕ, zero, suc, _+_, _-_, _/_, _≤_, _<_}
+use Prim.Native.Nat.{ℕ, _+_, _-_, _/_, _≤_, _<_}
 use native.Mathlib.Omega.{arith}
 use lib.Dec.{T, eqb, leb, leb→le, ltb, ltb→lt}
 use lib.ListN.{length}
 use Rattle.model.specs.Basics.{bit}
-use Rattle.model.specs.Model.{Extent, Geometry, Label, Run, Volume, held, oneSlot, runsOf, slots, slotsOf, tally, total, tracks, used}
+use Rattle.model.specs.Model.{Geometry, Label, Volume, held, oneSlot, runsOf, slots, slotsOf, tally, total, tracks, used}
 use Rattle.model.proofs.Lists.{and-l, and-r, sum-append, true-is}
 use Rattle.rules.specs.Calls.{accept, answer, givenBack, goodTtr, release, release₁, rule, settled, unless}
 use Rattle.rules.specs.Entries.{lent, result, written}

@@ -1,6 +1,6 @@
 -- The parts of release: the test of the TTR, and the data set cut. Assumes nothing.
-use mathlib.Core.Path.{_≡_, refl, sym, ap, ap₂, _∙_, subst}
-use mathlib.Core.Bool.{Bool, true, false, cond}
+use mathlib.Core.Path.{_≡_, refl, sym, ap, _∙_, subst}
+use mathlib.Core.Bool.{Bool, true, false}
 use mathlib.Core.List.{List, _++_}
 use mathlib.Core.Logic.{⊎-elim}
 use Prim.Native.Nat.{ℕ, zero, suc, _+_, _/_, _%_, _≤_, _<_}
@@ -9,10 +9,9 @@ use borrow.Author.Tests.{le-leb, lt-leb, lt-ltb, le-ltb}
 use lib.Dec.{eqb, leb}
 use lib.ListN.{length, length-append, take}
 use lib.Seq.{length-take-le}
-use Rattle.model.specs.Model.{Extent, Geometry, Label, Run, overs}
+use Rattle.model.specs.Model.{Extent, Geometry, Label}
 use Rattle.rules.specs.Calls.{goodTtr, keep}
 use Rattle.rules.specs.Slots.{withExtents}
-use Rattle.tracks.specs.Map.{Shows}
 use Rattle.tracks.proofs.Bits.{le-or-lt}
 use Rattle.labels.specs.Labels.{Format1, Format3, withTtr}
 use Rattle.labels.proofs.Following.{same-extents}

@@ -3,14 +3,10 @@ use mathlib.Core.Path.{_≡_, refl, sym, ap, ap₂, _∙_, subst}
 use mathlib.Core.Bool.{Bool, true, false}
 use mathlib.Core.Option.{Option, none, some}
 use mathlib.Core.List.{List, [], _∷_, _++_, append-assoc}
-use Prim.Native.Nat.{ℕ, _≤_, _<_}
-use native.Mathlib.Omega.{arith}
-use lib.ListN.{length}
-use Rattle.model.specs.Model.{Extent, Geometry, Label, Run, Volume, held, oneSlot, overs, runsOf, slots, slotsOf, tally, times, total, tracks, used}
-use Rattle.model.proofs.Lists.{All}
-use Rattle.rules.specs.Calls.{Call, Outcome, Reply, accept, answer, givenBack, refuse, rule, scratch, scratch₁, settled}
+use Prim.Native.Nat.{ℕ, _≤_}
+use Rattle.model.specs.Model.{Extent, Geometry, Label, Volume, held, oneSlot, overs, runsOf, slots, slotsOf, tally, total, tracks, used}
+use Rattle.rules.specs.Calls.{accept, answer, givenBack, rule, scratch, scratch₁, settled}
 use Rattle.rules.specs.Entries.{lent, result, written}
-use Rattle.rules.specs.Layout.{encode}
 use Rattle.rules.specs.Slots.{settle, without}
 use Rattle.rules.proofs.Changes.{scratch-keeps}
 use Rattle.rules.proofs.Kept.{Keeps}
@@ -20,7 +16,7 @@ use Rattle.tracks.proofs.Held.{shows-same}
 use Rattle.label_check.specs.Marks.{units}
 use Rattle.set_change.specs.Change.{GaveTail, extentsIn}
 use Rattle.set_change.proofs.Laws.{none-kept}
-use Rattle.commit.specs.Commit.{Becomes, Gone, Left}
+use Rattle.commit.specs.Commit.{Gone, Left}
 use Rattle.commit.proofs.Sets.{held-apart, others-stay, slots-inside, slots-once, slots-shown, used-apart}
 use Rattle.giving.specs.Giving.{At, FreedSlot, Measures}
 use Rattle.giving.proofs.Calls.{Names}

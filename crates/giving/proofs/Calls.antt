@@ -18,7 +18,7 @@ use Rattle.names.specs.Find.{findSlot}
 use Rattle.table_check.specs.Check.{Shown}
 use Rattle.opening.specs.Opening.{openNumber}
 use Rattle.opening.proofs.Laws.{ready}
-use Rattle.opening.proofs.Lookup.{FoundAt, not-there, there}
+use Rattle.opening.proofs.Lookup.{not-there, there}
 use Rattle.opening.proofs.Numbers.{opened-good, opened-taken, passed, refused}
 use Rattle.giving.specs.Giving.{At}
 

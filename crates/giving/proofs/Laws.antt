@@ -4,12 +4,10 @@ use mathlib.Core.List.{List, _∷_}
 use Prim.Native.Nat.{ℕ, zero, suc, _+_, _*_, _≤_, _<_}
 use native.Mathlib.Omega.{arith}
 use lib.ListN.{length}
-use Rattle.model.specs.Basics.{sumOf}
-use Rattle.model.specs.Model.{Extent, Geometry, Label, Run, Volume, fivesFor, free, held, oneSlot, overs, runsOf, slots, total, tracks}
-use Rattle.rules.specs.Slots.{without}
+use Rattle.model.specs.Model.{Extent, Geometry, Label, Run, Volume, fivesFor, overs, runsOf, slots, total, tracks}
 use Rattle.rules.proofs.Labels.{without-sum}
 use Rattle.rules.proofs.Valid.{Limits, free-balance, held-total}
-use Rattle.tracks.specs.Map.{Given, Shows, freeFrom}
+use Rattle.tracks.specs.Map.{Given, freeFrom}
 use Rattle.tracks.proofs.Held.{shows-give}
 use Rattle.label_check.specs.Marks.{units}
 use Rattle.table_check.proofs.Free.{free-shown}
