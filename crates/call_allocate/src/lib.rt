@@ -24,8 +24,8 @@ fn place(
 {
     let amount = request.amount;
     let mut pieces = [[0u16; 2]; 5];
-    let chosen = request::fulfil(map, g, amount, &mut pieces);
-    if chosen.count == 0 {
+    let got = request::fulfil(map, g, amount, &mut pieces);
+    if got.count == 0 {
         return 9;
     }
     let unit = request::unit_byte(amount);
@@ -38,7 +38,7 @@ fn place(
         extents: 0,
     };
     let recs = Records { one, three };
-    granting::put_grant(table, g, map, empty, set, recs, kind, pieces, chosen, answer)
+    granting::put_grant(table, g, map, empty, set, recs, kind, pieces, got, answer)
 }
 
 pub fn allocate(
@@ -74,5 +74,14 @@ pub fn allocate(
     if opening::on_volume(table, (g.tracks * g.records) as usize, name) {
         return 6;
     }
-    place(table, g, &mut map, &mut empty, name, attributes, request, answer)
+    place(
+        table,
+        g,
+        &mut map,
+        &mut empty,
+        name,
+        attributes,
+        request,
+        answer,
+    )
 }

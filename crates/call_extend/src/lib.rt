@@ -29,11 +29,11 @@ fn lengthen(
     }
     let amount = request::secondary_of(one[94], secondary);
     let mut pieces = [[0u16; 2]; 5];
-    let chosen = request::fulfil(map, g, amount, &mut pieces);
-    if chosen.count == 0 {
+    let got = request::fulfil(map, g, amount, &mut pieces);
+    if got.count == 0 {
         return 9;
     }
-    if held.count + chosen.count > 16 {
+    if held.count + got.count > 16 {
         return 10;
     }
     let kind = request::type_byte(amount);
@@ -43,7 +43,7 @@ fn lengthen(
         extents: held.count,
     };
     let recs = Records { one, three };
-    granting::put_grant(table, g, map, empty, set, recs, kind, pieces, chosen, answer)
+    granting::put_grant(table, g, map, empty, set, recs, kind, pieces, got, answer)
 }
 
 pub fn extend(table: &mut [u8], name: &[u8], answer: &mut [u8]) -> u32

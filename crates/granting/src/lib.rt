@@ -50,7 +50,18 @@ pub fn put_grant(
     let small = few(set.extents, chosen.count);
     let one = more.one;
     let three = more.three;
-    if commit::put_set(table, g, map, empty, was, set.slot, set.third, small, one, three) {} else {
+    if commit::put_set(
+        table,
+        g,
+        map,
+        empty,
+        was,
+        set.slot,
+        set.third,
+        small,
+        one,
+        three,
+    ) {} else {
         return 11;
     }
     answers::put_granted(answer, pieces, chosen.count, chosen.tracks);
