@@ -70,7 +70,7 @@ extern "C" {
 #define VTOC_MOST_EXTENTS 16      /* extents of one data set */
 #define VTOC_MOST_TRACKS 65535    /* tracks of a volume, and the most tracks or cylinders of one request */
 #define VTOC_MOST_SECONDARY 16777215 /* tracks or cylinders */
-#define VTOC_STACK_NEED 65536     /* no call needs more stack */
+#define VTOC_STACK_NEED 16384     /* no call needs more stack */
 
 /* ---- Kinds of a request (vtoc_allocate) ---------------------------------------------------------------------------------- */
 

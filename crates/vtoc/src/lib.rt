@@ -38,7 +38,16 @@ pub extern "C" fn vtoc_allocate(
 ) -> u32
     ensures { λ r. ⌜ Allocates (now (table .entry)) (now (name .entry)) (now (attributes .entry)) kind start amount secondary (now (answer .entry)) r (now (table .exit)) (now (answer .exit)) ⌝ }
 {
-    call_allocate::allocate(table, name, attributes, kind, start, amount, secondary, answer)
+    call_allocate::allocate(
+        table,
+        name,
+        attributes,
+        kind,
+        start,
+        amount,
+        secondary,
+        answer,
+    )
 }
 
 // Extends a data set by its secondary amount. The refusals, in the order of `perform` and `extend₁`: 2, 3, 4, 5 not found,
@@ -71,12 +80,7 @@ pub extern "C" fn vtoc_scratch(table: &mut [u8], name: &[u8], answer: &mut [u8])
 // Renames a data set. The refusals, in the order of `perform` and `rename₁`: 2, 3, 4 (either name), 5 not found (the old one),
 // 6 duplicate. The 44 name bytes are the new name's; the answer is 24 zeros.
 #[no_mangle]
-pub extern "C" fn vtoc_rename(
-    table: &mut [u8],
-    old: &[u8],
-    new: &[u8],
-    answer: &mut [u8],
-) -> u32
+pub extern "C" fn vtoc_rename(table: &mut [u8], old: &[u8], new: &[u8], answer: &mut [u8]) -> u32
     ensures { λ r. ⌜ Renames (now (table .entry)) (now (old .entry)) (now (new .entry)) (now (answer .entry)) r (now (table .exit)) (now (answer .exit)) ⌝ }
 {
     call_rename::rename(table, old, new, answer)

@@ -12,59 +12,48 @@ use Rattle.io.proofs.write_all.Reads as write-all-reads
 use Rattle.table_list.proofs.list.Reads as list-reads
 use Rattle.vtlist.proofs.room.Reads as room-reads
 
--- src/main.rt:12:21
 large-buffer-requires : tie.Need-large-buffer-requires
 large-buffer-requires c κs = search needs
 
--- src/main.rt:13:41
 slice-aggregate-read-full : tie.Need-slice-aggregate-read-full
 slice-aggregate-read-full c = search needs
 
--- src/main.rt:13:9
 read-full-requires : tie.Need-read-full-requires
 read-full-requires c κs = search needs
 
--- src/main.rt:16:19
+read-rest-requires : tie.Need-read-rest-requires
+read-rest-requires c κs = search needs
+
 room-requires : tie.Need-room-requires
 room-requires c κs = search needs
 
--- src/main.rt:17:30
 array-share-prefix-table : tie.Need-array-share-prefix-table
 array-share-prefix-table c = search needs
 
--- src/main.rt:17:30
 slice-aggregate-list : tie.Need-slice-aggregate-list
 slice-aggregate-list c = search needs
 
--- src/main.rt:17:43
 slice-aggregate-list-2 : tie.Need-slice-aggregate-list-2
 slice-aggregate-list-2 c = search needs
 
--- src/main.rt:17:53
 slice-aggregate-list-3 : tie.Need-slice-aggregate-list-3
 slice-aggregate-list-3 c = search needs
 
--- src/main.rt:17:65
 slice-aggregate-list-4 : tie.Need-slice-aggregate-list-4
 slice-aggregate-list-4 c = search needs
 
--- src/main.rt:17:9
 list-requires : tie.Need-list-requires
 list-requires c κs = search needs
 
--- src/main.rt:18:34
 array-share-prefix-out : tie.Need-array-share-prefix-out
 array-share-prefix-out c = search needs
 
--- src/main.rt:18:34
 slice-aggregate-write-all : tie.Need-slice-aggregate-write-all
 slice-aggregate-write-all c = let a = c .before .before .before .before .list .ensures .0 in let b = c .before .before .before .before .list .ensures .2 in let d : 1000000 ≤ length (c .before .before .before .before .before .before .before .before .before .room .result) = search needs in simp length-take (omega arith)
 
--- src/main.rt:18:5
 write-all-requires : tie.Need-write-all-requires
 write-all-requires c κs = search needs
 
--- src/main.rt:11:1
 returns : tie.Need-returns
 returns c = search needs
 
@@ -75,6 +64,7 @@ main-spec =
     large-buffer-requires
     slice-aggregate-read-full
     read-full-requires
+    read-rest-requires
     room-requires
     array-share-prefix-table
     slice-aggregate-list
