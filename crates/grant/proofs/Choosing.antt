@@ -59,7 +59,7 @@ shortest-All P (d ∷ ds) c a e = go (shortest ds) (λ x q. shortest-All P ds x 
     go (some x) i e =
         by (leb (d .count) (x .count)) (λ h. subst P (some-is d c (rw h at e)) (a .0)) (λ h. subst P (some-is x c (rw h at e)) (i x refl))
 
-first-place : (g : List (List ℕ)) (r : List ℕ) → length g ≡ 5 → set g 0 r ≡ r ∷ drop 1 g
+pub first-place : (g : List (List ℕ)) (r : List ℕ) → length g ≡ 5 → set g 0 r ≡ r ∷ drop 1 g
 first-place [] r l = absurd (omega arith)
 first-place (x ∷ g) r l = refl
 

@@ -2,14 +2,14 @@
 use mathlib.Core.Path.{_≡_, sym, ap, ap₂, _∙_, refl, subst}
 use mathlib.Core.Bool.{Bool, true, false, _&&_}
 use mathlib.Core.Logic.{⊎-elim}
-use mathlib.Core.List.{List, _∷_}
+use mathlib.Core.List.{List}
 use Prim.Native.Nat.{ℕ, zero, suc, _+_, _-_, _≤_, _<_}
 use native.Mathlib.Nat.{le-refl}
 use native.Mathlib.Omega.{arith}
 use borrow.Author.Tests.{eq-eqb, ne-eqb, eqb-true, eqb-false}
 use lib.Dec.{T, eqb}
 use Rattle.model.specs.Basics.{all, upFrom}
-use Rattle.model.specs.Model.{Run, Separate, run, runs, times}
+use Rattle.model.specs.Model.{Run, Separate, run, times}
 use Rattle.model.proofs.Lists.{All-range, all→, by, is-true, range-All, true-is, →all}
 use Rattle.model.proofs.Runs.{below, hit-above, hit-below, hit-in, runs-separate, runs-times}
 use Rattle.tracks.specs.Map.{AllFree, Hit, NextRun, Shows, freeBit, freeFrom, isFree}

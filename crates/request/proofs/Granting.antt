@@ -6,15 +6,16 @@ use mathlib.Core.List.{List, [], _∷_, map}
 use Prim.Native.Nat.{ℕ, _+_, _-_, _≤_}
 use native.Mathlib.Omega.{arith}
 use lib.Dec.{eqb}
-use lib.ListN.{length, set, drop}
+use lib.ListN.{length, set}
 use Rattle.model.specs.Basics.{all, mapOption, upFrom}
-use Rattle.model.specs.Model.{Extent, Geometry, Label, Run, extent, free, held, overs, run, times, tracks}
+use Rattle.model.specs.Model.{Geometry, Label, Run, extent, free, held, overs, run, times, tracks}
 use Rattle.model.specs.Choice.{pieces}
 use Rattle.rules.specs.Calls.{exactly}
 use Rattle.rules.specs.Calls.{grant as granting}
 use Rattle.tracks.specs.Map.{Shows, freeFrom, isFree}
 use Rattle.tracks.proofs.Held.{free-gaps}
 use Rattle.grant.specs.Grant.{Grant, grant, grantedRuns, replyOf, row}
+use Rattle.grant.proofs.Choosing.{first-place}
 use Rattle.grant.proofs.Reply.{granted-pieces, overs-extents}
 use Rattle.request.specs.declared.Amount.{Amount as Asked}
 use Rattle.request.specs.declared.Amount.the-variants.{Tracks, Cylinders, Absolute}
@@ -26,10 +27,6 @@ use Rattle.request.proofs.Free.{all-held}
 -- the tracks from s up to s + n, as the code counts them
 same-range : (m : List ℕ) (s n : ℕ) → all (isFree m) (upFrom s (s + n - s)) ≡ all (isFree m) (upFrom s n)
 same-range m s n = let e : s + n - s ≡ n = omega arith in ap (λ (k : ℕ). all (isFree m) (upFrom s k)) e
-
-first-place : (p : List (List ℕ)) (r : List ℕ) → length p ≡ 5 → set p 0 r ≡ r ∷ drop 1 p
-first-place [] r l = absurd (omega arith)
-first-place (x ∷ p) r l = refl
 
 module _ (m : List ℕ) (s n : ℕ) (r : Bool) (e : r ≡ all (isFree m) (upFrom s (s + n - s))) (p : List (List ℕ)) where
   pub exact-yes : r ≡ true → length p ≡ 5 → grant 1 n (set p 0 (s ∷ n ∷ [])) ≡ replyOf (exactRuns m s n) p
@@ -56,18 +53,19 @@ module _ (g : Geometry) (a : Asked) (k : Askable g (toAmount a)) where
 
 -- ---- the reply
 
+-- runs, made extents of type b, and back
+pub runs-back : (b : ℕ) (o : Option (List Run)) → o ≡ mapOption overs (mapOption (map (extent b)) o)
+runs-back b none = refl
+runs-back b (some ps) = ap (λ (x : List Run). some x) (sym (overs-extents b ps))
+
 module _ (m : List ℕ) (g : Geometry) (ls : List Label) (h : Shows m (tracks g) (held g ls)) where
   free-is : freeFrom m (tracks g) 0 ≡ free g ls
   unfolding free
   free-is = free-gaps m (tracks g) (held g ls) h
 
-  back : (b : ℕ) (o : Option (List Run)) → o ≡ mapOption overs (mapOption (map (extent b)) o)
-  back b none = refl
-  back b (some ps) = ap (λ (x : List Run). some x) (sym (overs-extents b ps))
-
   by-units : (b u n : ℕ) → grantedRuns u n (freeFrom m (tracks g) 0) ≡ mapOption overs (pieces b u n (free g ls))
   by-units b u n =
-      ap (grantedRuns u n) free-is ∙ back b (grantedRuns u n (free g ls)) ∙ ap (mapOption overs) (sym (granted-pieces b u n (free g ls)))
+      ap (grantedRuns u n) free-is ∙ runs-back b (grantedRuns u n (free g ls)) ∙ ap (mapOption overs) (sym (granted-pieces b u n (free g ls)))
 
   exact-runs : (s n : ℕ) → s + n ≤ tracks g → exactRuns m s n ≡ mapOption overs (exactly (run s n) (held g ls))
   unfolding exactRuns

@@ -3,17 +3,16 @@ use mathlib.Core.Path.{_≡_, refl, sym, ap, _∙_, subst}
 use mathlib.Core.Bool.{Bool, true, false, cond}
 use mathlib.Core.Option.{Option, none, some}
 use mathlib.Core.List.{List, [], _∷_, _++_, map}
-use Prim.Native.Nat.{ℕ, _+_, _≤_}
+use Prim.Native.Nat.{ℕ, zero, suc, _+_, _≤_}
 use native.Mathlib.Omega.{arith}
 use lib.Dec.{T, eqb, leb, leb→le}
 use lib.ListN.{length, drop, take, length-map}
 use lib.Seq.{take-all, take-append-le}
 use Rattle.model.specs.Basics.{all, bit, mapOption, upFrom}
-use Rattle.model.specs.Choice.{pieces}
 use Rattle.model.specs.Model.{Extent, Geometry, Label, Run, Volume, covers, extent, free, held, overs, run, times, total, tracks}
 use Rattle.model.proofs.Lists.{All, and-l, and-r, by, some-is, sum-append}
 use Rattle.model.proofs.Runs.{Inside, Once, balance}
-use Rattle.rules.specs.Calls.{Amount, absolute, exactly, inCylinders, inRange, inTracks}
+use Rattle.rules.specs.Calls.{Amount, absolute, amountOf, inCylinders, inRange, inTracks}
 use Rattle.rules.specs.Calls.{grant as granting}
 use Rattle.rules.proofs.Grant.{Asks, grant-law}
 use Rattle.rules.proofs.Valid.{GoodExtent, Valid, free-once}
@@ -22,8 +21,16 @@ use Rattle.tracks.proofs.Held.{Room}
 use Rattle.grant.specs.Grant.{Grant, grant, grantedRuns, replyOf, row}
 use Rattle.grant.proofs.Reply.{granted-pieces, overs-extents}
 use Rattle.request.specs.Request.{Askable, piecesOf, typeOf}
+use Rattle.request.proofs.Granting.{runs-back}
 
 -- ---- what may be asked for
+
+-- 7 for an unknown kind
+pub unknown-kind : (kind start n : ℕ) → 3 ≤ kind → amountOf kind start n ≡ none
+unknown-kind zero start n h = absurd (omega arith)
+unknown-kind (suc zero) start n h = absurd (omega arith)
+unknown-kind (suc (suc zero)) start n h = absurd (omega arith)
+unknown-kind (suc (suc (suc k))) start n h = refl
 
 pub askable-asks : (g : Geometry) (a : Amount) → Askable g a → Asks g a
 askable-asks g (inTracks n) h = h .0
@@ -54,11 +61,7 @@ secondary-askable g unit sec h k = by (eqb unit 0xC0) (λ e. rw e (h, k)) (λ e.
 -- ---- the extents are the pieces, all of one type
 
 typed-back : (b : ℕ) (o : Option (List Run)) (x : Option (List Extent)) → x ≡ mapOption (map (extent b)) o → x ≡ mapOption (map (extent b)) (mapOption overs x)
-typed-back b o x e = e ∙ ap (mapOption (map (extent b))) (back o ∙ ap (mapOption overs) (sym e))
-  where
-    back : (o : Option (List Run)) → o ≡ mapOption overs (mapOption (map (extent b)) o)
-    back none = refl
-    back (some ps) = ap (λ (y : List Run). some y) (sym (overs-extents b ps))
+typed-back b o x e = e ∙ ap (mapOption (map (extent b))) (runs-back b o ∙ ap (mapOption overs) (sym e))
 
 module _ (g : Geometry) (ls : List Label) where
   pub granted-typed : (a : Amount) → granting g ls a ≡ mapOption (map (extent (typeOf a))) (piecesOf g ls a)

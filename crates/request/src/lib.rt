@@ -24,6 +24,7 @@ pub enum Amount {
     Absolute(u32, u32),
 }
 
+// What is asked for now, and how much each extend will ask for, in the same unit.
 pub struct Request {
     pub amount: Amount,
     pub secondary: u32,
@@ -67,7 +68,8 @@ fn counts_ok(n: u32, secondary: u32) -> bool
     secondary <= 16777215
 }
 
-// Whether n tracks from `start` on lie on a volume of t tracks. Their end may not fit 32 bits, so it is not computed.
+// Whether n tracks from `start` on lie on a volume of t tracks, and there is no secondary amount. The end of the tracks
+// may not fit 32 bits, so it is not computed.
 fn place_ok(start: u32, n: u32, secondary: u32, t: u32) -> bool
     ensures { λ r. ⌜ r ≡ (leb 1 n && leb (start + n) t && eqb secondary 0) ⌝ }
 {
@@ -100,7 +102,7 @@ pub fn in_range(request: Request, g: Geometry) -> bool
 
 // ---- the bytes of a label
 
-// DS1SCALO of a data set that was asked for so.
+// The unit of a data set that is asked for so: DS1SCALO.
 pub fn unit_byte(amount: Amount) -> u8
     ensures { λ r. ⌜ r ≡ unitOf (toAmount amount) ⌝ }
 {

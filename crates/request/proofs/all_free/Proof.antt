@@ -3,19 +3,13 @@ use native.Mathlib.Omega.{arith}
 use borrow.Author.Needs.{needs}
 use Rattle.request.proofs.all_free.Statement.{statement}
 use Rattle.request.proofs.all_free.Tie as tie
-use Rattle.request.proofs.all_free.Reads as reads
-use Rattle.request.proofs.all_free.Lts as lts
-use Rattle.tracks.proofs.next_run.Reads as next-run-reads
 
--- src/lib.rt:142:9
 next-run-requires : tie.Need-next-run-requires
 next-run-requires c κs = search needs
 
--- src/lib.rt:144:9
 returns : tie.Need-returns
 returns c = not-first (c .before .before .next-run .ensures) (c .before .before .before .before .pre .0) (c .if1 .taken)
 
--- src/lib.rt:138:1
 returns-2 : tie.Need-returns-2
 returns-2 c = first-run (c .before .before .before .next-run .ensures) (c .before .before .before .before .before .pre .0) (omega arith)
 

@@ -2,18 +2,13 @@ use borrow.Author.Tests.{le-leb, lt-leb}
 use native.Mathlib.Omega.{arith}
 use Rattle.request.proofs.counts_ok.Statement.{statement}
 use Rattle.request.proofs.counts_ok.Tie as tie
-use Rattle.request.proofs.counts_ok.Reads as reads
-use Rattle.request.proofs.counts_ok.Lts as lts
 
--- src/lib.rt:62:9
 returns : tie.Need-returns
 returns c = rw (lt-leb 1 _ (c .if1 .taken))
 
--- src/lib.rt:65:9
 returns-2 : tie.Need-returns-2
 returns-2 c = rw (le-leb 1 (c .before .before .args .n) (omega arith), lt-leb (c .before .before .args .n) 65535 (omega arith))
 
--- src/lib.rt:58:1
 returns-3 : tie.Need-returns-3
 returns-3 c = rw (le-leb 1 (c .before .before .args .n) (omega arith), le-leb (c .before .before .args .n) 65535 (omega arith))
 

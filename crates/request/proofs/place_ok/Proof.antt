@@ -3,22 +3,16 @@ use native.Mathlib.Omega.{arith}
 use Prim.Native.Nat.{_+_}
 use Rattle.request.proofs.place_ok.Statement.{statement}
 use Rattle.request.proofs.place_ok.Tie as tie
-use Rattle.request.proofs.place_ok.Reads as reads
-use Rattle.request.proofs.place_ok.Lts as lts
 
--- src/lib.rt:75:9
 returns : tie.Need-returns
 returns c = rw (lt-leb 1 _ (c .if1 .taken))
 
--- src/lib.rt:78:9
 returns-2 : tie.Need-returns-2
 returns-2 c = rw (le-leb 1 (c .before .before .args .n) (omega arith), lt-leb (c .before .before .args .start + c .before .before .args .n) (c .before .before .args .t) (omega arith))
 
--- src/lib.rt:81:9
 returns-3 : tie.Need-returns-3
 returns-3 c = rw (le-leb 1 (c .before .before .before .args .n) (omega arith), lt-leb (c .before .before .before .args .start + c .before .before .before .args .n) (c .before .before .before .args .t) (omega arith))
 
--- src/lib.rt:71:1
 returns-4 : tie.Need-returns-4
 returns-4 c = rw (le-leb 1 (c .before .before .before .args .n) (omega arith), le-leb (c .before .before .before .args .start + c .before .before .before .args .n) (c .before .before .before .args .t) (omega arith))
 

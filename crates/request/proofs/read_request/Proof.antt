@@ -1,20 +1,14 @@
 use mathlib.Core.Path.{_≡_, refl, sym}
 use native.Mathlib.Omega.{arith}
-use Prim.Native.Nat.{ℕ}
 use Rattle.request.proofs.read_request.Statement.{statement}
 use Rattle.request.proofs.read_request.Tie as tie
-use Rattle.request.proofs.read_request.Reads as reads
-use Rattle.request.proofs.read_request.Lts as lts
 
--- src/lib.rt:38:9
 returns : tie.Need-returns
 returns c = let e : c .before .args .kind ≡ 0 = c .if1 .taken in (rw e refl, sym e, refl)
 
--- src/lib.rt:44:9
 returns-2 : tie.Need-returns-2
 returns-2 c = let e : c .before .before .args .kind ≡ 1 = c .if2 .taken in (rw e refl, sym e, refl)
 
--- src/lib.rt:33:1
 returns-3 : tie.Need-returns-3
 returns-3 c = let e : c .before .before .args .kind ≡ 2 = omega arith in (rw e refl, sym e, refl)
 

@@ -1,14 +1,10 @@
 use borrow.Author.Tests.{eq-eqb, ne-eqb}
 use Rattle.request.proofs.secondary_of.Statement.{statement}
 use Rattle.request.proofs.secondary_of.Tie as tie
-use Rattle.request.proofs.secondary_of.Reads as reads
-use Rattle.request.proofs.secondary_of.Lts as lts
 
--- src/lib.rt:115:9
 returns : tie.Need-returns
 returns c = rw (eq-eqb (c .before .args .unit) 0xC0 (c .if1 .taken))
 
--- src/lib.rt:111:1
 returns-2 : tie.Need-returns-2
 returns-2 c = rw (ne-eqb (c .before .args .unit) 0xC0 (c .if1 .left))
 

@@ -1,0 +1,150 @@
+-- A new data set gets its pieces: what is refused, and what is put. Assumes nothing.
+use mathlib.Core.Path.{_≡_, refl, sym, ap, ap₂, _∙_, subst}
+use mathlib.Core.Bool.{Bool, true, false}
+use mathlib.Core.Option.{Option, none, some}
+use mathlib.Core.List.{List, [], _∷_, map}
+use Prim.Native.Nat.{ℕ, _*_, _+_, _≤_, _<_}
+use native.Mathlib.Omega.{arith}
+use lib.Dec.{T, eqb, eqb→eq, leb, leb→le}
+use lib.ListN.{length, take}
+use Rattle.model.specs.Basics.{any}
+use Rattle.model.specs.Model.{Extent, Geometry, Label, Run, Volume, extent, held, overs, slots, slotsOf, tally, tracks, used}
+use Rattle.model.proofs.Lists.{and-l, and-r, is-true}
+use Rattle.rules.specs.Calls.{Amount, Outcome, absolute, allocate, allocate₁, allocate₂, granted, inCylinders, inRange, inTracks, settled, unitOf}
+use Rattle.rules.specs.Calls.{grant as granting}
+use Rattle.rules.specs.Entries.{lent, result, written}
+use Rattle.rules.specs.Reading.{read}
+use Rattle.rules.specs.Slots.{settleWith}
+use Rattle.rules.specs.Table.{named}
+use Rattle.rules.proofs.Grants.{allocate-keeps}
+use Rattle.rules.proofs.Kept.{Keeps}
+use Rattle.rules.proofs.Settle.{used-tally}
+use Rattle.rules.proofs.Valid.{Limits, Valid}
+use Rattle.tracks.specs.Map.{Shows}
+use Rattle.grant.specs.Grant.{grant, replyOf}
+use Rattle.labels.specs.Labels.{Format1, Format3, newLabel}
+use Rattle.request.specs.Request.{Askable, piecesOf, typeOf}
+use Rattle.request.proofs.Laws.{Accepted, accepted, range-askable, refused}
+use Rattle.set_change.specs.Change.{granted as more}
+use Rattle.opening.proofs.Laws.{Ready, ready}
+use Rattle.opening.proofs.Lookup.{limits-of, table-long}
+use Rattle.granting.specs.Granting.{Granted, Grants}
+use Rattle.call_allocate.specs.Asking.{Asking, Chooses}
+
+range-secondary : (g : Geometry) (sec : ℕ) (a : Amount) → T (inRange g sec a) → sec < 16777216
+range-secondary g sec (inTracks n) r = let p : T (leb sec 16777215) = search (and-l, and-r) depth 9 in let q = leb→le sec 16777215 p in omega arith
+range-secondary g sec (inCylinders n) r = let p : T (leb sec 16777215) = search (and-l, and-r) depth 9 in let q = leb→le sec 16777215 p in omega arith
+range-secondary g sec (absolute s n) r = let p : T (eqb sec 0) = search (and-l, and-r) depth 9 in let q = eqb→eq sec 0 p in omega arith
+
+module _ {t m s name at a : List ℕ} {g : Geometry} {amount : Amount} {sec : ℕ} (d : Asking t m s name at a g amount sec) where
+  abbrev v : Volume
+  v = read t
+
+  abbrev ls : List Label
+  ls = v .labels
+
+  is-ready : Ready t v
+  is-ready = ready t (d .isTaken)
+
+  pub limits : Limits g
+  limits = limits-of t (d .isTaken) g (d .geometryIs)
+
+  pub long : length t ≡ 140 * slots g
+  long = table-long t (d .isTaken) g (d .geometryIs)
+
+  pub askable : Askable g amount
+  askable = range-askable g sec amount (d .ranges)
+
+  pub secondary-fits : sec < 16777216
+  secondary-fits = range-secondary g sec amount (d .ranges)
+
+  pub map-fits : tracks g ≤ 64 * length m
+  map-fits = let a = limits .tracksMost in let b = d .longMap in omega arith
+
+  shows : Shows m (tracks g) (held g ls)
+  shows = subst (λ (y : Geometry). Shows m (tracks y) (held y ls)) (sym (d .geometryIs)) (d .shown .freeTracks)
+
+  -- ---- the rule, as far as it goes
+
+  abbrev chosen : Option (List Extent)
+  chosen = granting (v .geometry) ls amount
+
+  rule-is : allocate₁ v name at (some amount) sec ≡ allocate₂ v name at amount sec chosen
+  rule-is =
+      let p : inRange (v .geometry) sec amount ≡ true = is-true (subst (λ (y : Geometry). T (inRange y sec amount)) (d .geometryIs) (d .ranges)) in
+      let q = d .nameNew in
+      rw (p, q)
+
+  abbrev new : List Extent → Label
+  new es = record { slot = 0; name = name; attributes = at; unit = unitOf amount; secondary = sec; ttr = 0; extents = es; slot3 = 0 }
+
+  new-valid : (es : List Extent) → chosen ≡ some es → (w : Volume) → settleWith v ls (new es) ≡ some w → Valid w
+  new-valid es c w e =
+      subst (Keeps v (allocate name at 0 0 0 sec))
+      (rule-is ∙ ap (allocate₂ v name at amount sec) c ∙ ap (settled (granted (overs es))) e)
+      (allocate-keeps v (is-ready .valid) name at 0 0 0 sec (d .longName) (d .nameGood) (d .longAttributes) (some amount)) .valid
+
+  -- ---- the choice
+
+  module _ (count sum : ℕ) (p p′ : List (List ℕ)) (f : (ls : List Label) → Shows m (tracks g) (held g ls) → grant count sum p′ ≡ replyOf (piecesOf g ls amount) p) where
+    reply : grant count sum p′ ≡ replyOf (piecesOf (v .geometry) ls amount) p
+    reply = f ls shows ∙ ap (λ (y : Geometry). replyOf (piecesOf y ls amount) p) (d .geometryIs)
+
+    askable-there : Askable (v .geometry) amount
+    askable-there = subst (λ (y : Geometry). Askable y amount) (d .geometryIs) askable
+
+    pub no-space : count ≡ 0 → Chooses t name at a amount sec 9 t a
+    no-space z = sym (ap (λ (o : Option (List Extent)). written (lent t a []) (allocate₂ v name at amount sec o)) (refused v (is-ready .valid) amount askable-there count sum p p′ reply z .0))
+
+    module _ (nz : count ≡ 0 → ⊥) where
+      it : Accepted v amount count sum p p′
+      it = accepted v (is-ready .valid) amount askable-there count sum p p′ reply nz
+
+      pub count-most : count ≤ 5
+      count-most = let a = it .number in let b = it .good .most in omega arith
+
+      pub sum-most : sum ≤ 65535
+      sum-most = let a = it .adds in let b = it .good .sum in let c = is-ready .limits .tracksMost in omega arith
+
+      abbrev es : List Extent
+      es = map (extent (typeOf amount)) (it .ps)
+
+      module _ (unit kind : ℕ) (eu : unit ≡ unitOf amount) (ek : kind ≡ typeOf amount) (one three : List ℕ)
+          (written1 : (g : Geometry) → Format1 g (newLabel name at unit sec) one) (written3 : (g : Geometry) (l : Label) → length (l .extents) ≤ 3 → Format3 g l three) where
+        abbrev bare : Label
+        bare = newLabel name at unit sec
+
+        label-is : more kind (it .ps) bare ≡ new es
+        label-is = ap₂ (λ (x y : ℕ). more y (it .ps) (newLabel name at x sec)) eu ek
+
+        pub grants : Grants g t m s 0 0 0 kind one three (take count p′) count sum
+        grants =
+            record {
+              volume = v;
+              others = ls;
+              label = bare;
+              pieces = it .ps;
+              ready = is-ready;
+              geometryIs = sym (d .geometryIs);
+              shown = d .shown;
+              slotIs = refl;
+              thirdIs = refl;
+              extentsAre = refl;
+              few = λ _. refl;
+              records = record { one = written1 g; three = written3 g bare (omega arith) };
+              good = it .good;
+              rowsAre = it .first;
+              countIs = it .number;
+              sumIs = it .adds;
+              heldApart = λ k. refl;
+              usedSame = λ k. let x = used-tally ls (v .chain) k in let y = used-tally (bare ∷ ls) (v .chain) k in omega arith;
+              stays = λ k u z. record { first = refl; third = refl };
+              valid = λ w e. new-valid es (it .granted) w (sym (ap (settleWith v ls) label-is) ∙ e);
+            }
+
+        pub put : (t′ a′ : List ℕ) (r : ℕ) → Granted grants a t′ a′ r → Chooses t name at a amount sec r t′ a′
+        unfolding grants
+        put t′ a′ r x =
+            x
+            ∙ ap₂ (λ (ps : List Run) (l : Label). written (lent t a []) (settled (granted ps) (settleWith v ls l))) (sym (it .runs)) label-is
+            ∙ sym (ap (λ (o : Option (List Extent)). written (lent t a []) (allocate₂ v name at amount sec o)) (it .granted))

@@ -1,0 +1,25 @@
+use Rattle.names.specs.Find.{isNothing}
+use Rattle.names.specs.declared.Found.{Found}
+use mathlib.Core.Bool.{not}
+use mathlib.Core.Path.{sym, ap, _∙_}
+use borrow.Author.Needs.{needs}
+use Rattle.call_allocate.proofs.on_volume.Statement.{statement}
+use Rattle.call_allocate.proofs.on_volume.Tie as tie
+
+find-requires : tie.Need-find-requires
+find-requires c κs = search needs
+
+enum-known-k : tie.Need-enum-known-k
+enum-known-k c = search needs
+
+enum-told : tie.Need-enum-told
+enum-told c = search needs
+
+returns : tie.Need-returns
+returns c = ap (λ (x : Found). not (isNothing x)) (sym (c .enum-told .given .1) ∙ c .before .before .find .ensures)
+
+returns-2 : tie.Need-returns-2
+returns-2 c = ap (λ (x : Found). not (isNothing x)) (sym (c .before .k .given .1) ∙ c .before .before .before .find .ensures)
+
+pub on-volume-spec : {M : Type 1} → statement M
+on-volume-spec = tie.close (tie.spec find-requires enum-known-k enum-told returns returns-2)

@@ -1,0 +1,34 @@
+-- A request that is not refused so far: the table is opened, the name is new, the numbers lie in their ranges. Assumes nothing.
+use mathlib.Core.Path.{_≡_}
+use Prim.Native.Nat.{ℕ}
+use mathlib.Core.Bool.{false}
+use mathlib.Core.List.{List, []}
+use lib.Dec.{T}
+use lib.ListN.{length}
+use Rattle.model.specs.Basics.{any}
+use Rattle.model.specs.Model.{Geometry}
+use Rattle.rules.specs.Calls.{Amount, allocate₂, grant, inRange}
+use Rattle.rules.specs.Entries.{lent, result, written}
+use Rattle.rules.specs.Reading.{read}
+use Rattle.rules.specs.Table.{goodName, named, taken}
+use Rattle.table_check.specs.Check.{Shown}
+
+-- m and s are the maps of free tracks and of free slots, a is the answer before the call
+pub record Asking (t m s name at a : List ℕ) (g : Geometry) (amount : Amount) (secondary : ℕ) : Type 0 where
+  pub isTaken : T (taken t)
+  pub geometryIs : g ≡ read t .geometry
+  pub shown : Shown (read t) m s
+  pub longMap : length m ≡ 1024
+  pub longSlots : length s ≡ 8
+  pub longAnswer : length a ≡ 24
+  pub longName : length name ≡ 44
+  pub longAttributes : length at ≡ 52
+  pub nameGood : T (goodName name)
+  pub nameNew : any (named name) (read t .labels) ≡ false
+  pub ranges : T (inRange g secondary amount)
+
+-- the result, the table and the answer are those of the choice of pieces
+abbrev pub Chooses : (t name at a : List ℕ) (amount : Amount) (secondary r : ℕ) (t′ a′ : List ℕ) → Type 0
+Chooses t name at a amount secondary r t′ a′ =
+    result r (lent t′ a′ [])
+    ≡ written (lent t a []) (allocate₂ (read t) name at amount secondary (grant (read t .geometry) (read t .labels) amount))

@@ -1,0 +1,95 @@
+// Allocate: space for a new data set.
+use forms::Geometry;
+use granting::Holder;
+use names::Found;
+use request::Request;
+use set_change::Records;
+ghost use mathlib.Core.Path.{_≡_};
+ghost use mathlib.Core.Bool.{not};
+ghost use Prim.Native.Nat.{_*_, _≤_};
+ghost use lib.ListN.{length};
+ghost use Rattle.rules.specs.Contracts.{Allocates};
+ghost use Rattle.forms.specs.Forms.{geometryOf};
+ghost use Rattle.names.specs.Find.{findSlot, isNothing};
+ghost use Rattle.request.specs.Request.{toAmount};
+ghost use Rattle.call_allocate.specs.Asking.{Asking, Chooses};
+
+// Whether one of the n slots has a data set under this name.
+fn on_volume(table: &[u8], n: usize, name: &[u8]) -> bool
+    requires { ⌜ 140 * n ≤ length (now table) ⌝ }
+    ensures { λ r. ⌜ r ≡ not (isNothing (findSlot (now (table .entry)) (now (name .entry)) n)) ⌝ }
+{
+    let Found::Slot(k) = names::find(table, n, name) else {
+        return false;
+    };
+    true
+}
+
+// Chooses the pieces of a request that is not refused so far, and grants them to a new data set: 0, 9 or 11.
+fn place(
+    table: &mut [u8],
+    g: Geometry,
+    map: &mut [u64],
+    empty: &mut [u64],
+    name: &[u8],
+    attributes: &[u8],
+    request: Request,
+    answer: &mut [u8],
+) -> u32
+    requires { ⌜ Asking (now table) (now map) (now empty) (now name) (now attributes) (now answer) (geometryOf g) (toAmount (request .amount)) (request .secondary) ⌝ }
+    ensures { λ r. ⌜ Chooses (now (table .entry)) (now (name .entry)) (now (attributes .entry)) (now (answer .entry)) (toAmount (request .amount)) (request .secondary) r (now (table .exit)) (now (answer .exit)) ⌝ }
+{
+    let amount = request.amount;
+    let mut pieces = [[0u16; 2]; 5];
+    let chosen = request::fulfil(map, g, amount, &mut pieces);
+    if chosen.count == 0 {
+        return 9;
+    }
+    let unit = request::unit_byte(amount);
+    let kind = request::type_byte(amount);
+    let one = labels::new_label(name, attributes, unit, request.secondary);
+    let three = labels::empty_three();
+    let set = Holder {
+        slot: 0,
+        third: 0,
+        extents: 0,
+    };
+    let recs = Records { one, three };
+    granting::put_grant(table, g, map, empty, set, recs, kind, pieces, chosen, answer)
+}
+
+pub fn allocate(
+    table: &mut [u8],
+    name: &[u8],
+    attributes: &[u8],
+    kind: u32,
+    start: u32,
+    amount: u32,
+    secondary: u32,
+    answer: &mut [u8],
+) -> u32
+    ensures { λ r. ⌜ Allocates (now (table .entry)) (now (name .entry)) (now (attributes .entry)) kind start amount secondary (now (answer .entry)) r (now (table .exit)) (now (answer .exit)) ⌝ }
+{
+    let mut map = [0u64; 1024];
+    let mut empty = [0u64; 8];
+    let lengths = opening::and_another(answer.len(), name.len(), attributes.len(), 52);
+    let r = opening::open(table, lengths, &mut map, &mut empty);
+    if r != 0 {
+        return r;
+    }
+    if fields::name_ok(name) {} else {
+        return 4;
+    }
+    if kind > 2 {
+        return 7;
+    }
+    let request = request::read_request(kind, start, amount, secondary);
+    let g = opening::geometry(table);
+    if request::in_range(request, g) {} else {
+        return 7;
+    }
+    if on_volume(table, (g.tracks * g.records) as usize, name) {
+        return 6;
+    }
+    place(table, g, &mut map, &mut empty, name, attributes, request, answer)
+}

@@ -1,0 +1,2 @@
+pub mod MoreSpace
+pub mod Laws

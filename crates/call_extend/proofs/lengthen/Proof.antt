@@ -1,0 +1,131 @@
+use mathlib.Core.Path.{refl}
+use native.Mathlib.Omega.{arith}
+use Rattle.call_extend.proofs.MoreSpace.{askable, extents-most, grants, inside, limits, long, map-fits, no-secondary, no-space, pieces-most, put, sum-most, third-inside, too-many}
+use borrow.Author.Needs.{needs}
+use Rattle.call_extend.proofs.lengthen.Statement.{statement}
+use Rattle.call_extend.proofs.lengthen.Tie as tie
+use Rattle.call_extend.proofs.lengthen.Reads as reads
+use Rattle.call_extend.proofs.lengthen.Lts as lts
+use Rattle.fields.proofs.three.Reads as three-reads
+use Rattle.granting.proofs.put_grant.Reads as put-grant-reads
+use Rattle.request.proofs.fulfil.Reads as fulfil-reads
+use Rattle.request.proofs.secondary_of.Reads as secondary-of-reads
+use Rattle.request.proofs.type_byte.Reads as type-byte-reads
+use Rattle.set_at.proofs.set_at.Reads as set-at-reads
+
+-- src/lib.rt:23:9
+set-at-requires : tie.Need-set-at-requires
+set-at-requires c κs = (limits (c .before .before .before .before .before .pre), long (c .before .before .before .before .before .pre), inside (c .before .before .before .before .before .pre))
+
+-- src/lib.rt:26:35
+slice-aggregate-three : tie.Need-slice-aggregate-three
+slice-aggregate-three c = search needs
+
+-- src/lib.rt:26:9
+three-requires : tie.Need-three-requires
+three-requires c κs = search needs
+
+-- src/lib.rt:28:9
+same-length : tie.Need-same-length
+same-length c = search needs
+
+-- src/lib.rt:28:9
+returns : tie.Need-returns
+returns c = λ d. no-secondary d (c .before .before .before .before .before .set-at .ensures) _ (c .before .three2 .ensures .0) (c .if1 .taken)
+
+-- src/lib.rt:30:40
+array-read-secondary-of : tie.Need-array-read-secondary-of
+array-read-secondary-of c = search needs
+
+-- src/lib.rt:30:9
+secondary-of-requires : tie.Need-secondary-of-requires
+secondary-of-requires c κs = search needs
+
+-- src/lib.rt:32:9
+fulfil-requires : tie.Need-fulfil-requires
+fulfil-requires c κs = (limits (c .before .before .before .before .before .before .before .before .before .before .before .before .before .before .pre), map-fits (c .before .before .before .before .before .before .before .before .before .before .before .before .before .before .pre), askable (c .before .before .before .before .before .before .before .before .before .before .before .before .before .before .pre) (c .before .before .before .before .before .before .before .before .set-at .ensures) _ (c .before .before .before .before .three2 .ensures .0) (c .before .before .before .if1 .left) (c .before .before .before .before .three2 .ensures .1) _ refl _ (c .before .before .secondary-of .ensures), search needs)
+
+-- src/lib.rt:34:9
+same-length-2 : tie.Need-same-length-2
+same-length-2 c = search needs
+
+-- src/lib.rt:34:9
+same-length-3 : tie.Need-same-length-3
+same-length-3 c = search needs
+
+-- src/lib.rt:34:9
+returns-2 : tie.Need-returns-2
+returns-2 c = λ d. no-space d (c .before .before .before .before .before .before .before .before .before .before .before .set-at .ensures) _ (c .before .before .before .before .before .before .before .three2 .ensures .0) (c .before .before .before .before .before .before .if1 .left) (c .before .before .before .before .before .before .before .three2 .ensures .1) _ refl _ (c .before .before .before .before .before .secondary-of .ensures) _ _ _ _ (c .before .before .fulfil .ensures) (c .if2 .taken)
+
+-- src/lib.rt:36:8
+add-if3 : tie.Need-add-if3
+add-if3 c = omega (arith, extents-most (c .before .before .before .before .before .before .before .before .before .before .before .before .before .before .before .before .before .before .before .pre) (c .before .before .before .before .before .before .before .before .before .before .before .before .before .set-at .ensures), pieces-most (c .before .before .before .before .before .before .before .before .before .before .before .before .before .before .before .before .before .before .before .pre) (c .before .before .before .before .before .before .before .before .before .before .before .before .before .set-at .ensures) _ (c .before .before .before .before .before .before .before .before .before .three2 .ensures .0) (c .before .before .before .before .before .before .before .before .if1 .left) (c .before .before .before .before .before .before .before .before .before .three2 .ensures .1) _ refl _ (c .before .before .before .before .before .before .before .secondary-of .ensures) _ _ _ _ (c .before .before .before .before .fulfil .ensures) (c .before .before .if2 .left))
+
+-- src/lib.rt:37:9
+same-length-4 : tie.Need-same-length-4
+same-length-4 c = search needs
+
+-- src/lib.rt:37:9
+same-length-5 : tie.Need-same-length-5
+same-length-5 c = search needs
+
+-- src/lib.rt:37:9
+returns-3 : tie.Need-returns-3
+returns-3 c = λ d. too-many d (c .before .before .before .before .before .before .before .before .before .before .before .before .before .before .set-at .ensures) _ (c .before .before .before .before .before .before .before .before .before .before .three2 .ensures .0) (c .before .before .before .before .before .before .before .before .before .if1 .left) (c .before .before .before .before .before .before .before .before .before .before .three2 .ensures .1) _ refl _ (c .before .before .before .before .before .before .before .before .secondary-of .ensures) _ _ _ _ (c .before .before .before .before .before .fulfil .ensures) (c .before .before .before .if2 .left) (c .if3 .taken)
+
+-- src/lib.rt:39:9
+type-byte-requires : tie.Need-type-byte-requires
+type-byte-requires c κs = search needs
+
+-- src/lib.rt:46:5
+put-grant-requires : tie.Need-put-grant-requires
+put-grant-requires c κs =
+    ((limits (c .before .before .before .before .before .before .before .before .before .before .before .before .before .before .before .before .before .before .before .before .before .before .before .before .before .pre), long (c .before .before .before .before .before .before .before .before .before .before .before .before .before .before .before .before .before .before .before .before .before .before .before .before .before .pre), c .before .before .before .before .before .before .before .before .before .before .before .before .before .before .before .before .before .before .before .before .before .before .before .before .before .pre .longMap, c .before .before .before .before .before .before .before .before .before .before .before .before .before .before .before .before .before .before .before .before .before .before .before .before .before .pre .longSlots, c .before .before .before .before .before .before .before .before .before .before .before .before .before .before .before .before .before .before .before .before .before .before .before .before .before .pre .longAnswer, inside (c .before .before .before .before .before .before .before .before .before .before .before .before .before .before .before .before .before .before .before .before .before .before .before .before .before .pre), third-inside (c .before .before .before .before .before .before .before .before .before .before .before .before .before .before .before .before .before .before .before .before .before .before .before .before .before .pre) (c .before .before .before .before .before .before .before .before .before .before .before .before .before .before .before .before .before .before .before .set-at .ensures), pieces-most (c .before .before .before .before .before .before .before .before .before .before .before .before .before .before .before .before .before .before .before .before .before .before .before .before .before .pre) (c .before .before .before .before .before .before .before .before .before .before .before .before .before .before .before .before .before .before .before .set-at .ensures) _ (c .before .before .before .before .before .before .before .before .before .before .before .before .before .before .before .three2 .ensures .0) (c .before .before .before .before .before .before .before .before .before .before .before .before .before .before .if1 .left) (c .before .before .before .before .before .before .before .before .before .before .before .before .before .before .before .three2 .ensures .1) _ refl _ (c .before .before .before .before .before .before .before .before .before .before .before .before .before .secondary-of .ensures) _ _ _ _ (c .before .before .before .before .before .before .before .before .before .before .fulfil .ensures) (c .before .before .before .before .before .before .before .before .if2 .left), c .before .before .before .before .before .if3 .left, sum-most (c .before .before .before .before .before .before .before .before .before .before .before .before .before .before .before .before .before .before .before .before .before .before .before .before .before .pre) (c .before .before .before .before .before .before .before .before .before .before .before .before .before .before .before .before .before .before .before .set-at .ensures) _ (c .before .before .before .before .before .before .before .before .before .before .before .before .before .before .before .three2 .ensures .0) (c .before .before .before .before .before .before .before .before .before .before .before .before .before .before .if1 .left) (c .before .before .before .before .before .before .before .before .before .before .before .before .before .before .before .three2 .ensures .1) _ refl _ (c .before .before .before .before .before .before .before .before .before .before .before .before .before .secondary-of .ensures) _ _ _ _ (c .before .before .before .before .before .before .before .before .before .before .fulfil .ensures) (c .before .before .before .before .before .before .before .before .if2 .left)),
+    grants (c .before .before .before .before .before .before .before .before .before .before .before .before .before .before .before .before .before .before .before .before .before .before .before .before .before .pre) (c .before .before .before .before .before .before .before .before .before .before .before .before .before .before .before .before .before .before .before .set-at .ensures) _ (c .before .before .before .before .before .before .before .before .before .before .before .before .before .before .before .three2 .ensures .0) (c .before .before .before .before .before .before .before .before .before .before .before .before .before .before .if1 .left) (c .before .before .before .before .before .before .before .before .before .before .before .before .before .before .before .three2 .ensures .1) _ refl _ (c .before .before .before .before .before .before .before .before .before .before .before .before .before .secondary-of .ensures) _ _ _ _ (c .before .before .before .before .before .before .before .before .before .before .fulfil .ensures) (c .before .before .before .before .before .before .before .before .if2 .left) (c .before .before .before .before .before .if3 .left) _ (c .before .before .before .before .type-byte .ensures))
+
+-- src/lib.rt:12:1
+same-length-6 : tie.Need-same-length-6
+same-length-6 c = search needs
+
+-- src/lib.rt:12:1
+same-length-7 : tie.Need-same-length-7
+same-length-7 c = search needs
+
+-- src/lib.rt:12:1
+same-length-8 : tie.Need-same-length-8
+same-length-8 c = search needs
+
+-- src/lib.rt:12:1
+same-length-9 : tie.Need-same-length-9
+same-length-9 c = search needs
+
+-- src/lib.rt:12:1
+returns-4 : tie.Need-returns-4
+returns-4 c = λ d. put d (c .before .before .before .before .before .before .before .before .before .before .before .before .before .before .before .before .before .before .before .before .before .before .before .before .before .before .before .before .set-at .ensures) _ (c .before .before .before .before .before .before .before .before .before .before .before .before .before .before .before .before .before .before .before .before .before .before .before .before .three2 .ensures .0) (c .before .before .before .before .before .before .before .before .before .before .before .before .before .before .before .before .before .before .before .before .before .before .before .if1 .left) (c .before .before .before .before .before .before .before .before .before .before .before .before .before .before .before .before .before .before .before .before .before .before .before .before .three2 .ensures .1) _ refl _ (c .before .before .before .before .before .before .before .before .before .before .before .before .before .before .before .before .before .before .before .before .before .before .secondary-of .ensures) _ _ _ _ (c .before .before .before .before .before .before .before .before .before .before .before .before .before .before .before .before .before .before .before .fulfil .ensures) (c .before .before .before .before .before .before .before .before .before .before .before .before .before .before .before .before .before .if2 .left) (c .before .before .before .before .before .before .before .before .before .before .before .before .before .before .if3 .left) _ (c .before .before .before .before .before .before .before .before .before .before .before .before .before .type-byte .ensures) _ _ _ (c .before .before .before .before .before .before .before .before .put-grant .ensures (grants d (c .before .before .before .before .before .before .before .before .before .before .before .before .before .before .before .before .before .before .before .before .before .before .before .before .before .before .before .before .set-at .ensures) _ (c .before .before .before .before .before .before .before .before .before .before .before .before .before .before .before .before .before .before .before .before .before .before .before .before .three2 .ensures .0) (c .before .before .before .before .before .before .before .before .before .before .before .before .before .before .before .before .before .before .before .before .before .before .before .if1 .left) (c .before .before .before .before .before .before .before .before .before .before .before .before .before .before .before .before .before .before .before .before .before .before .before .before .three2 .ensures .1) _ refl _ (c .before .before .before .before .before .before .before .before .before .before .before .before .before .before .before .before .before .before .before .before .before .before .secondary-of .ensures) _ _ _ _ (c .before .before .before .before .before .before .before .before .before .before .before .before .before .before .before .before .before .before .before .fulfil .ensures) (c .before .before .before .before .before .before .before .before .before .before .before .before .before .before .before .before .before .if2 .left) (c .before .before .before .before .before .before .before .before .before .before .before .before .before .before .if3 .left) _ (c .before .before .before .before .before .before .before .before .before .before .before .before .before .type-byte .ensures)))
+
+pub lengthen-spec : {M : Type 1} → statement M
+lengthen-spec =
+    tie.close
+    (tie.spec
+    set-at-requires
+    slice-aggregate-three
+    three-requires
+    same-length
+    returns
+    array-read-secondary-of
+    secondary-of-requires
+    fulfil-requires
+    same-length-2
+    same-length-3
+    returns-2
+    add-if3
+    same-length-4
+    same-length-5
+    returns-3
+    type-byte-requires
+    put-grant-requires
+    same-length-6
+    same-length-7
+    same-length-8
+    same-length-9
+    returns-4)

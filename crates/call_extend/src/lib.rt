@@ -1,0 +1,68 @@
+// Extend: the secondary amount for a data set.
+use forms::Geometry;
+use granting::Holder;
+use names::Found;
+use set_change::Records;
+ghost use mathlib.Core.Path.{_≡_};
+ghost use Rattle.rules.specs.Contracts.{Extends};
+ghost use Rattle.forms.specs.Forms.{geometryOf};
+ghost use Rattle.call_extend.specs.Longer.{Extended, Longer};
+
+// Grants the data set whose format 1 is in slot k its secondary amount: 0, 8, 9, 10 or 11.
+fn lengthen(
+    table: &mut [u8],
+    g: Geometry,
+    map: &mut [u64],
+    empty: &mut [u64],
+    k: usize,
+    answer: &mut [u8],
+) -> u32
+    requires { ⌜ Longer (now table) (now map) (now empty) (now answer) (geometryOf g) k ⌝ }
+    ensures { λ r. ⌜ ((d : Longer (now (table .entry)) (now (map .entry)) (now (empty .entry)) (now (answer .entry)) (geometryOf g) k) → Extended d r (now (table .exit)) (now (answer .exit))) ⌝ }
+{
+    let held = set_at::set_at(table, g, k);
+    let one = held.one;
+    let three = held.three;
+    let secondary = fields::three(&one, 95); // DS1SCALO
+    if secondary == 0 {
+        return 8;
+    }
+    let amount = request::secondary_of(one[94], secondary);
+    let mut pieces = [[0u16; 2]; 5];
+    let chosen = request::fulfil(map, g, amount, &mut pieces);
+    if chosen.count == 0 {
+        return 9;
+    }
+    if held.count + chosen.count > 16 {
+        return 10;
+    }
+    let kind = request::type_byte(amount);
+    let set = Holder {
+        slot: k,
+        third: held.third,
+        extents: held.count,
+    };
+    let recs = Records { one, three };
+    granting::put_grant(table, g, map, empty, set, recs, kind, pieces, chosen, answer)
+}
+
+pub fn extend(table: &mut [u8], name: &[u8], answer: &mut [u8]) -> u32
+    ensures { λ r. ⌜ Extends (now (table .entry)) (now (name .entry)) (now (answer .entry)) r (now (table .exit)) (now (answer .exit)) ⌝ }
+{
+    let mut map = [0u64; 1024];
+    let mut empty = [0u64; 8];
+    let lengths = opening::answer_and_name(answer.len(), name.len());
+    let r = opening::open(table, lengths, &mut map, &mut empty);
+    if r != 0 {
+        return r;
+    }
+    if fields::name_ok(name) {} else {
+        return 4;
+    }
+    let g = opening::geometry(table);
+    let n = (g.tracks * g.records) as usize;
+    let Found::Slot(k) = names::find(table, n, name) else {
+        return 5;
+    };
+    lengthen(table, g, &mut map, &mut empty, k, answer)
+}

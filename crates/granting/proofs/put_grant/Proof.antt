@@ -1,0 +1,102 @@
+use Prim.Native.Nat.{_*_}
+use lib.ListN.{length}
+use native.Mathlib.Omega.{arith}
+use Rattle.granting.proofs.Laws.{done, draft, full, members-fit, pieces-in}
+use borrow.Author.Needs.{needs}
+use Rattle.granting.proofs.put_grant.Statement.{statement}
+use Rattle.granting.proofs.put_grant.Tie as tie
+use Rattle.granting.proofs.put_grant.Reads as reads
+use Rattle.granting.proofs.put_grant.Lts as lts
+use Rattle.answers.proofs.put_granted.Reads as put-granted-reads
+use Rattle.commit.proofs.put_set.Reads as put-set-reads
+use Rattle.granting.proofs.few.Reads as few-reads
+use Rattle.granting.proofs.members.Reads as members-reads
+use Rattle.set_change.proofs.add_pieces.Reads as add-pieces-reads
+use Rattle.set_change.proofs.take_pieces.Reads as take-pieces-reads
+
+-- src/lib.rt:57:9
+members-requires : tie.Need-members-requires
+members-requires c κs = search needs
+
+-- src/lib.rt:58:5
+take-pieces-requires : tie.Need-take-pieces-requires
+take-pieces-requires c κs = (c .before .before .before .before .before .before .before .pre .0 .7, pieces-in (c .before .before .before .before .before .before .before .pre .1) _ (omega (arith, c .before .before .before .before .before .before .before .pre .0 .2, c .before .before .before .before .before .before .before .pre .0 .0 .tracksMost)))
+
+-- src/lib.rt:59:9
+add-pieces-requires : tie.Need-add-pieces-requires
+add-pieces-requires c κs = (c .before .before .before .before .before .before .before .before .before .before .pre .0 .7, c .before .before .before .before .before .before .before .before .before .before .pre .0 .8, c .before .before .before .before .before .before .before .before .before .before .pre .0 .0, pieces-in (c .before .before .before .before .before .before .before .before .before .before .pre .1) 65535 (c .before .before .before .before .before .before .before .before .before .before .pre .0 .0 .tracksMost))
+
+-- src/lib.rt:60:9
+few-requires : tie.Need-few-requires
+few-requires c κs = search needs
+
+-- src/lib.rt:63:8
+put-set-requires : tie.Need-put-set-requires
+put-set-requires c κs =
+    let d = c .before .before .before .before .before .before .before .before .before .before .before .before .before .before .before .before .before .pre .1 in
+    ((c .before .before .before .before .before .before .before .before .before .before .before .before .before .before .before .before .before .pre .0 .0, c .before .before .before .before .before .before .before .before .before .before .before .before .before .before .before .before .before .pre .0 .1, omega (arith, c .before .before .before .before .before .before .before .before .before .before .before .before .before .before .before .before .before .pre .0 .2, c .before .before .before .before .before .before .before .before .before .before .before .before .before .before .before .before .before .pre .0 .0 .tracksMost, c .before .before .before .before .before .before .before .before .before .take-pieces .ensures .long), c .before .before .before .before .before .before .before .before .before .before .before .before .before .before .before .before .before .pre .0 .3, members-fit d _ (c .before .before .before .before .before .before .before .before .before .before .before .members .ensures), c .before .before .before .before .before .before .before .before .before .before .before .before .before .before .before .before .before .pre .0 .5, c .before .before .before .before .before .before .before .before .before .before .before .before .before .before .before .before .before .pre .0 .6),
+    draft d _ (c .before .before .before .before .before .before .before .before .before .take-pieces .ensures) _ (c .before .before .before .before .before .before .before .before .before .before .before .members .ensures) _ (c .before .before .before .before .before .few .ensures) _ _ (c .before .before .before .before .before .before .add-pieces .ensures (d .label) (d .pieces) (d .extentsAre) (d .rowsAre) (d .records)))
+
+-- src/lib.rt:64:9
+same-length : tie.Need-same-length
+same-length c = search needs
+
+-- src/lib.rt:64:9
+same-length-2 : tie.Need-same-length-2
+same-length-2 c = search needs
+
+-- src/lib.rt:64:9
+same-length-3 : tie.Need-same-length-3
+same-length-3 c = search needs
+
+-- src/lib.rt:64:9
+returns : tie.Need-returns
+returns c = λ d.
+    let x = c .before .before .before .before .before .before .before .before .before .before .before .before .add-pieces .ensures (d .label) (d .pieces) (d .extentsAre) (d .rowsAre) (d .records) in
+    full d _ (c .before .before .before .before .before .before .before .before .before .before .before .before .before .before .before .take-pieces .ensures) _ (c .before .before .before .before .before .before .before .before .before .before .before .before .before .before .before .before .before .members .ensures) _ (c .before .before .before .before .before .before .before .before .before .before .before .few .ensures) _ _ x _ _ (c .before .before .before .before .before .put-set .ensures (draft d _ (c .before .before .before .before .before .before .before .before .before .before .before .before .before .before .before .take-pieces .ensures) _ (c .before .before .before .before .before .before .before .before .before .before .before .before .before .before .before .before .before .members .ensures) _ (c .before .before .before .before .before .before .before .before .before .before .before .few .ensures) _ _ x)) _ (c .if1 .left)
+
+-- src/lib.rt:66:5
+put-granted-requires : tie.Need-put-granted-requires
+put-granted-requires c κs = (c .before .before .before .before .before .before .before .before .before .before .before .before .before .before .before .before .before .before .before .before .before .before .before .before .pre .0 .4, c .before .before .before .before .before .before .before .before .before .before .before .before .before .before .before .before .before .before .before .before .before .before .before .before .pre .0 .7, omega (arith, c .before .before .before .before .before .before .before .before .before .before .before .before .before .before .before .before .before .before .before .before .before .before .before .before .pre .0 .9))
+
+-- src/lib.rt:41:1
+same-length-4 : tie.Need-same-length-4
+same-length-4 c = search needs
+
+-- src/lib.rt:41:1
+same-length-5 : tie.Need-same-length-5
+same-length-5 c = search needs
+
+-- src/lib.rt:41:1
+same-length-6 : tie.Need-same-length-6
+same-length-6 c = search needs
+
+-- src/lib.rt:41:1
+same-length-7 : tie.Need-same-length-7
+same-length-7 c = search needs
+
+-- src/lib.rt:41:1
+returns-2 : tie.Need-returns-2
+returns-2 c = λ d.
+    let x = c .before .before .before .before .before .before .before .before .before .before .before .before .before .before .before .before .add-pieces .ensures (d .label) (d .pieces) (d .extentsAre) (d .rowsAre) (d .records) in
+    done d _ (c .before .before .before .before .before .before .before .before .before .before .before .before .before .before .before .before .before .before .before .take-pieces .ensures) _ (c .before .before .before .before .before .before .before .before .before .before .before .before .before .before .before .before .before .before .before .before .before .members .ensures) _ (c .before .before .before .before .before .before .before .before .before .before .before .before .before .before .before .few .ensures) _ _ x _ _ (c .before .before .before .before .before .before .before .before .before .put-set .ensures (draft d _ (c .before .before .before .before .before .before .before .before .before .before .before .before .before .before .before .before .before .before .before .take-pieces .ensures) _ (c .before .before .before .before .before .before .before .before .before .before .before .before .before .before .before .before .before .before .before .before .before .members .ensures) _ (c .before .before .before .before .before .before .before .before .before .before .before .before .before .before .before .few .ensures) _ _ x)) _ (c .before .before .before .before .if1 .taken) _ (c .before .before .put-granted .ensures)
+
+pub put-grant-spec : {M : Type 1} → statement M
+put-grant-spec =
+    tie.close
+    (tie.spec
+    members-requires
+    take-pieces-requires
+    add-pieces-requires
+    few-requires
+    put-set-requires
+    same-length
+    same-length-2
+    same-length-3
+    returns
+    put-granted-requires
+    same-length-4
+    same-length-5
+    same-length-6
+    same-length-7
+    returns-2)
