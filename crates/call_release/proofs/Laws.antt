@@ -1,0 +1,152 @@
+-- Release: the draft that is written, and the call. Assumes nothing.
+use mathlib.Core.Path.{_≡_, refl, sym, ap, ap₂, _∙_, subst}
+use mathlib.Core.Bool.{Bool, true, false, cond}
+use mathlib.Core.Option.{Option, none, some}
+use mathlib.Core.List.{List, [], _∷_, _++_}
+use Prim.Native.Nat.{ℕ, zero, suc, _+_, _-_, _/_, _≤_, _<_}
+use native.Mathlib.Omega.{arith}
+use lib.Dec.{T, eqb, leb, leb→le, ltb, ltb→lt}
+use lib.ListN.{length}
+use Rattle.model.specs.Basics.{bit}
+use Rattle.model.specs.Model.{Extent, Geometry, Label, Run, Volume, held, oneSlot, runsOf, slots, slotsOf, tally, total, tracks, used}
+use Rattle.model.proofs.Lists.{and-l, and-r, sum-append, true-is}
+use Rattle.rules.specs.Calls.{accept, answer, givenBack, goodTtr, release, release₁, rule, settled, unless}
+use Rattle.rules.specs.Entries.{lent, result, written}
+use Rattle.rules.specs.Slots.{kept3, settleWith, without}
+use Rattle.rules.proofs.Grants.{release-keeps}
+use Rattle.rules.proofs.Kept.{Keeps}
+use Rattle.rules.proofs.Settle.{used-tally}
+use Rattle.rules.proofs.Valid.{Valid, slots-tally}
+use Rattle.tracks.specs.Map.{Shows}
+use Rattle.tracks.proofs.Held.{shows-same}
+use Rattle.label_check.specs.Marks.{units}
+use Rattle.commit.specs.Commit.{Committed, Draft}
+use Rattle.commit.proofs.Sets.{held-apart, held-front, others-stay, slots-inside, slots-once, slots-shown, used-apart}
+use Rattle.set_change.specs.Change.{extentsIn}
+use Rattle.set_at.proofs.Laws.{Known}
+use Rattle.giving.specs.Giving.{At, FreedSlot, Measures}
+use Rattle.giving.proofs.Calls.{Names}
+use Rattle.call_release.specs.Shorter.{CutTo, shorter}
+
+pub releases : (name : List ℕ) (ttr : ℕ) → Names (release name ttr) name (λ v. release₁ v name ttr)
+unfolding rule
+releases name ttr = record { lengths = refl; rules = λ v. refl; none = λ v. refl }
+
+-- what a good TTR says
+pub ttr-fits : (ttr all : ℕ) → goodTtr ttr all ≡ true → (ttr < 16777216) × (ttr / 256 + 1 ≤ all)
+ttr-fits ttr all h =
+    let t : T (goodTtr ttr all) = true-is h in
+    let a : T (ltb ttr 16777216) = search (and-l, and-r) in
+    let b : T (leb (ttr / 256 + 1) all) = search (and-l, and-r) in
+    (ltb→lt _ _ a, leb→le _ _ b)
+
+-- what `cut_set` asks
+pub cut-fits : (g : Geometry) (l : Label) (one three : List ℕ) (count third : ℕ) (k : Known g l one three count third) → length (extentsIn g one three count) ≤ 16
+cut-fits g l one three count third k = let a = ap length (k .extents) in let b = k .many in let c = k .set .most in omega arith
+
+-- what `free_slot` asks
+pub freed-small : (few : Bool) (third q n k : ℕ) → q ≡ cond few third 0 → third ≡ k → k < n → n ≤ 468 → q < 512
+freed-small true third q n k e f u w = omega arith
+freed-small false third q n k e f u w = omega arith
+
+-- the slots before, by those after and the one that is freed
+slots-cut : (few : Bool) (l : Label) (i : ℕ) → tally i (slotsOf l) ≡ tally i (oneSlot (cond few (l .slot3) 0)) + tally i (oneSlot (l .slot) ++ oneSlot (cond few 0 (l .slot3)))
+slots-cut true l i =
+    let a = sum-append (λ x. bit (eqb x i)) (oneSlot (l .slot)) (oneSlot (l .slot3)) in
+    let b = sum-append (λ x. bit (eqb x i)) (oneSlot (l .slot)) (oneSlot 0) in
+    omega arith
+slots-cut false l i = omega arith
+
+module _ (g : Geometry) (t m s : List ℕ) (k : ℕ) (d : At g t m s k) (ttr : ℕ) where
+  abbrev v : Volume
+  v = d .volume
+
+  abbrev l : Label
+  l = d .it .label
+
+  abbrev others : List Label
+  others = without (d .name) (v .labels)
+
+  abbrev l₀ : Label
+  l₀ = shorter ttr l
+
+  module _ (one three : List ℕ) (count third all was : ℕ) (x : Measures g v l one three count third all was) where
+    pub bad-ttr : (a : List ℕ) → goodTtr ttr all ≡ false → result 12 (lent t a []) ≡ written (lent t a []) (release₁ v (d .name) ttr (some l))
+    bad-ttr a h =
+        let q : goodTtr ttr (total (runsOf l)) ≡ false = ap (goodTtr ttr) (sym (x .sum)) ∙ h in
+        sym (ap (λ (b : Bool). written (lent t a []) (unless b 12 (settled (givenBack (total (runsOf l) - (ttr / 256 + 1))) (settleWith v others l₀)))) q)
+
+    module _ (ok : goodTtr ttr all ≡ true) (m′ one₂ three₂ : List ℕ) (few : Bool) (y : CutTo g l ttr m m′ one₂ three₂ few) (q : ℕ) (s′ : List ℕ) (eq : q ≡ cond few third 0) (f : FreedSlot q s s′) where
+      good : goodTtr ttr (total (runsOf l)) ≡ true
+      good = ap (goodTtr ttr) (sym (x .sum)) ∙ ok
+
+      rule-is : release₁ v (d .name) ttr (some l) ≡ settled (givenBack (total (runsOf l) - (ttr / 256 + 1))) (settleWith v others l₀)
+      rule-is = ap (λ (b : Bool). unless b 12 (settled (givenBack (total (runsOf l) - (ttr / 256 + 1))) (settleWith v others l₀))) good
+
+      pub tracks-shown : Shows m′ (tracks g) (held g (kept3 l₀ ∷ others))
+      tracks-shown =
+          let a : Shows m (tracks (v .geometry)) (runsOf l ++ held (v .geometry) others) = shows-same m (tracks (v .geometry)) (held (v .geometry) (v .labels)) (runsOf l ++ held (v .geometry) others) (λ t u. held-apart v (d .ready .valid) (d .name) l (d .it .same) t) (d .shown .freeTracks) in
+          let b : Shows m (tracks g) (runsOf l ++ held g others) = subst (λ (y : Geometry). Shows m (tracks y) (runsOf l ++ held y others)) (sym (d .geometryIs)) a in
+          shows-same m′ (tracks g) (runsOf l₀ ++ held g others) (held g (kept3 l₀ ∷ others)) (λ t u. held-front g (kept3 l₀) others t) (y .held (tracks g) (held g others) b)
+
+      tallies : (i : ℕ) → tally i (used (v .labels) (v .chain)) ≡ tally i (oneSlot q ++ used (kept3 l₀ ∷ others) (v .chain))
+      tallies i =
+          let a = used-apart v (d .ready .valid) (d .name) l (d .it .same) i in
+          let b = sum-append (λ x. bit (eqb x i)) (slotsOf l) (used others (v .chain)) in
+          let c = used-tally others (v .chain) i in
+          let e = used-tally (kept3 l₀ ∷ others) (v .chain) i in
+          let h = slots-tally others i in
+          let j = slots-tally (kept3 l₀ ∷ others) i in
+          let n = sum-append (λ x. bit (eqb x i)) (oneSlot q) (used (kept3 l₀ ∷ others) (v .chain)) in
+          let o : tally i (oneSlot q) ≡ tally i (oneSlot (cond few (l .slot3) 0)) = ap (λ (z : ℕ). tally i (oneSlot z)) (eq ∙ ap (λ (z : ℕ). cond few z 0) (x .known .slot3)) in
+          let p : tally i (slotsOf (kept3 l₀)) ≡ tally i (oneSlot (l .slot) ++ oneSlot (cond few 0 (l .slot3))) = ap (λ (b : Bool). tally i (oneSlot (l .slot) ++ oneSlot (cond b 0 (l .slot3)))) (sym (y .fewIs)) in
+          let r = slots-cut few l i in
+          omega arith
+
+      pub slots-free : Shows s′ (slots g) (units (used (kept3 l₀ ∷ others) (v .chain)))
+      slots-free =
+          let us = used (kept3 l₀ ∷ others) (v .chain) in
+          let a : Shows s (slots (v .geometry)) (units (oneSlot q ++ us)) = slots-shown s (slots (v .geometry)) (used (v .labels) (v .chain)) (oneSlot q ++ us) (λ i u. tallies i) (d .shown .freeSlots) in
+          f .freed (slots g) us (subst (λ (y : Geometry). Shows s (slots y) (units (oneSlot q ++ us))) (sym (d .geometryIs)) a)
+
+      pub stays-valid : (w : Volume) → settleWith v others l₀ ≡ some w → Valid w
+      stays-valid w e =
+          let r = givenBack (total (runsOf l) - (ttr / 256 + 1)) in
+          let z : Keeps v (release (d .name) ttr) (accept r w) = subst (Keeps v (release (d .name) ttr)) (rule-is ∙ ap (settled r) e) (release-keeps v (d .ready .valid) (d .name) l (d .it .same) ttr) in
+          z .valid
+
+      -- what `put_set` asks
+      abbrev pub draft : Draft g t m′ s′ was k third few one₂ three₂
+      draft =
+          record {
+            volume = v;
+            others = others;
+            label = l₀;
+            ready = d .ready;
+            geometryIs = sym (d .geometryIs);
+            members = x .members;
+            slotIs = sym (d .it .slot);
+            thirdIs = x .known .slot3;
+            fewIs = y .fewIs;
+            shownTracks = tracks-shown;
+            shownSlots = slots-free;
+            written = y .records .one;
+            writtenThird = λ _. y .records .three;
+            stays = others-stay v (d .ready .valid) (d .name) l (d .it .same) l₀ refl refl;
+            slotOnce = slots-once v (d .ready .valid) (d .name) l (d .it .same) l₀ refl refl;
+            slotIn = subst (λ (y : Geometry). (i : ℕ) → slots y ≤ i → tally i (used (l₀ ∷ others) (v .chain)) ≡ 0) (sym (d .geometryIs)) (slots-inside v (d .ready .valid) (d .name) l (d .it .same) l₀ refl refl);
+            valid = stays-valid;
+          }
+
+      module _ (a t′ : List ℕ) (b : Bool) (put : (z : Draft g t m′ s′ was k third few one₂ three₂) → Committed z t′ b) where
+        pub full : b ≡ false → result 11 (lent t′ a []) ≡ written (lent t a []) (release₁ v (d .name) ttr (some l))
+        full h =
+            let z = put draft in
+            ap (λ (y : List ℕ). result 11 (lent y a [])) (z .same h)
+            ∙ sym (ap (written (lent t a [])) (rule-is ∙ ap (settled (givenBack (total (runsOf l) - (ttr / 256 + 1)))) (z .full h)))
+
+        pub cut-done : b ≡ true → (a′ : List ℕ) → a′ ≡ answer (givenBack (all - (ttr / 256 + 1))) → result 0 (lent t′ a′ []) ≡ written (lent t a []) (release₁ v (d .name) ttr (some l))
+        cut-done h a′ ea =
+            let z = put draft .done h in
+            ap₂ (λ (y w : List ℕ). result 0 (lent y w [])) (z .2) (ea ∙ ap (λ (n : ℕ). answer (givenBack (n - (ttr / 256 + 1)))) (x .sum))
+            ∙ sym (ap (written (lent t a [])) (rule-is ∙ ap (settled (givenBack (total (runsOf l) - (ttr / 256 + 1)))) (z .1)))

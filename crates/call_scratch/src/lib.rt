@@ -1,0 +1,61 @@
+// Scratch: a data set taken off the volume.
+use forms::Geometry;
+use names::Found;
+ghost use mathlib.Core.Path.{_≡_};
+ghost use mathlib.Core.Option.{some};
+ghost use mathlib.Core.List.{[]};
+ghost use Prim.Native.Nat.{_*_, _≤_, _<_};
+ghost use lib.ListN.{length};
+ghost use Rattle.model.specs.Model.{slots, tracks};
+ghost use Rattle.rules.specs.Calls.{scratch₁};
+ghost use Rattle.rules.specs.Contracts.{Scratches};
+ghost use Rattle.rules.specs.Entries.{lent, result, written};
+ghost use Rattle.rules.proofs.Valid.{Limits};
+ghost use Rattle.forms.specs.Forms.{geometryOf};
+ghost use Rattle.giving.specs.Giving.{At};
+
+// Takes out the data set in slot k. Its tracks and slots are free before new format 5s are placed.
+fn scratch_set(
+    table: &mut [u8],
+    g: Geometry,
+    map: &mut [u64],
+    empty: &mut [u64],
+    k: usize,
+    answer: &mut [u8],
+) -> u32
+    requires { ⌜ Limits (geometryOf g) × (length (now table) ≡ 140 * slots (geometryOf g)) × (tracks (geometryOf g) ≤ 64 * length (now map)) × (length (now empty) ≡ 8) × (k < slots (geometryOf g)) × (length (now answer) ≡ 24) ⌝ }
+    requires { ⌜ At (geometryOf g) (now table) (now map) (now empty) k ⌝ }
+    ensures { λ r. ⌜ ((d : At (geometryOf g) (now (table .entry)) (now (map .entry)) (now (empty .entry)) k) → result r (lent (now (table .exit)) (now (answer .exit)) []) ≡ written (lent (now (table .entry)) (now (answer .entry)) []) (scratch₁ (d .volume) (d .name) (some (d .it .label)))) ⌝ }
+{
+    let x = giving::measure(table, g, k, map);
+    let one = x.one;
+    let three = x.three;
+    set_change::give_tail(&one, &three, x.count, g, 0, map);
+    giving::free_slot(empty, k);
+    giving::free_slot(empty, x.third);
+    if commit::drop_set(table, g, map, empty, x.was, k, x.third) {} else {
+        return 11;
+    }
+    answers::put_back(answer, x.tracks);
+    0
+}
+
+pub fn scratch(table: &mut [u8], name: &[u8], answer: &mut [u8]) -> u32
+    ensures { λ r. ⌜ Scratches (now (table .entry)) (now (name .entry)) (now (answer .entry)) r (now (table .exit)) (now (answer .exit)) ⌝ }
+{
+    let mut map = [0u64; 1024];
+    let mut empty = [0u64; 8];
+    let lengths = opening::answer_and_name(answer.len(), name.len());
+    let r = opening::open(table, lengths, &mut map, &mut empty);
+    if r != 0 {
+        return r;
+    }
+    if fields::name_ok(name) {} else {
+        return 4;
+    }
+    let g = opening::geometry(table);
+    let Found::Slot(k) = names::find(table, (g.tracks * g.records) as usize, name) else {
+        return 5;
+    };
+    scratch_set(table, g, &mut map, &mut empty, k, answer)
+}

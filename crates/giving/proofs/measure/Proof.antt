@@ -1,0 +1,45 @@
+use Rattle.forms.specs.Forms.{geometryOf}
+use Rattle.giving.proofs.Laws.{measured, set-of}
+use borrow.Author.Needs.{needs}
+use Rattle.giving.proofs.measure.Statement.{statement}
+use Rattle.giving.proofs.measure.Tie as tie
+use Rattle.giving.proofs.measure.Reads as reads
+use Rattle.giving.proofs.measure.Lts as lts
+use Rattle.giving.proofs.members.Reads as members-reads
+use Rattle.set_at.proofs.set_at.Reads as set-at-reads
+use Rattle.set_change.proofs.set_tracks.Reads as set-tracks-reads
+
+-- src/lib.rt:38:9
+set-at-requires : tie.Need-set-at-requires
+set-at-requires c κs = search needs
+
+-- src/lib.rt:41:38
+slice-aggregate-set-tracks : tie.Need-slice-aggregate-set-tracks
+slice-aggregate-set-tracks c = search needs
+
+-- src/lib.rt:41:44
+slice-aggregate-set-tracks-2 : tie.Need-slice-aggregate-set-tracks-2
+slice-aggregate-set-tracks-2 c = search needs
+
+-- src/lib.rt:41:9
+set-tracks-requires : tie.Need-set-tracks-requires
+set-tracks-requires c κs = set-of (geometryOf (c .before .before .before .before .before .before .before .args .g)) (c .before .before .before .before .before .before .before .args .table .now) (c .before .before .before .before .before .before .before .args .map .now) (c .before .before .before .before .before .before .before .pre .1 .0) (c .before .before .before .before .before .before .before .args .k) (c .before .before .before .before .before .before .before .pre .1 .1) _ _ _ _ (c .before .before .before .before .set-at .ensures)
+
+-- src/lib.rt:42:9
+members-requires : tie.Need-members-requires
+members-requires c κs = search needs
+
+-- src/lib.rt:33:1
+returns : tie.Need-returns
+returns c = λ s d. measured (geometryOf (c .before .before .before .before .before .before .before .before .before .args .g)) (c .before .before .before .before .before .before .before .before .before .args .table .now) (c .before .before .before .before .before .before .before .before .before .args .map .now) s (c .before .before .before .before .before .before .before .before .before .args .k) d _ _ _ _ (c .before .before .before .before .before .before .set-at .ensures) _ _ (c .before .set-tracks .ensures) (c .members .ensures)
+
+pub measure-spec : {M : Type 1} → statement M
+measure-spec =
+    tie.close
+    (tie.spec
+    set-at-requires
+    slice-aggregate-set-tracks
+    slice-aggregate-set-tracks-2
+    set-tracks-requires
+    members-requires
+    returns)

@@ -1,0 +1,32 @@
+-- A data set that is to give tracks back: where it was found, and what is known of it. Assumes nothing.
+use mathlib.Core.Path.{_≡_}
+use Prim.Native.Nat.{ℕ}
+use mathlib.Core.List.{List, _++_}
+use lib.ListN.{length}
+use Rattle.model.specs.Model.{Geometry, Label, Volume, oneSlot, runsOf, total}
+use Rattle.tracks.specs.Map.{Shows}
+use Rattle.label_check.specs.Marks.{units}
+use Rattle.table_check.specs.Check.{Shown}
+use Rattle.opening.proofs.Laws.{Ready}
+use Rattle.opening.proofs.Lookup.{FoundAt}
+use Rattle.set_at.proofs.Laws.{Known}
+
+-- slot k of the table t has the data set of this name; the maps m and s show what the volume holds
+pub record At (g : Geometry) (t m s : List ℕ) (k : ℕ) : Type 0 where
+  pub volume : Volume
+  pub name : List ℕ
+  pub ready : Ready t volume
+  pub geometryIs : g ≡ volume .geometry
+  pub shown : Shown volume m s
+  pub it : FoundAt t volume name k
+
+-- the records of its label l, its tracks, and the members of the chain of format 5s before the call
+pub record Measures (g : Geometry) (v : Volume) (l : Label) (one three : List ℕ) (count third all was : ℕ) : Type 0 where
+  pub known : Known g l one three count third
+  pub sum : all ≡ total (runsOf l)
+  pub members : was ≡ length (v .chain)
+
+-- slot k, 0 for none, has become free, however many slots the map is taken to show
+pub record FreedSlot (k : ℕ) (s s′ : List ℕ) : Type 0 where
+  pub long : length s′ ≡ length s
+  pub freed : (n : ℕ) (us : List ℕ) → Shows s n (units (oneSlot k ++ us)) → Shows s′ n (units us)
