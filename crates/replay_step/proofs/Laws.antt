@@ -6,7 +6,7 @@ use native.Mathlib.Omega.{arith}
 use borrow.Author.Tests.{ne-eqb}
 use lib.ListN.{length, take, drop, getD, take-append-drop}
 use lib.Seq.{length-take-le}
-use Rattle.rules.specs.Calls.{Call, lspace, obtain, rename}
+use Rattle.rules.specs.Calls.{Call, allocate, extend, lspace, obtain, release, rename, scratch}
 use Rattle.rules.specs.Contracts.{geometry}
 use Rattle.rules.specs.Entries.{Lent, Result, initialise, lent, perform, result}
 use Rattle.recorded.specs.Asked.{answerLent, bytesOf, get4, labelsLent, nameOf, otherOf, overAt, tableLent}
@@ -63,6 +63,22 @@ module _ (r : List ℕ) (b : Lent) {x : Result} (op : ℕ) where
   unfolding operated
   op-1 e h = rw e h
 
+  pub op-2 : op ≡ 2 → x ≡ called r b (allocate (nameOf r) (otherOf r) (get4 r 8) (get4 r 12) (get4 r 16) (get4 r 20)) → x ≡ operated op r b
+  unfolding operated
+  op-2 e h = rw e h
+
+  pub op-3 : op ≡ 3 → x ≡ called r b (extend (nameOf r)) → x ≡ operated op r b
+  unfolding operated
+  op-3 e h = rw e h
+
+  pub op-4 : op ≡ 4 → x ≡ called r b (release (nameOf r) (get4 r 8)) → x ≡ operated op r b
+  unfolding operated
+  op-4 e h = rw e h
+
+  pub op-5 : op ≡ 5 → x ≡ called r b (scratch (nameOf r)) → x ≡ laterOp op r b
+  unfolding laterOp
+  op-5 e h = rw e h
+
   pub op-6 : op ≡ 6 → x ≡ called r b (rename (nameOf r) (otherOf r)) → x ≡ laterOp op r b
   unfolding laterOp
   op-6 e h = rw e h
@@ -79,13 +95,13 @@ module _ (r : List ℕ) (b : Lent) {x : Result} (op : ℕ) where
   unfolding laterOp
   op-9 e h = rw e h
 
-  pub op-later : (op ≡ 1 → ⊥) → x ≡ laterOp op r b → x ≡ operated op r b
+  pub op-later : (op ≡ 1 → ⊥) → (op ≡ 2 → ⊥) → (op ≡ 3 → ⊥) → (op ≡ 4 → ⊥) → x ≡ laterOp op r b → x ≡ operated op r b
   unfolding operated
-  op-later e h = rw (ne-eqb op 1 e) h
+  op-later e₁ e₂ e₃ e₄ h = rw (ne-eqb op 1 e₁, ne-eqb op 2 e₂, ne-eqb op 3 e₃, ne-eqb op 4 e₄) h
 
-  pub op-other : (op ≡ 6 → ⊥) → (op ≡ 7 → ⊥) → (op ≡ 8 → ⊥) → (op ≡ 9 → ⊥) → x ≡ result 99 b → x ≡ laterOp op r b
+  pub op-other : (op ≡ 5 → ⊥) → (op ≡ 6 → ⊥) → (op ≡ 7 → ⊥) → (op ≡ 8 → ⊥) → (op ≡ 9 → ⊥) → x ≡ result 99 b → x ≡ laterOp op r b
   unfolding laterOp
-  op-other e₁ e₂ e₃ e₄ h = rw (ne-eqb op 6 e₁, ne-eqb op 7 e₂, ne-eqb op 8 e₃, ne-eqb op 9 e₄) h
+  op-other e₁ e₂ e₃ e₄ e₅ h = rw (ne-eqb op 5 e₁, ne-eqb op 6 e₂, ne-eqb op 7 e₃, ne-eqb op 8 e₄, ne-eqb op 9 e₅) h
 
 -- ---- put, and the line
 
@@ -110,3 +126,10 @@ step-done {line} {t′} {a′} {l′} {r} asked t a l e f h k =
 -- so many bytes are lent
 pub lent-long : (n m : ℕ) (t : List ℕ) → length t ≡ m → n ≤ m → n ≡ length (take n t)
 lent-long n m t h k = sym (length-take-le n t (omega arith))
+
+pub same-request : {n n′ at at′ : List ℕ} {k k′ s s′ a a′ v v′ : ℕ} → n ≡ n′ → at ≡ at′ → k ≡ k′ → s ≡ s′ → a ≡ a′ → v ≡ v′
+    → allocate n at k s a v ≡ allocate n′ at′ k′ s′ a′ v′
+same-request {n} {n′} {at} {at′} {k} {k′} {s} {s′} {a} {a′} {v} {v′} e₁ e₂ e₃ e₄ e₅ e₆ =
+    ap₂ (λ (x y : List ℕ). allocate x y k s a v) e₁ e₂
+    ∙ ap₂ (λ (x y : ℕ). allocate n′ at′ x y a v) e₃ e₄
+    ∙ ap₂ (λ (x y : ℕ). allocate n′ at′ k′ s′ x y) e₅ e₆

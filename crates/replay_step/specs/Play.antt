@@ -7,7 +7,7 @@ use mathlib.Core.List.{List, [], _++_}
 use lib.Dec.{eqb}
 use lib.ListN.{getD, take, drop, replicate}
 use Rattle.model.specs.Model.{Geometry}
-use Rattle.rules.specs.Calls.{Call, lspace, obtain, rename}
+use Rattle.rules.specs.Calls.{Call, allocate, extend, lspace, obtain, release, rename, scratch}
 use Rattle.rules.specs.Contracts.{geometry}
 use Rattle.rules.specs.Entries.{Lent, Result, initialise, lent, perform, result}
 use Rattle.recorded.specs.Asked.{answerLent, bytesOf, get4, labelsLent, nameOf, otherOf, overAt, tableLent}
@@ -48,19 +48,23 @@ loaded r b = result 0 (lent (overAt (get4 r 8) (bytesOf r) (b .table)) (b .answe
 abbrev pub Loads : (asked t : List ℕ) (r : ℕ) (t′ : List ℕ) → Type 0
 Loads asked t r t′ = (a l : List ℕ) → result r (lent t′ a l) ≡ loaded asked (lent t a l)
 
--- ---- by the operation: 1 initialise, 6 rename, 7 obtain, 8 LSPACE, 9 put. NOT YET: 2 to 5 are like unknown ones until
--- their calls are there
+-- ---- by the operation: 1 initialise, 2 allocate, 3 extend, 4 release, 5 scratch, 6 rename, 7 obtain, 8 LSPACE, 9 put
 
 unfoldable pub laterOp : ℕ → List ℕ → Lent → Result
 laterOp op r b =
-    cond (eqb op 6) (called r b (rename (nameOf r) (otherOf r)))
+    cond (eqb op 5) (called r b (scratch (nameOf r)))
+    (cond (eqb op 6) (called r b (rename (nameOf r) (otherOf r)))
     (cond (eqb op 7) (obtained r b)
     (cond (eqb op 8) (called r b lspace)
-    (cond (eqb op 9) (loaded r b) (result 99 b))))
+    (cond (eqb op 9) (loaded r b) (result 99 b)))))
 
 unfoldable pub operated : ℕ → List ℕ → Lent → Result
 operated op r b =
-    cond (eqb op 1) (initialised r b) (laterOp op r b)
+    cond (eqb op 1) (initialised r b)
+    (cond (eqb op 2) (called r b (allocate (nameOf r) (otherOf r) (get4 r 8) (get4 r 12) (get4 r 16) (get4 r 20)))
+    (cond (eqb op 3) (called r b (extend (nameOf r)))
+    (cond (eqb op 4) (called r b (release (nameOf r) (get4 r 8)))
+    (laterOp op r b))))
 
 -- ---- a record: "before each record the answer buffer is filled with X'A5' and the labels buffer with X'5A'"
 

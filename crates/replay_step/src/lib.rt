@@ -2,9 +2,9 @@
 ghost use mathlib.Core.Path.{_≡_};
 ghost use Prim.Native.Nat.{_≤_, _<_};
 ghost use lib.ListN.{getD, length};
-ghost use Rattle.rules.specs.Calls.{lspace, rename};
+ghost use Rattle.rules.specs.Calls.{allocate, extend, lspace, release, rename, scratch};
 ghost use Rattle.rules.specs.Entries.{lent, result};
-ghost use Rattle.recorded.specs.Asked.{nameOf, otherOf};
+ghost use Rattle.recorded.specs.Asked.{get4, nameOf, otherOf};
 ghost use Rattle.replay_step.specs.Play.{Does, Loads, both, called, freshAnswer, freshLabels, initialised, laterOp, lineFor, loaded, obtained, operated, played};
 
 // ---- the calls, each with the lent first bytes of the buffers
@@ -21,6 +21,63 @@ fn do_initialise(asked: &[u8], table: &mut [u8], answer: &mut [u8]) -> u32
     let s = recorded::four(asked, 20);
     let v = recorded::four(asked, 24);
     call_initialise::initialise(&mut table[..n], c, h, d, s, v, &mut answer[..k])
+}
+
+fn do_allocate(asked: &[u8], table: &mut [u8], answer: &mut [u8]) -> u32
+    requires { ⌜ (length (now asked) ≡ 128) × (length (now table) ≡ 65536) × (length (now answer) ≡ 32) ⌝ }
+    ensures { λ r. ⌜ Does (λ b. called (now (asked .entry)) b (allocate (nameOf (now (asked .entry))) (otherOf (now (asked .entry))) (get4 (now (asked .entry)) 8) (get4 (now (asked .entry)) 12) (get4 (now (asked .entry)) 16) (get4 (now (asked .entry)) 20))) (now (table .entry)) (now (answer .entry)) r (now (table .exit)) (now (answer .exit)) ⌝ }
+{
+    let n = recorded::table_lent(asked);
+    let k = recorded::answer_lent(asked);
+    let kind = recorded::four(asked, 8);
+    let start = recorded::four(asked, 12);
+    let amount = recorded::four(asked, 16);
+    let secondary = recorded::four(asked, 20);
+    let name = recorded::name_of(asked);
+    let attributes = recorded::other_of(asked);
+    call_allocate::allocate(
+        &mut table[..n],
+        name,
+        attributes,
+        kind,
+        start,
+        amount,
+        secondary,
+        &mut answer[..k],
+    )
+}
+
+fn do_extend(asked: &[u8], table: &mut [u8], answer: &mut [u8]) -> u32
+    requires { ⌜ (length (now asked) ≡ 128) × (length (now table) ≡ 65536) × (length (now answer) ≡ 32) ⌝ }
+    ensures { λ r. ⌜ Does (λ b. called (now (asked .entry)) b (extend (nameOf (now (asked .entry))))) (now (table .entry)) (now (answer .entry)) r (now (table .exit)) (now (answer .exit)) ⌝ }
+{
+    let n = recorded::table_lent(asked);
+    let k = recorded::answer_lent(asked);
+    call_extend::extend(&mut table[..n], recorded::name_of(asked), &mut answer[..k])
+}
+
+fn do_release(asked: &[u8], table: &mut [u8], answer: &mut [u8]) -> u32
+    requires { ⌜ (length (now asked) ≡ 128) × (length (now table) ≡ 65536) × (length (now answer) ≡ 32) ⌝ }
+    ensures { λ r. ⌜ Does (λ b. called (now (asked .entry)) b (release (nameOf (now (asked .entry))) (get4 (now (asked .entry)) 8))) (now (table .entry)) (now (answer .entry)) r (now (table .exit)) (now (answer .exit)) ⌝ }
+{
+    let n = recorded::table_lent(asked);
+    let k = recorded::answer_lent(asked);
+    let ttr = recorded::four(asked, 8);
+    call_release::release(
+        &mut table[..n],
+        recorded::name_of(asked),
+        ttr,
+        &mut answer[..k],
+    )
+}
+
+fn do_scratch(asked: &[u8], table: &mut [u8], answer: &mut [u8]) -> u32
+    requires { ⌜ (length (now asked) ≡ 128) × (length (now table) ≡ 65536) × (length (now answer) ≡ 32) ⌝ }
+    ensures { λ r. ⌜ Does (λ b. called (now (asked .entry)) b (scratch (nameOf (now (asked .entry))))) (now (table .entry)) (now (answer .entry)) r (now (table .exit)) (now (answer .exit)) ⌝ }
+{
+    let n = recorded::table_lent(asked);
+    let k = recorded::answer_lent(asked);
+    call_scratch::scratch(&mut table[..n], recorded::name_of(asked), &mut answer[..k])
 }
 
 fn do_rename(asked: &[u8], table: &mut [u8], answer: &mut [u8]) -> u32
@@ -78,6 +135,9 @@ fn play_later(asked: &[u8], table: &mut [u8], answer: &mut [u8], labels: &mut [u
     ensures { λ r. ⌜ result r (lent (now (table .exit)) (now (answer .exit)) (now (labels .exit))) ≡ laterOp (getD (now (asked .entry)) 0 0) (now (asked .entry)) (lent (now (table .entry)) (now (answer .entry)) (now (labels .entry))) ⌝ }
 {
     let op = asked[0];
+    if op == 5 {
+        return do_scratch(asked, table, answer);
+    }
     if op == 6 {
         return do_rename(asked, table, answer);
     }
@@ -100,6 +160,15 @@ fn play(asked: &[u8], table: &mut [u8], answer: &mut [u8], labels: &mut [u8]) ->
     let op = asked[0];
     if op == 1 {
         return do_initialise(asked, table, answer);
+    }
+    if op == 2 {
+        return do_allocate(asked, table, answer);
+    }
+    if op == 3 {
+        return do_extend(asked, table, answer);
+    }
+    if op == 4 {
+        return do_release(asked, table, answer);
     }
     play_later(asked, table, answer, labels)
 }
