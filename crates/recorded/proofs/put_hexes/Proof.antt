@@ -1,0 +1,71 @@
+use Prim.Native.Nat.{ℕ, _≤_, _*_, _-_}
+use mathlib.Core.Path.{_≡_, subst}
+use lib.ListN.{length, take}
+use native.Mathlib.Omega.{arith}
+use Rattle.recorded.specs.Line.{Wrote, hex}
+use Rattle.recorded.proofs.Laws.{hex-none, hex-next, hex-done}
+use borrow.Author.Needs.{needs}
+use Rattle.recorded.proofs.put_hexes.Statement.{statement}
+use Rattle.recorded.proofs.put_hexes.Tie as tie
+use Rattle.recorded.proofs.put_hexes.Reads as reads
+use Rattle.recorded.proofs.put_hexes.Lts as lts
+use Rattle.fields.proofs.wide.Reads as wide-reads
+use Rattle.recorded.proofs.put_hex.Reads as put-hex-reads
+
+abbrev Inv-loop : tie.InvT-loop
+Inv-loop out₀ at s p₀ i₀ out p i = (i ≤ length s) × Wrote at (hex (take i s)) (2 * i) out₀ out p
+
+abbrev μ-loop : tie.MeasureT-loop
+μ-loop out₀ at s p₀ i₀ out p i = length s - i
+
+-- src/lib.rt:154:5
+loop-holds : tie.Need-loop-holds Inv-loop μ-loop
+loop-holds c = (omega arith, hex-none (c .before .before .args .out .now) (c .before .before .args .at))
+
+-- src/lib.rt:155:42
+shared-slice-read-wide : tie.Need-shared-slice-read-wide Inv-loop μ-loop
+shared-slice-read-wide c = search needs
+
+-- src/lib.rt:155:29
+wide-requires : tie.Need-wide-requires Inv-loop μ-loop
+wide-requires c κs = search needs
+
+-- src/lib.rt:155:9
+put-hex-requires : tie.Need-put-hex-requires Inv-loop μ-loop
+put-hex-requires c κs = search needs
+
+-- src/lib.rt:156:9
+add-i : tie.Need-add-i Inv-loop μ-loop
+add-i c = search needs
+
+-- src/lib.rt:154:5
+loop-less : tie.Need-loop-less Inv-loop μ-loop
+loop-less c = search needs
+
+-- src/lib.rt:154:5
+loop-again : tie.Need-loop-again Inv-loop μ-loop
+loop-again c = (search needs, hex-next (c .before .before .before .before .before .before .before .before .before .before .args .s .now) (c .before .before .before .before .before .before .before .loop .i) (c .before .before .before .before .before .before .loop-test .taken) (c .before .before .before .before .before .before .before .loop .inv .1) (rw (c .before .before .before .wide .ensures .0) at (c .before .before .put-hex .ensures)))
+
+-- src/lib.rt:148:1
+same-length : tie.Need-same-length Inv-loop μ-loop
+same-length c = search needs
+
+-- src/lib.rt:148:1
+returns : tie.Need-returns Inv-loop μ-loop
+returns c = hex-done (c .before .before .before .before .args .s .now) (c .before .loop .i) (c .before .loop .inv .0) (c .loop-test .left) (c .before .loop .inv .1)
+
+pub put-hexes-spec : {M : Type 1} → statement M
+put-hexes-spec =
+    tie.close
+    (tie.spec
+    Inv-loop
+    μ-loop
+    loop-holds
+    shared-slice-read-wide
+    wide-requires
+    put-hex-requires
+    add-i
+    loop-less
+    loop-again
+    same-length
+    returns)

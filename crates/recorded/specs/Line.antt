@@ -1,0 +1,51 @@
+-- The line that is printed for a record (docs/REPLAY.md), and how it is written into a buffer. Assumes nothing.
+use mathlib.Core.Path.{_≡_}
+use Prim.Native.Nat.{ℕ, _+_, _*_, _/_, _%_}
+use mathlib.Core.Bool.{cond}
+use mathlib.Core.List.{List, [], _∷_, _++_}
+use lib.ListN.{length, take}
+use lib.Dec.{ltb}
+use Rattle.model.specs.Basics.{flat}
+
+-- ---- digits
+
+abbrev pub hexDigit : ℕ → ℕ
+hexDigit v = cond (ltb v 10) (0x30 + v) (0x37 + v)
+
+abbrev pub hexByte : ℕ → List ℕ
+hexByte b = hexDigit (b / 16) ∷ hexDigit (b % 16) ∷ []
+
+-- two digits for each byte
+unfoldable pub hex : List ℕ → List ℕ
+hex s = flat hexByte s
+
+-- the last two decimal digits
+abbrev pub twoDigits : ℕ → List ℕ
+twoDigits n = (0x30 + n / 10 % 10) ∷ (0x30 + n % 10) ∷ []
+
+-- a big-endian number of four bytes
+abbrev pub be4 : ℕ → List ℕ
+be4 n = n / 16777216 ∷ n / 65536 % 256 ∷ n / 256 % 256 ∷ n % 256 ∷ []
+
+-- ---- the digest: Adler-32
+
+unfoldable pub digestFrom : ℕ → ℕ → List ℕ → ℕ
+digestFrom a b [] = b * 65536 + a
+digestFrom a b (x ∷ xs) = digestFrom ((a + x) % 65521) ((b + (a + x) % 65521) % 65521) xs
+
+unfoldable pub digest : List ℕ → ℕ
+digest s = digestFrom 1 0 s
+
+-- ---- the line: operation, result, answer, and the digests of table and labels
+
+unfoldable pub lineOf : (op result : ℕ) (answer : List ℕ) (table labels : ℕ) → List ℕ
+lineOf op result answer table labels =
+    hexByte op
+    ++ ((0x20 ∷ twoDigits result)
+    ++ ((0x20 ∷ hex answer) ++ ((0x20 ∷ hex (be4 table)) ++ ((0x20 ∷ hex (be4 labels)) ++ (0x0A ∷ [])))))
+
+-- s, of n bytes, was written at place i, what stands before it is kept, and r is the place behind it
+pub record Wrote (i : ℕ) (s : List ℕ) (n : ℕ) (out out′ : List ℕ) (r : ℕ) : Type 0 where
+  pub long : length out′ ≡ length out
+  pub end : r ≡ i + n
+  pub text : take r out′ ≡ take i out ++ s

@@ -1,0 +1,14 @@
+use Rattle.replay_step.specs.Play.{freshLabels}
+use mathlib.Core.Path.{refl}
+use Rattle.replay_step.proofs.fresh_labels.Statement.{statement}
+use Rattle.replay_step.proofs.fresh_labels.Tie as tie
+use Rattle.replay_step.proofs.fresh_labels.Reads as reads
+use Rattle.replay_step.proofs.fresh_labels.Lts as lts
+
+-- src/lib.rt:159:1
+returns : tie.Need-returns
+unfolding freshLabels
+returns c = (refl, refl)
+
+pub fresh-labels-spec : {M : Type 1} → statement M
+fresh-labels-spec = tie.close (tie.spec returns)

@@ -1,0 +1,96 @@
+-- What is done with a record (docs/REPLAY.md): its result, the buffers after it, and its line. `Lent` holds the three
+-- buffers whole here: the table, the answer and the labels. Assumes nothing.
+use mathlib.Core.Path.{_≡_}
+use Prim.Native.Nat.{ℕ}
+use mathlib.Core.Bool.{cond}
+use mathlib.Core.List.{List, [], _++_}
+use lib.Dec.{eqb}
+use lib.ListN.{getD, take, drop, replicate}
+use Rattle.model.specs.Model.{Geometry}
+use Rattle.rules.specs.Calls.{Call, allocate, extend, lspace, obtain, release, rename, scratch}
+use Rattle.rules.specs.Contracts.{geometry}
+use Rattle.rules.specs.Entries.{Lent, Result, initialise, lent, perform, result}
+use Rattle.recorded.specs.Asked.{answerLent, bytesOf, get4, labelsLent, nameOf, otherOf, overAt, tableLent}
+use Rattle.recorded.specs.Line.{digest, lineOf}
+
+-- ---- a call, with the lent first bytes of the buffers; the bytes behind them stay. Only obtain is lent labels
+
+abbrev pub lentOf : List ℕ → Lent → List ℕ → Lent
+lentOf r b l = lent (take (tableLent r) (b .table)) (take (answerLent r) (b .answer)) l
+
+-- the buffers whole, from the lent bytes after the call
+abbrev pub whole : List ℕ → Lent → Result → List ℕ → Result
+whole r b p l =
+    result (p .number) (lent (p .after .table ++ drop (tableLent r) (b .table)) (p .after .answer ++ drop (answerLent r) (b .answer)) l)
+
+unfoldable pub initialised : List ℕ → Lent → Result
+initialised r b =
+    whole r b (initialise (geometry (get4 r 8) (get4 r 12) (get4 r 16) (get4 r 20) (get4 r 24)) (lentOf r b [])) (b .labels)
+
+unfoldable pub called : List ℕ → Lent → Call → Result
+called r b c = whole r b (perform (lentOf r b []) c) (b .labels)
+
+abbrev pub withLabels : List ℕ → Lent → Result → Result
+withLabels r b p = whole r b p (p .after .labels ++ drop (labelsLent r) (b .labels))
+
+unfoldable pub obtained : List ℕ → Lent → Result
+obtained r b = withLabels r b (perform (lentOf r b (take (labelsLent r) (b .labels))) (obtain (nameOf r)))
+
+-- r is the result and t′, a′ are table and answer after it, whatever the labels are; these stay
+abbrev pub Does : (Lent → Result) → (t a : List ℕ) (r : ℕ) (t′ a′ : List ℕ) → Type 0
+Does f t a r t′ a′ = (l : List ℕ) → result r (lent t′ a′ l) ≡ f (lent t a l)
+
+-- ---- put
+
+unfoldable pub loaded : List ℕ → Lent → Result
+loaded r b = result 0 (lent (overAt (get4 r 8) (bytesOf r) (b .table)) (b .answer) (b .labels))
+
+abbrev pub Loads : (asked t : List ℕ) (r : ℕ) (t′ : List ℕ) → Type 0
+Loads asked t r t′ = (a l : List ℕ) → result r (lent t′ a l) ≡ loaded asked (lent t a l)
+
+-- ---- by the operation: 1 initialise, 2 allocate, 3 extend, 4 release, 5 scratch, 6 rename, 7 obtain, 8 LSPACE, 9 put
+
+unfoldable pub laterOp : ℕ → List ℕ → Lent → Result
+laterOp op r b =
+    cond (eqb op 5) (called r b (scratch (nameOf r)))
+    (cond (eqb op 6) (called r b (rename (nameOf r) (otherOf r)))
+    (cond (eqb op 7) (obtained r b)
+    (cond (eqb op 8) (called r b lspace)
+    (cond (eqb op 9) (loaded r b) (result 99 b)))))
+
+unfoldable pub operated : ℕ → List ℕ → Lent → Result
+operated op r b =
+    cond (eqb op 1) (initialised r b)
+    (cond (eqb op 2) (called r b (allocate (nameOf r) (otherOf r) (get4 r 8) (get4 r 12) (get4 r 16) (get4 r 20)))
+    (cond (eqb op 3) (called r b (extend (nameOf r)))
+    (cond (eqb op 4) (called r b (release (nameOf r) (get4 r 8)))
+    (laterOp op r b))))
+
+-- ---- a record: "before each record the answer buffer is filled with X'A5' and the labels buffer with X'5A'"
+
+unfoldable pub freshAnswer : List ℕ
+freshAnswer = replicate 32 0xA5
+
+unfoldable pub freshLabels : List ℕ
+freshLabels = replicate 288 0x5A
+
+-- the result and the buffers after it
+unfoldable pub done : List ℕ → List ℕ → Result
+done r t = operated (getD r 0 0) r (lent t freshAnswer freshLabels)
+
+-- its line, of the lent bytes after it
+unfoldable pub lineFor : List ℕ → Result → List ℕ
+lineFor r p =
+    lineOf (getD r 0 0) (p .number) (take 24 (p .after .answer)) (digest (take (tableLent r) (p .after .table)))
+    (digest (take (labelsLent r) (p .after .labels)))
+
+-- the line and the table after a record, from the record and the table before
+pub record Played : Type 0 where
+  pub line : List ℕ
+  pub table : List ℕ
+
+abbrev pub both : List ℕ → List ℕ → Played
+both l t = record { line = l; table = t }
+
+unfoldable pub played : List ℕ → List ℕ → Played
+played r t = both (lineFor r (done r t)) (done r t .after .table)

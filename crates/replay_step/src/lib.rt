@@ -1,0 +1,213 @@
+// One record played (docs/REPLAY.md).
+ghost use mathlib.Core.Path.{_≡_};
+ghost use Prim.Native.Nat.{_≤_, _<_};
+ghost use lib.ListN.{getD, length};
+ghost use Rattle.rules.specs.Calls.{allocate, extend, lspace, release, rename, scratch};
+ghost use Rattle.rules.specs.Entries.{lent, result};
+ghost use Rattle.recorded.specs.Asked.{get4, nameOf, otherOf};
+ghost use Rattle.replay_step.specs.Play.{Does, Loads, both, called, freshAnswer, freshLabels, initialised, laterOp, lineFor, loaded, obtained, operated, played};
+
+// ---- the calls, each with the lent first bytes of the buffers
+
+fn do_initialise(asked: &[u8], table: &mut [u8], answer: &mut [u8]) -> u32
+    requires { ⌜ (length (now asked) ≡ 128) × (length (now table) ≡ 65536) × (length (now answer) ≡ 32) ⌝ }
+    ensures { λ r. ⌜ Does (initialised (now (asked .entry))) (now (table .entry)) (now (answer .entry)) r (now (table .exit)) (now (answer .exit)) ⌝ }
+{
+    let n = recorded::table_lent(asked);
+    let k = recorded::answer_lent(asked);
+    let c = recorded::four(asked, 8);
+    let h = recorded::four(asked, 12);
+    let d = recorded::four(asked, 16);
+    let s = recorded::four(asked, 20);
+    let v = recorded::four(asked, 24);
+    call_initialise::initialise(&mut table[..n], c, h, d, s, v, &mut answer[..k])
+}
+
+fn do_allocate(asked: &[u8], table: &mut [u8], answer: &mut [u8]) -> u32
+    requires { ⌜ (length (now asked) ≡ 128) × (length (now table) ≡ 65536) × (length (now answer) ≡ 32) ⌝ }
+    ensures { λ r. ⌜ Does (λ b. called (now (asked .entry)) b (allocate (nameOf (now (asked .entry))) (otherOf (now (asked .entry))) (get4 (now (asked .entry)) 8) (get4 (now (asked .entry)) 12) (get4 (now (asked .entry)) 16) (get4 (now (asked .entry)) 20))) (now (table .entry)) (now (answer .entry)) r (now (table .exit)) (now (answer .exit)) ⌝ }
+{
+    let n = recorded::table_lent(asked);
+    let k = recorded::answer_lent(asked);
+    let kind = recorded::four(asked, 8);
+    let start = recorded::four(asked, 12);
+    let amount = recorded::four(asked, 16);
+    let secondary = recorded::four(asked, 20);
+    let name = recorded::name_of(asked);
+    let attributes = recorded::other_of(asked);
+    call_allocate::allocate(
+        &mut table[..n],
+        name,
+        attributes,
+        kind,
+        start,
+        amount,
+        secondary,
+        &mut answer[..k],
+    )
+}
+
+fn do_extend(asked: &[u8], table: &mut [u8], answer: &mut [u8]) -> u32
+    requires { ⌜ (length (now asked) ≡ 128) × (length (now table) ≡ 65536) × (length (now answer) ≡ 32) ⌝ }
+    ensures { λ r. ⌜ Does (λ b. called (now (asked .entry)) b (extend (nameOf (now (asked .entry))))) (now (table .entry)) (now (answer .entry)) r (now (table .exit)) (now (answer .exit)) ⌝ }
+{
+    let n = recorded::table_lent(asked);
+    let k = recorded::answer_lent(asked);
+    call_extend::extend(&mut table[..n], recorded::name_of(asked), &mut answer[..k])
+}
+
+fn do_release(asked: &[u8], table: &mut [u8], answer: &mut [u8]) -> u32
+    requires { ⌜ (length (now asked) ≡ 128) × (length (now table) ≡ 65536) × (length (now answer) ≡ 32) ⌝ }
+    ensures { λ r. ⌜ Does (λ b. called (now (asked .entry)) b (release (nameOf (now (asked .entry))) (get4 (now (asked .entry)) 8))) (now (table .entry)) (now (answer .entry)) r (now (table .exit)) (now (answer .exit)) ⌝ }
+{
+    let n = recorded::table_lent(asked);
+    let k = recorded::answer_lent(asked);
+    let ttr = recorded::four(asked, 8);
+    call_release::release(
+        &mut table[..n],
+        recorded::name_of(asked),
+        ttr,
+        &mut answer[..k],
+    )
+}
+
+fn do_scratch(asked: &[u8], table: &mut [u8], answer: &mut [u8]) -> u32
+    requires { ⌜ (length (now asked) ≡ 128) × (length (now table) ≡ 65536) × (length (now answer) ≡ 32) ⌝ }
+    ensures { λ r. ⌜ Does (λ b. called (now (asked .entry)) b (scratch (nameOf (now (asked .entry))))) (now (table .entry)) (now (answer .entry)) r (now (table .exit)) (now (answer .exit)) ⌝ }
+{
+    let n = recorded::table_lent(asked);
+    let k = recorded::answer_lent(asked);
+    call_scratch::scratch(&mut table[..n], recorded::name_of(asked), &mut answer[..k])
+}
+
+fn do_rename(asked: &[u8], table: &mut [u8], answer: &mut [u8]) -> u32
+    requires { ⌜ (length (now asked) ≡ 128) × (length (now table) ≡ 65536) × (length (now answer) ≡ 32) ⌝ }
+    ensures { λ r. ⌜ Does (λ b. called (now (asked .entry)) b (rename (nameOf (now (asked .entry))) (otherOf (now (asked .entry))))) (now (table .entry)) (now (answer .entry)) r (now (table .exit)) (now (answer .exit)) ⌝ }
+{
+    let n = recorded::table_lent(asked);
+    let k = recorded::answer_lent(asked);
+    call_rename::rename(
+        &mut table[..n],
+        recorded::name_of(asked),
+        recorded::other_of(asked),
+        &mut answer[..k],
+    )
+}
+
+fn do_obtain(asked: &[u8], table: &[u8], answer: &mut [u8], labels: &mut [u8]) -> u32
+    requires { ⌜ (length (now asked) ≡ 128) × (length (now table) ≡ 65536) × (length (now answer) ≡ 32) × (length (now labels) ≡ 288) ⌝ }
+    ensures { λ r. ⌜ result r (lent (now (table .entry)) (now (answer .exit)) (now (labels .exit))) ≡ obtained (now (asked .entry)) (lent (now (table .entry)) (now (answer .entry)) (now (labels .entry))) ⌝ }
+{
+    let n = recorded::table_lent(asked);
+    let k = recorded::answer_lent(asked);
+    let m = recorded::labels_lent(asked);
+    call_obtain::obtain(
+        &table[..n],
+        recorded::name_of(asked),
+        &mut labels[..m],
+        &mut answer[..k],
+    )
+}
+
+fn do_lspace(asked: &[u8], table: &[u8], answer: &mut [u8]) -> u32
+    requires { ⌜ (length (now asked) ≡ 128) × (length (now table) ≡ 65536) × (length (now answer) ≡ 32) ⌝ }
+    ensures { λ r. ⌜ Does (λ b. called (now (asked .entry)) b lspace) (now (table .entry)) (now (answer .entry)) r (now (table .entry)) (now (answer .exit)) ⌝ }
+{
+    let n = recorded::table_lent(asked);
+    let k = recorded::answer_lent(asked);
+    call_lspace::lspace(&table[..n], &mut answer[..k])
+}
+
+fn do_put(asked: &[u8], table: &mut [u8]) -> u32
+    requires { ⌜ length (now asked) ≡ 128 ⌝ }
+    ensures { λ r. ⌜ Loads (now (asked .entry)) (now (table .entry)) r (now (table .exit)) ⌝ }
+{
+    let place = recorded::four(asked, 8);
+    recorded::put_over(table, place as usize, recorded::bytes_of(asked));
+    0
+}
+
+// ---- by the operation
+
+// The operations from 5 on.
+fn play_later(asked: &[u8], table: &mut [u8], answer: &mut [u8], labels: &mut [u8]) -> u32
+    requires { ⌜ (length (now asked) ≡ 128) × (length (now table) ≡ 65536) × (length (now answer) ≡ 32) × (length (now labels) ≡ 288) ⌝ }
+    ensures { λ r. ⌜ result r (lent (now (table .exit)) (now (answer .exit)) (now (labels .exit))) ≡ laterOp (getD (now (asked .entry)) 0 0) (now (asked .entry)) (lent (now (table .entry)) (now (answer .entry)) (now (labels .entry))) ⌝ }
+{
+    let op = asked[0];
+    if op == 5 {
+        return do_scratch(asked, table, answer);
+    }
+    if op == 6 {
+        return do_rename(asked, table, answer);
+    }
+    if op == 7 {
+        return do_obtain(asked, table, answer, labels);
+    }
+    if op == 8 {
+        return do_lspace(asked, table, answer);
+    }
+    if op == 9 {
+        return do_put(asked, table);
+    }
+    99
+}
+
+fn play(asked: &[u8], table: &mut [u8], answer: &mut [u8], labels: &mut [u8]) -> u32
+    requires { ⌜ (length (now asked) ≡ 128) × (length (now table) ≡ 65536) × (length (now answer) ≡ 32) × (length (now labels) ≡ 288) ⌝ }
+    ensures { λ r. ⌜ result r (lent (now (table .exit)) (now (answer .exit)) (now (labels .exit))) ≡ operated (getD (now (asked .entry)) 0 0) (now (asked .entry)) (lent (now (table .entry)) (now (answer .entry)) (now (labels .entry))) ⌝ }
+{
+    let op = asked[0];
+    if op == 1 {
+        return do_initialise(asked, table, answer);
+    }
+    if op == 2 {
+        return do_allocate(asked, table, answer);
+    }
+    if op == 3 {
+        return do_extend(asked, table, answer);
+    }
+    if op == 4 {
+        return do_release(asked, table, answer);
+    }
+    play_later(asked, table, answer, labels)
+}
+
+// ---- the line
+
+// Writes the line of a record, by its result and the buffers after it.
+fn report(asked: &[u8], r: u32, table: &[u8], answer: &[u8], labels: &[u8], line: &mut [u8])
+    requires { ⌜ (length (now asked) ≡ 128) × (length (now table) ≡ 65536) × (length (now answer) ≡ 32) × (length (now labels) ≡ 288) × (length (now line) ≡ 73) ⌝ }
+    ensures { λ _. ⌜ now (line .exit) ≡ lineFor (now (asked .entry)) (result r (lent (now (table .entry)) (now (answer .entry)) (now (labels .entry)))) ⌝ }
+{
+    let n = recorded::table_lent(asked);
+    let m = recorded::labels_lent(asked);
+    let t = recorded::digest(&table[..n]);
+    let l = recorded::digest(&labels[..m]);
+    recorded::put_line(line, asked[0], r, &answer[..24], t, l);
+}
+
+// The answer buffer before a record.
+fn fresh_answer() -> [u8; 32]
+    ensures { λ r. ⌜ (r ≡ freshAnswer) × (length r ≡ 32) ⌝ }
+{
+    [0xA5; 32]
+}
+
+// The labels buffer before a record.
+fn fresh_labels() -> [u8; 288]
+    ensures { λ r. ⌜ (r ≡ freshLabels) × (length r ≡ 288) ⌝ }
+{
+    [0x5A; 288]
+}
+
+// Plays one record: does what it asks for with the table, and writes its line.
+pub fn step(asked: &[u8], table: &mut [u8], line: &mut [u8])
+    requires { ⌜ (length (now asked) ≡ 128) × (length (now table) ≡ 65536) × (length (now line) ≡ 73) ⌝ }
+    ensures { λ _. ⌜ both (now (line .exit)) (now (table .exit)) ≡ played (now (asked .entry)) (now (table .entry)) ⌝ }
+{
+    let mut answer = fresh_answer();
+    let mut labels = fresh_labels();
+    let r = play(asked, table, &mut answer, &mut labels);
+    report(asked, r, table, &answer, &labels, line);
+}
