@@ -13,6 +13,7 @@ use Rattle.model.specs.Model.{Geometry, Run, run}
 use Rattle.model.proofs.Lists.{by}
 use Rattle.rules.specs.Demand3.{entryPlace}
 use Rattle.rules.specs.Layout.{entry, fields5, format5, link, whole}
+use Rattle.rules.proofs.Fields.{length-whole}
 use Rattle.rules.proofs.LabelBack.{length-link}
 use Rattle.rules.proofs.TableBack.{lengths5, lens5}
 use Rattle.tracks.specs.Map.{NextRun, freeFrom}
@@ -86,6 +87,10 @@ next-of (y ∷ F) (suc j) x rest e =
     )
 
 -- j entries are in the record, and the runs from track t on are left
+pub five-long : (g : Geometry) (f : List Run) (k : ℕ) → length (format5 g f k) ≡ 140
+unfolding format5
+five-long g f k = length-whole lengths5 (fields5 g f k) (lens5 g f k)
+
 pub record Filling (g : Geometry) (m : List ℕ) (n at j t : ℕ) (r : List ℕ) : Type 0 where
   pub upTo : t ≤ n
   pub left : freeFrom m n t ≡ drop j (freeFrom m n at)
@@ -94,6 +99,9 @@ pub record Filling (g : Geometry) (m : List ℕ) (n at j t : ℕ) (r : List ℕ)
 module _ (g : Geometry) (m : List ℕ) (n at : ℕ) where
   abbrev F : List Run
   F = freeFrom m n at
+
+  pub filling-long : (j t : ℕ) (r : List ℕ) → Filling g m n at j t r → length r ≡ 140
+  filling-long j t r f = ap length (f .bytes) ∙ five-long g (take j F) 0
 
   pub filling-none : at ≤ n → (r : List ℕ) → r ≡ blank 4 0x05 0xF5 → Filling g m n at 0 at r
   filling-none h r e = record { upTo = h; left = refl; bytes = e ∙ five-none g }

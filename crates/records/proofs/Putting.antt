@@ -29,11 +29,14 @@ put-behind r i a b xs ys e =
     let two : i + 2 ≡ i + 1 + 1 = omega arith in
     put-then (set (set r i a) (i + 1) b) (i + 2) xs ys (i + 6) (omega arith) ∙ ap (λ (k : ℕ). putAt (set (set r i a) (i + 1) b) k (xs ++ ys)) two
 
--- two parts, and a byte behind them
-pub put-parts : (r : List ℕ) (i : ℕ) (xs ys : List ℕ) (x : ℕ) → length xs ≡ 2 → length ys ≡ 2 → set (putAt (putAt r i xs) (i + 2) ys) (i + 4) x ≡ putAt r i (xs ++ ys ++ (x ∷ []))
-put-parts r i xs ys x a b =
-    let n = length-append xs ys in
-    ap (λ (l : List ℕ). set l (i + 4) x) (put-then r i xs ys (i + 2) (omega arith)) ∙ put-next r i (xs ++ ys) (i + 4) x (omega arith)
+-- five bytes, stored one by one
+pub put-five : (r : List ℕ) (i a b c d e : ℕ) → set (set (set (set (set r i a) (i + 1) b) (i + 2) c) (i + 3) d) (i + 4) e ≡ putAt r i (a ∷ b ∷ c ∷ d ∷ e ∷ [])
+unfolding putAt
+put-five r i a b c d e =
+    let two : i + 2 ≡ i + 1 + 1 = omega arith in
+    let three : i + 3 ≡ i + 1 + 1 + 1 = omega arith in
+    let four : i + 4 ≡ i + 1 + 1 + 1 + 1 = omega arith in
+    rw (two, three, four)
 
 -- in a loop: the same byte again, and a row
 pub same-none : (r : List ℕ) (a v : ℕ) → r ≡ putAt r a (replicate (a - a) v)

@@ -86,16 +86,18 @@ pub fn put_extent(
     put_track(first, at + 6, g, start + count - 1)
 }
 
-// Puts an entry of a format 5: start track, whole cylinders, odd tracks.
-pub fn put_entry(rec: [u8; 140], at: usize, g: Geometry, start: u32, count: u32) -> [u8; 140]
-    requires { ⌜ (at + 4 < 140) × (start + count ≤ 65535) × Limits (geometryOf g) ⌝ }
-    ensures { λ r. ⌜ r ≡ putAt rec at (entry (geometryOf g) (run start count)) ⌝ }
+// Puts an entry of a format 5 where the record stands, since 26 of them make one: start track, whole cylinders, odd tracks.
+pub fn put_entry(rec: &mut [u8; 140], at: usize, g: Geometry, start: u32, count: u32)
+    requires { ⌜ (length (now rec) ≡ 140) × (at + 4 < 140) × (start + count ≤ 65535) × Limits (geometryOf g) ⌝ }
+    ensures { λ _. ⌜ now (rec .exit) ≡ putAt (now (rec .entry)) at (entry (geometryOf g) (run start count)) ⌝ }
 {
     let h = g.heads;
-    let begun = put_two(rec, at, start);
-    let mut r = put_two(begun, at + 2, count / h);
-    r[at + 4] = (count % h) as u8;
-    r
+    let whole = count / h;
+    rec[at] = (start / 256) as u8;
+    rec[at + 1] = (start % 256) as u8;
+    rec[at + 2] = (whole / 256) as u8;
+    rec[at + 3] = (whole % 256) as u8;
+    rec[at + 4] = (count % h) as u8;
 }
 
 // ---- rows of bytes
@@ -199,8 +201,7 @@ pub fn five(map: &[u64], n: usize, at: usize, g: Geometry) -> Filled
         if from >= n {
             return Filled { rec, next: n };
         }
-        let more = put_entry(rec, entry_place(j), g, from as u32, (to - from) as u32);
-        rec = more;
+        put_entry(&mut rec, entry_place(j), g, from as u32, (to - from) as u32);
         t = to;
         j += 1;
     }

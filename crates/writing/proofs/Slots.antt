@@ -9,15 +9,14 @@ use lib.Seq.{drop-cons, getD-take, slice, slice-cons}
 use Rattle.model.specs.Basics.{zeros}
 use Rattle.model.specs.Model.{Geometry, Label, Run, oneSlot, tracks}
 use Rattle.model.proofs.Lists.{All}
-use Rattle.rules.specs.Layout.{fields5, fives, format5, headOr0}
+use Rattle.rules.specs.Layout.{fives, format5, headOr0}
 use Rattle.rules.specs.Slots.{withSlots}
-use Rattle.rules.proofs.Fields.{length-whole}
-use Rattle.rules.proofs.TableBack.{lengths5, lens5}
 use Rattle.tracks.specs.Map.{freeFrom}
 use Rattle.fields.specs.Records.{putRecord}
 use Rattle.fields.proofs.Rows.{rest}
 use Rattle.fields.proofs.Slots.{put-length}
 use Rattle.records.specs.Fives.{Fills}
+use Rattle.records.proofs.Format5.{five-long}
 use Rattle.labels.specs.Labels.{Format1}
 use Rattle.writing.specs.Writing.{chainEntry, cleared, fivesPut, labelPut}
 
@@ -110,10 +109,6 @@ unfolding chainEntry
 entry-below n [] i p h = omega arith
 entry-below n (k ∷ ks) zero p h = h .0
 entry-below n (k ∷ ks) (suc i) p h = let r = entry-below n ks i p (h .1) in let e = entry-is ks i in omega arith
-
-five-long : (g : Geometry) (f : List Run) (k : ℕ) → length (format5 g f k) ≡ 140
-unfolding format5
-five-long g f k = length-whole lengths5 (fields5 g f k) (lens5 g f k)
 
 one-more : (g : Geometry) (t : List ℕ) (k : ℕ) (ks : List ℕ) (f : List Run)
     → fivesPut g (putRecord t k (format5 g (take 26 f) (headOr0 ks))) (fives ks (drop 26 f)) ≡ fivesPut g t (fives (k ∷ ks) f)
