@@ -102,7 +102,7 @@ def index():
 def main():
     crate, files = sys.argv[1], sys.argv[2:]
     if not files:
-        files = sorted(glob.glob(f"crates/{crate}/specs/*.antt") + glob.glob(f"crates/{crate}/proofs/*.antt") + glob.glob(f"crates/{crate}/proofs/*/Proof.antt"))
+        files = sorted(glob.glob(f"crates/{crate}/specs/*.antt") + glob.glob(f"crates/{crate}/proofs/*.antt"))
     deps = {crate}
     lines = dict(l.split(":", 1) for l in open("crates.txt").read().split("\n") if l and not l.startswith("#"))
     todo = [crate]
