@@ -117,6 +117,13 @@ impl Call {
     /// Makes the call of `manager`; the result is 0 or the refusal.
     pub fn run(&self, manager: &impl Manager, buffers: &mut Buffers) -> u32 {
         let Buffers { table, answer, labels } = buffers;
+        self.run_on(manager, table, answer, labels)
+    }
+
+    /// The same on buffers that are lent one by one.
+    pub fn run_on(
+        &self, manager: &impl Manager, table: &mut [u8], answer: &mut [u8], labels: &mut [u8],
+    ) -> u32 {
         match self {
             &Call::Initialise { c, h, d, s, v } => manager.initialise(table, c, h, d, s, v, answer),
             Call::Allocate { name, attributes, kind, start, amount, secondary } => manager

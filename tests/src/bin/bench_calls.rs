@@ -90,19 +90,7 @@ impl Volume {
 /// Makes the call on a table that is lent, with output buffers of its own.
 fn make(manager: &impl Manager, call: &Call, table: &mut [u8], wanted: u32) {
     let (mut answer, mut labels) = ([0; 24], [0; 280]);
-    let (answer, labels) = (&mut answer[..], &mut labels[..]);
-    let result = match call {
-        &Call::Initialise { c, h, d, s, v } => manager.initialise(table, c, h, d, s, v, answer),
-        Call::Allocate { name, attributes, kind, start, amount, secondary } => {
-            manager.allocate(table, name, attributes, *kind, *start, *amount, *secondary, answer)
-        }
-        Call::Extend { name } => manager.extend(table, name, answer),
-        Call::Release { name, ttr } => manager.release(table, name, *ttr, answer),
-        Call::Scratch { name } => manager.scratch(table, name, answer),
-        Call::Rename { old, new } => manager.rename(table, old, new, answer),
-        Call::Obtain { name } => manager.obtain(table, name, labels, answer),
-        Call::Lspace => manager.lspace(table, answer),
-    };
+    let result = call.run_on(manager, table, &mut answer, &mut labels);
     assert_eq!(black_box(result), wanted);
 }
 
