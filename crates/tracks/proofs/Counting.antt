@@ -3,7 +3,7 @@ use mathlib.Core.Path.{_≡_, refl, sym, ap, _∙_, subst}
 use mathlib.Core.Bool.{Bool, true, false}
 use mathlib.Core.List.{List, [], _∷_}
 use Prim.Native.Nat.{ℕ, zero, suc, _+_, _-_, _*_, _/_, _%_, _^_, _≤_, _<_, min}
-use native.Mathlib.Nat.{le-refl, div-eq-of-lt, lt-of-le-of-lt}
+use native.Mathlib.Nat.{le-refl, div-eq-of-lt, div-one, lt-of-le-of-lt}
 use native.Mathlib.Omega.{arith}
 use borrow.Author.Tests.{eq-eqb, ne-eqb}
 use lib.Dec.{eqb}
@@ -154,3 +154,23 @@ module _ (m : List ℕ) (y r t : ℕ) (e : t % 64 ≡ 0) (q : bitAt y 0 ≡ bitB
       let z : t + 64 ≡ suc (t + 63) = omega arith in
       let w : 63 - (t + 63) % 64 ≡ 0 = omega arith in
       ap (bitAt (getD m (t / 64) 0)) (sym w) ∙ in-word m (t / 64) (t + 63) (omega arith) ∙ sym (ap (bitBefore m) z)
+
+-- the same for word number w
+module _ (m : List ℕ) (y r w : ℕ) (q : bitAt y 0 ≡ bitBefore m (64 * w)) (s : Starts y (getD m w 0) r) where
+  at-word : Starts y (getD m (64 * w / 64) 0) r
+  at-word = let e : w ≡ 64 * w / 64 = omega arith in subst (λ (i : ℕ). Starts y (getD m i 0) r) e s
+
+  pub count-part : (k : ℕ) → k ≤ 64 → length (runs (isFree m) 0 (64 * w + k)) ≡ length (runs (isFree m) 0 (64 * w)) + ones (r / 2 ^ (64 - k))
+  count-part k h = count-turn m y r (64 * w) (omega arith) q at-word k h
+
+  pub count-word : length (runs (isFree m) 0 (64 * (w + 1))) ≡ length (runs (isFree m) 0 (64 * w)) + ones r
+  count-word =
+      let e : 64 * (w + 1) ≡ 64 * w + 64 = omega arith in
+      let o : ones (r / 2 ^ (64 - 64)) ≡ ones r = ap ones (div-one r) in
+      ap (λ (i : ℕ). length (runs (isFree m) 0 i)) e ∙ omega (arith, count-part 64 (le-refl 64))
+
+  pub word-before : bitAt (getD m w 0) 0 ≡ bitBefore m (64 * (w + 1))
+  word-before =
+      let e : w ≡ 64 * w / 64 = omega arith in
+      let f : 64 * w + 64 ≡ 64 * (w + 1) = omega arith in
+      ap (λ (i : ℕ). bitAt (getD m i 0) 0) e ∙ last-bit m y r (64 * w) (omega arith) q at-word ∙ ap (bitBefore m) f

@@ -129,6 +129,16 @@ unfolding flipped
 flip-bit true x j h = (λ e. e, λ e. e)
 flip-bit false x j h = let n = not-bit x j h in let u : bitAt x j < 2 = omega arith in (λ e. omega arith, λ e. omega arith)
 
+-- a word of zeros, or of ones where b is false
+plain-bit : (b : Bool) (i : ℕ) → i < 64 → bitAt (flipped b 0) i ≡ 1 - bit b
+unfolding flipped
+plain-bit true i h = zero-bit i
+plain-bit false i h = let n = not-bit 0 i h in let z = zero-bit i in omega arith
+
+pub plain-word : (m : List ℕ) (b : Bool) (t : ℕ) → t % 64 ≡ 0 → getD m (t / 64) 0 ≡ flipped b 0 → (j : ℕ) → t ≤ j → j < t + 64 → freeBit m j ≡ 1 - bit b
+unfolding freeBit
+plain-word m b t e q j u v = let w : j / 64 ≡ t / 64 = omega arith in rw (w, q) (plain-bit b (63 - j % 64) (omega arith))
+
 module _ (m : List ℕ) (b : Bool) (t n : ℕ) (k : t % 64 + n ≤ 64) where
   -- what the code counts the leading zeros of: the word from track t on, complemented where b is false
   abbrev pub word : ℕ

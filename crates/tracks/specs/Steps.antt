@@ -28,6 +28,12 @@ pub record First (m : List ℕ) (b : Bool) (s n r : ℕ) : Type 0 where
   pub before : (t : ℕ) → s ≤ t → t < r → freeBit m t ≡ 1 - bit b
   pub here : r < n → freeBit m r ≡ bit b
 
+-- no track from s up to r is free (b true), or all are (b false)
+pub record Passed (m : List ℕ) (b : Bool) (s n r : ℕ) : Type 0 where
+  pub from : s ≤ r
+  pub to : r ≤ n
+  pub before : (t : ℕ) → s ≤ t → t < r → freeBit m t ≡ 1 - bit b
+
 -- the bits of the word x with a clear bit before them, where y is the word before x
 pub record Starts (y x r : ℕ) : Type 0 where
   pub small : r < 2 ^ 64

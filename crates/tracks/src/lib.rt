@@ -4,7 +4,7 @@ ghost use mathlib.Core.Path.{_≡_};
 ghost use Prim.Native.Nat.{_+_, _-_, _*_, _%_, _≤_, _<_, min};
 ghost use lib.ListN.{length};
 ghost use Rattle.tracks.specs.Map.{freeFrom, Begun, Opened, Taken, Given, NextRun};
-ghost use Rattle.tracks.specs.Steps.{block, WordAt, flipped, First, Starts};
+ghost use Rattle.tracks.specs.Steps.{block, WordAt, flipped, First, Passed, Starts};
 
 const ALL: u64 = 0xffff_ffff_ffff_ffff;
 
@@ -104,6 +104,24 @@ fn flip(x: u64, free: bool) -> u64
     if free { x } else { x ^ ALL }
 }
 
+// Passes over whole words from track t on, the first of a word: those in which no track is free, or in which all are. A long
+// run costs a comparison a word.
+fn skip(map: &[u64], t: usize, n: usize, free: bool) -> usize
+    requires { ⌜ (t ≤ n) × (n ≤ 64 * length (now map)) × (t < n → t % 64 ≡ 0) ⌝ }
+    ensures { λ r. ⌜ Passed (now (map .entry)) free t n r ⌝ }
+{
+    let plain = flip(0, free);
+    let mut r = t;
+    while 64 <= n - r {
+        let w = r / 64;
+        if map[w] != plain {
+            return r;
+        }
+        r += 64;
+    }
+    r
+}
+
 // The first track from s on and below n that is free (or is not); n where there is none.
 fn next_track(map: &[u64], s: usize, n: usize, free: bool) -> usize
     requires { ⌜ (s ≤ n) × (n ≤ 64 * length (now map)) ⌝ }
@@ -119,7 +137,7 @@ fn next_track(map: &[u64], s: usize, n: usize, free: bool) -> usize
         if z < k {
             return t + z;
         }
-        t += k;
+        t = skip(map, t + k, n, free);
     }
     n
 }
@@ -155,15 +173,17 @@ pub fn count_runs(map: &[u64], n: usize) -> usize
 {
     let mut count: usize = 0;
     let mut y: u64 = 0;
-    let mut t = 0;
-    while t < n {
-        let k = chunk(t, n);
-        let w = t / 64;
+    let mut w = 0;
+    while w < n / 64 {
         let x = map[w];
-        let s = starts(y, x) >> (64 - k);
-        count += u64::count_ones(s) as usize;
+        count += u64::count_ones(starts(y, x)) as usize;
         y = x;
-        t += k;
+        w += 1;
     }
-    count
+    let k = n % 64;
+    if k == 0 {
+        return count;
+    }
+    let s = starts(y, map[w]) >> (64 - k);
+    count + u64::count_ones(s) as usize
 }

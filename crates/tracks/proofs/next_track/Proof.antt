@@ -1,6 +1,6 @@
 use mathlib.Core.Path.{_≡_, ap}
 use mathlib.Core.Logic.{⊎-elim}
-use Prim.Native.Nat.{ℕ, _≤_, _<_, _-_, _%_, _*_, _^_}
+use Prim.Native.Nat.{ℕ, _+_, _≤_, _<_, _-_, _%_, _*_, _^_}
 use native.Mathlib.Omega.{arith}
 use borrow.Author.Needs.{needs}
 use lib.Count.{leadingZeros, leading-le}
@@ -58,23 +58,33 @@ returns c =
       here = λ _. rw e (on-turn m b t k (omega arith) (omega arith));
     }
 
-add-t : tie.Need-add-t Inv-loop μ-loop
-add-t c = search needs
+add-skip : tie.Need-add-skip Inv-loop μ-loop
+add-skip c = search needs
+
+skip-requires : tie.Need-skip-requires Inv-loop μ-loop
+skip-requires c κs = (omega arith, c .before .before .before .before .before .before .before .pre .1, λ h. omega arith)
 
 loop-less : tie.Need-loop-less Inv-loop μ-loop
-loop-less c = search needs
+loop-less c = omega (arith, c .skip .ensures .from)
 
 loop-again : tie.Need-loop-again Inv-loop μ-loop
 loop-again c =
-    let top = c .before .before .before .before .before .before .before in
-    let at-loop = c .before .before .before .before .before in
+    let top = c .before .before .before .before .before .before .before .before in
+    let at-loop = c .before .before .before .before .before .before in
     let m = top .args .map .now in
     let b = top .args .free in
     let t = at-loop .loop .t in
-    let k = c .before .before .before .chunk .result in
-    let e = ap (λ (x : ℕ). leadingZeros 64 (x * 2 ^ (t % 64) % 2 ^ 64)) (c .before .flip .ensures) in
-    let z : k ≤ leadingZeros 64 (c .before .flip .result * 2 ^ (t % 64) % 2 ^ 64) = c .if1 .left in
-    (omega arith, omega arith, λ j u v. ⊎-elim (λ g. off-turn m b t k (omega arith) j g v (omega arith)) (λ g. at-loop .loop .inv .2 j u g) (le-or-lt t j))
+    let k = c .before .before .before .before .chunk .result in
+    let e = ap (λ (x : ℕ). leadingZeros 64 (x * 2 ^ (t % 64) % 2 ^ 64)) (c .before .before .flip .ensures) in
+    let z : k ≤ leadingZeros 64 (c .before .before .flip .result * 2 ^ (t % 64) % 2 ^ 64) = c .before .if1 .left in
+    let p = c .skip .ensures in
+    let q = p .from in (
+      omega arith,
+      p .to,
+      λ j u v. ⊎-elim (λ f. p .before j f v)
+          (λ f. ⊎-elim (λ g. off-turn m b t k (omega arith) j g f (omega arith)) (λ g. at-loop .loop .inv .2 j u g) (le-or-lt t j))
+          (le-or-lt (t + k) j),
+    )
 
 returns-2 : tie.Need-returns-2 Inv-loop μ-loop
 returns-2 c =
@@ -96,7 +106,8 @@ next-track-spec =
     cast-z
     add-result
     returns
-    add-t
+    add-skip
+    skip-requires
     loop-less
     loop-again
     returns-2)
