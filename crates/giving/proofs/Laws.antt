@@ -12,7 +12,7 @@ use Rattle.tracks.proofs.Held.{shows-give}
 use Rattle.label_check.specs.Marks.{units}
 use Rattle.table_check.proofs.Free.{free-shown}
 use Rattle.set_change.specs.Change.{SetIn, extentsIn}
-use Rattle.settling.proofs.Chains.{chain-short}
+use Rattle.free_list.proofs.Chain.{chain-short}
 use Rattle.set_at.specs.Held.{SetAt}
 use Rattle.set_at.proofs.Laws.{Known, known}
 use Rattle.giving.specs.Giving.{At, FreedSlot, Measures}

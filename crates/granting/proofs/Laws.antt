@@ -24,7 +24,7 @@ use Rattle.request.proofs.Laws.{Good, pieces-room}
 use Rattle.set_change.specs.Change.{InRecords, Piece, TookPieces}
 use Rattle.set_change.specs.Change.{granted as more}
 use Rattle.set_change.proofs.Laws.{pieces-good}
-use Rattle.settling.proofs.Chains.{chain-short}
+use Rattle.free_list.proofs.Chain.{chain-short}
 use Rattle.commit.specs.Commit.{Becomes, Committed, Draft}
 use Rattle.commit.proofs.Put.{free-of}
 use Rattle.commit.proofs.Sets.{slots-shown}

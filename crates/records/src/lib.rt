@@ -170,7 +170,7 @@ pub fn four(g: Geometry, highest: usize, empty: usize) -> [u8; 140]
 // ---- format 5
 
 // Where entry j stands: 8 from byte 4, 18 from byte 45.
-fn entry_place(j: usize) -> usize
+pub fn entry_place(j: usize) -> usize
     requires { ⌜ j < 26 ⌝ }
     ensures { λ r. ⌜ (r ≡ entryPlace j) × (r + 4 < 140) ⌝ }
 {

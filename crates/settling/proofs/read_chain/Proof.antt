@@ -6,7 +6,8 @@ use lib.ListN.{length-set, length, take}
 use Rattle.model.specs.Model.{slots}
 use Rattle.forms.specs.Forms.{geometryOf}
 use Rattle.settling.specs.Settling.{walk}
-use Rattle.settling.proofs.Chains.{chained, named-below, next-named, walk-none, walk-next}
+use Rattle.free_list.proofs.Chain.{named-below, next-named}
+use Rattle.settling.proofs.Chains.{chained, walk-none, walk-next}
 use borrow.Author.Needs.{needs}
 use Rattle.settling.proofs.read_chain.Statement.{statement}
 use Rattle.settling.proofs.read_chain.Tie as tie
