@@ -6,7 +6,7 @@ use Prim.Native.Nat.{ℕ, zero, suc, _+_, _*_, _≤_, _<_}
 use native.Mathlib.Omega.{arith}
 use borrow.Author.Tests.{eq-eqb}
 use lib.Dec.{eqb}
-use lib.ListN.{drop, getD, length, length-drop, length-take, take}
+use lib.ListN.{drop, drop-of-length-le, getD, length, length-drop, length-take, take}
 use Rattle.model.specs.Basics.{bit, get2, part}
 use Rattle.model.specs.Model.{Geometry, Run, Separate, Volume, fivesFor, free, run, slots, tally, tracks, used}
 use Rattle.model.proofs.Lists.{All, All-both, All-drop, All-left, All-take}
@@ -23,7 +23,7 @@ use Rattle.fields.specs.Records.{slotBytes}
 use Rattle.fields.specs.Tests.{slotNamed}
 use Rattle.fields.proofs.Links.{slot-below, slot-found, slot-none}
 use Rattle.fields.proofs.Slots.{chop-slot}
-use Rattle.free_list.specs.FreeList.{Entries, Lists}
+use Rattle.free_list.specs.FreeList.{Entries, Listed, Lists}
 
 -- ---- the next member
 
@@ -91,6 +91,9 @@ lists-all t v x = record {
   hold = x .fives;
 }
 
+pub listed : (t : List ℕ) (v : Volume) → Sound (chop (slots (v .geometry)) t) v → Listed (v .geometry) t (free (v .geometry) (v .labels))
+listed t v x = record { members = length (v .chain); few = chain-short (chop (slots (v .geometry)) t) v x; lists = lists-all t v x; apart = free-apart v }
+
 -- no member is left
 pub lists-none : (g : Geometry) (t : List ℕ) (n : ℕ) (f : List Run) → Lists g t n 0 f → f ≡ []
 lists-none g t n f x = go (x .members) (x .many) (x .head) (x .inside) f (x .enough)
@@ -152,6 +155,34 @@ module _ (g : Geometry) (t : List ℕ) (k : ℕ) (f : List Run) where
           }
 
 -- ---- an entry, as the code reads it
+
+module _ {h : ℕ} {r : List ℕ} {f : List Run} (x : Entries h r f) (j s c : ℕ) (u : j < 26) (e : run s c ≡ readEntry h r (entryPlace j)) where
+  at-entry : run s c ≡ getD f j (run 0 0)
+  at-entry = e ∙ x .at j u
+
+  -- one without tracks: no free extent is left in the record
+  pub entry-none : c ≡ 0 → drop j f ≡ []
+  entry-none z = go f j (x .full) at-entry
+    where
+      go : (f : List Run) (j : ℕ) → All (λ e. 1 ≤ e .count) f → run s c ≡ getD f j (run 0 0) → drop j f ≡ []
+      go [] zero a q = refl
+      go [] (suc j) a q = refl
+      go (y ∷ f) zero a q = let w : c ≡ y .count = ap (λ (k : Run). k .count) q in absurd (omega (arith, a .0))
+      go (y ∷ f) (suc j) a q = go f j (a .1) q
+
+  -- one with tracks is the next free extent
+  pub entry-next : (c ≡ 0 → ⊥) → drop j f ≡ run s c ∷ drop (j + 1) f
+  entry-next z = go f j at-entry ∙ ap (λ (i : ℕ). run s c ∷ drop i f) (let q : suc j ≡ j + 1 = omega arith in q)
+    where
+      go : (f : List Run) (j : ℕ) → run s c ≡ getD f j (run 0 0) → drop j f ≡ run s c ∷ drop (suc j) f
+      go [] zero q = absurd (z (ap (λ (k : Run). k .count) q))
+      go [] (suc j) q = absurd (z (ap (λ (k : Run). k .count) q))
+      go (y ∷ f) zero q = ap (λ (k : Run). k ∷ f) (sym q)
+      go (y ∷ f) (suc j) q = go f j q
+
+-- behind the last entry there is none
+pub entry-end : {h : ℕ} {r : List ℕ} {f : List Run} → Entries h r f → drop 26 f ≡ []
+entry-end {f = f} x = drop-of-length-le f {i = 26} (x .few)
 
 pub entry-is : (h : ℕ) (r : List ℕ) (p j a b d : ℕ) → p ≡ entryPlace j → a ≡ get2 r p → b ≡ get2 r (p + 2) → d ≡ getD r (p + 4) 0 → run a (b * h + d) ≡ readEntry h r (entryPlace j)
 entry-is h r p j a b d q ea eb ed =

@@ -3,7 +3,7 @@ use mathlib.Core.Path.{_≡_}
 use Prim.Native.Nat.{ℕ, _*_, _≤_, _<_}
 use mathlib.Core.List.{List}
 use lib.ListN.{getD, length}
-use Rattle.model.specs.Model.{Geometry, Run, run, slots}
+use Rattle.model.specs.Model.{Geometry, Run, Separate, run, slots, tracks}
 use Rattle.model.proofs.Lists.{All}
 use Rattle.rules.specs.Demand3.{entryPlace, readEntry}
 use Rattle.rules.specs.Layout.{fives, headOr0}
@@ -25,3 +25,10 @@ pub record Lists (g : Geometry) (t : List ℕ) (n k : ℕ) (f : List Run) : Type
   pub full : All (λ e. 1 ≤ e .count) f
   pub inside : All (λ j. (1 ≤ j) × (j < slots g)) members
   pub hold : All (FiveOk g (chop (slots g) t)) (fives members f)
+
+-- the table lists the free extents f, from slot 1 on
+pub record Listed (g : Geometry) (t : List ℕ) (f : List Run) : Type 0 where
+  pub members : ℕ
+  pub few : members ≤ slots g
+  pub lists : Lists g t members 1 f
+  pub apart : Separate 0 (tracks g) f

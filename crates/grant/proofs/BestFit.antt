@@ -11,15 +11,7 @@ use Rattle.model.specs.Basics.{keepIf}
 use Rattle.model.specs.Model.{Run}
 use Rattle.model.specs.Choice.{wholeIn, candidates, serving, shorter, shortest}
 use Rattle.model.proofs.Lists.{by}
-use Rattle.grant.specs.Pass.{noRun, runOrNone, fitsBetter}
-
--- the better of the best so far and of one more
-abbrev pub better : ℕ → Run → Run → Run
-better n b c = cond (fitsBetter n (b .count) (c .count)) c b
-
-abbrev pub bestAfter : ℕ → ℕ → Run → List Run → Run
-bestAfter u n b [] = b
-bestAfter u n b (r ∷ rs) = bestAfter u n (better n b (wholeIn u r)) rs
+use Rattle.grant.specs.Pass.{better, bestAfter, noRun, runOrNone, fitsBetter}
 
 -- ---- one more candidate
 

@@ -2,7 +2,7 @@
 use mathlib.Core.Path.{_≡_, sym, ap, _∙_, subst}
 use mathlib.Core.List.{List, []}
 use Prim.Native.Nat.{ℕ, _+_, _-_, _*_, _/_, _≤_}
-use native.Mathlib.Nat.{le-refl, mul-le-mul, mul-le-mul-right}
+use native.Mathlib.Nat.{div-one, le-refl, mul-le-mul, mul-le-mul-right}
 use native.Mathlib.Omega.{arith}
 use lib.ListN.{getD, List·getD-map}
 use Rattle.model.specs.Model.{Run, run}
@@ -14,6 +14,15 @@ pub whole-is : (u from to n : ℕ) → from ≤ to → n ≡ to / u - (from + u 
 whole-is u from to n h e =
     let q : to ≡ from + (to - from) = omega arith in
     ap (run ((from + u - 1) / u)) (e ∙ ap (λ (x : ℕ). x / u - (from + u - 1) / u) q)
+
+-- units of one track
+pub whole-one : (u from to : ℕ) → from ≤ to → u ≡ 1 → run from (to - from) ≡ wholeIn u (run from (to - from))
+whole-one u from to h e =
+    let a : from ≡ (from + 1 - 1) / 1 = sym (div-one (from + 1 - 1) ∙ (let q : from + 1 - 1 ≡ from = omega arith in q)) in
+    let b : (from + (to - from)) / 1 ≡ from + (to - from) = div-one (from + (to - from)) in
+    let c : to - from ≡ (from + (to - from)) / 1 - (from + 1 - 1) / 1 = omega arith in
+    let d : run from (to - from) ≡ wholeIn 1 (run from (to - from)) = λ i. run (a i) (c i) in
+    d ∙ ap (λ (x : ℕ). wholeIn x (run from (to - from))) (sym e)
 
 pub small : (u : ℕ) (ds : List Run) → 1 ≤ u → Within u ds → Small ds
 small u ds pos w k =

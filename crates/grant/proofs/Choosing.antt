@@ -14,8 +14,6 @@ use Rattle.model.specs.Model.{Run, run, total, Separate}
 use Rattle.model.specs.Choice.{wholeIn, candidates, serving, shorter, shortest, longestFirst, gather, oneOrFive, choose, scale}
 use Rattle.model.proofs.Lists.{by, All, All-filter, All-both, filter-pass, some-is}
 use Rattle.model.proofs.Choose.{sorted-All}
-use Rattle.tracks.specs.Map.{freeFrom}
-use Rattle.tracks.proofs.Held.{free-apart}
 use Rattle.grant.specs.Grant.{grantedRuns, row, grant, replyOf}
 use Rattle.grant.specs.Pass.{noRun, runOrNone, padded, Surveyed, Within, Small}
 use Rattle.grant.proofs.Bounds.{small}
@@ -38,9 +36,6 @@ candidates-end u lo hi (r ∷ f) s =
     by (leb 1 (wholeIn u r .count))
     (λ h. rw h (le-trans (whole-ends u r (leb-true _ _ h)) (s .2), i))
     (λ h. rw h i)
-
-free-end : (u n : ℕ) (m : List ℕ) → All (Ends u n) (candidates u (freeFrom m n 0))
-free-end u n m = candidates-end u 0 n (freeFrom m n 0) (free-apart m n)
 
 padded-at : (u n k : ℕ) (ds : List Run) → All (Ends u n) ds → (j : ℕ) → (getD (padded k ds) j noRun .start + getD (padded k ds) j noRun .count) * u ≤ n
 unfolding padded
@@ -65,31 +60,31 @@ first-place (x ∷ g) r l = refl
 
 -- ---- what the pass has found
 
-module _ (m : List ℕ) (n : ℕ) {u k : ℕ} {best : Run} {five : List Run} (fits : n ≤ 65535) (pos : 1 ≤ k) (s : Surveyed u k (freeFrom m n 0) best five) where
+module _ (f : List Run) (n : ℕ) {u k : ℕ} {best : Run} {five : List Run} (apart : Separate 0 n f) (fits : n ≤ 65535) (pos : 1 ≤ k) (s : Surveyed u k f best five) where
   pub five-within : Within u five
   five-within j =
-      let c = candidates u (freeFrom m n 0) in
+      let c = candidates u f in
       le-trans
       (subst (λ (ds : List Run). (getD ds j noRun .start + getD ds j noRun .count) * u ≤ n) (sym (s .longest))
-      (padded-at u n 5 (longestFirst c) (sorted-All (Ends u n) c (free-end u n m)) j))
+      (padded-at u n 5 (longestFirst c) (sorted-All (Ends u n) c (candidates-end u 0 n f apart)) j))
       fits
 
   pub five-small : 1 ≤ u → Small five
   five-small h = small u five h five-within
 
-  found : 1 ≤ best .count → shortest (serving k (candidates u (freeFrom m n 0))) ≡ some best
+  found : 1 ≤ best .count → shortest (serving k (candidates u f)) ≡ some best
   unfolding runOrNone
   found h = sym (s .fit) ∙ rw (le-leb 1 (best .count) h)
 
-  not-found : best .count ≡ 0 → shortest (serving k (candidates u (freeFrom m n 0))) ≡ none
+  not-found : best .count ≡ 0 → shortest (serving k (candidates u f)) ≡ none
   unfolding runOrNone
   not-found e = sym (s .fit) ∙ rw (lt-leb 1 (best .count) (omega arith))
 
   pub best-within : 1 ≤ best .count → (best .start * u ≤ 65535) × (k * u ≤ 65535)
   best-within h =
-      let c = candidates u (freeFrom m n 0) in
+      let c = candidates u f in
       let p : Run → Bool = λ d. leb k (d .count) in
-      let a = All-both (Ends u n) (λ d. T (leb k (d .count))) (serving k c) (All-filter (Ends u n) p c (free-end u n m)) (filter-pass p c) in
+      let a = All-both (Ends u n) (λ d. T (leb k (d .count))) (serving k c) (All-filter (Ends u n) p c (candidates-end u 0 n f apart)) (filter-pass p c) in
       let b = shortest-All (λ d. Ends u n d × T (leb k (d .count))) (serving k c) best a (found h) in
       let e = b .0 in
       let l = mul-le-mul-right u (leb→le k (best .count) (b .1)) in
@@ -97,24 +92,24 @@ module _ (m : List ℕ) (n : ℕ) {u k : ℕ} {best : Run} {five : List Run} (fi
 
   -- the one piece
   pub granted-one : 1 ≤ best .count → (g : List (List ℕ)) → length g ≡ 5
-      → grant 1 (k * u) (set g 0 (row (scale u (run (best .start) k)))) ≡ replyOf (grantedRuns u k (freeFrom m n 0)) g
+      → grant 1 (k * u) (set g 0 (row (scale u (run (best .start) k)))) ≡ replyOf (grantedRuns u k f) g
   unfolding grantedRuns choose replyOf
   granted-one h g l =
       let z : k * u ≡ k * u + 0 = omega arith in
       rw (found h) (λ i. record { count = 1; tracks = z i; places = first-place g (row (scale u (run (best .start) k))) l i })
 
   -- several
-  pub granted-more : best .count ≡ 0 → mapOption (map (scale u)) (gather k five) ≡ grantedRuns u k (freeFrom m n 0)
+  pub granted-more : best .count ≡ 0 → mapOption (map (scale u)) (gather k five) ≡ grantedRuns u k f
   unfolding grantedRuns choose
   granted-more e =
-      let c = candidates u (freeFrom m n 0) in
+      let c = candidates u f in
       let q : oneOrFive k c (shortest (serving k c)) ≡ gather k five =
       ap (oneOrFive k c) (not-found e) ∙ sym (gather-padded 5 k (longestFirst c) pos) ∙ ap (gather k) (sym (s .longest)) in
       ap (mapOption (map (scale u))) (sym q)
 
   -- none
-  pub granted-none : best .count ≡ 0 → total five < k → (g : List (List ℕ)) → grant 0 0 g ≡ replyOf (grantedRuns u k (freeFrom m n 0)) g
+  pub granted-none : best .count ≡ 0 → total five < k → (g : List (List ℕ)) → grant 0 0 g ≡ replyOf (grantedRuns u k f) g
   unfolding replyOf
   granted-none e t g =
-      let q : grantedRuns u k (freeFrom m n 0) ≡ none = sym (granted-more e) ∙ ap (mapOption (map (scale u))) (gather-short k five t) in
+      let q : grantedRuns u k f ≡ none = sym (granted-more e) ∙ ap (mapOption (map (scale u))) (gather-short k five t) in
       sym (ap (λ (o : Option (List Run)). replyOf o g) q)

@@ -10,7 +10,7 @@ use lib.Dec.{leb, ltb}
 use Rattle.model.specs.Model.{Run}
 use Rattle.model.specs.Choice.{wholeIn, candidates, insertRun, longestFirst}
 use Rattle.model.proofs.Lists.{by, All, All-map}
-use Rattle.grant.specs.Pass.{noRun, padded, placed, entered}
+use Rattle.grant.specs.Pass.{noRun, padded, placed, entered, fiveAfter}
 
 -- ---- a candidate at the end of the list goes behind those that are as long
 
@@ -121,10 +121,6 @@ unfolding entered
 enter-none c five e = rw (le-ltb (getD five 4 noRun .count) (c .count) (omega arith))
 
 -- ---- entering all
-
-abbrev pub fiveAfter : ℕ → List Run → List Run → List Run
-fiveAfter u five [] = five
-fiveAfter u five (r ∷ rs) = fiveAfter u (entered (wholeIn u r) five) rs
 
 -- an extent with no whole unit changes nothing
 pub five-none : (u : ℕ) (r : Run) (five : List Run) → wholeIn u r .count ≡ 0 → entered (wholeIn u r) five ≡ five

@@ -1,67 +1,76 @@
--- The pass over the map's runs, turn by turn, and what it comes to. Assumes nothing.
-use mathlib.Core.Path.{_≡_, sym, ap, _∙_}
+-- The pass over the free extents, turn by turn, and what it comes to. Assumes nothing.
+use mathlib.Core.Path.{_≡_, refl, sym, ap, _∙_}
 use mathlib.Core.Bool.{Bool, cond}
-use mathlib.Core.Logic.{⊎-elim}
-use mathlib.Core.List.{List, []}
-use Prim.Native.Nat.{ℕ, _+_, _-_, _/_, _≤_}
-use native.Mathlib.Nat.{le-div-iff-mul-le, div-mul-le-self}
+use mathlib.Core.List.{List, [], _∷_, _++_}
+use Prim.Native.Nat.{ℕ, suc, _+_, _-_, _/_, _≤_, _<_}
+use native.Mathlib.Nat.{div-mul-le-self, le-div-iff-mul-le}
 use native.Mathlib.Omega.{arith}
+use lib.ListN.{drop, take, take-append-drop}
 use Rattle.model.specs.Model.{Run, run}
 use Rattle.model.specs.Choice.{wholeIn}
-use Rattle.tracks.specs.Map.{freeFrom, NextRun}
-use Rattle.tracks.proofs.Bits.{le-or-lt}
-use Rattle.tracks.proofs.Walk.{free-from-end}
-use Rattle.grant.specs.Pass.{noRun, padded, fitsBetter, entered, Surveyed, runOrNone}
-use Rattle.grant.proofs.Longest.{fiveAfter, five-none, five-law}
-use Rattle.grant.proofs.BestFit.{better, bestAfter, best-none, best-law}
+use Rattle.grant.specs.Pass.{Looked, Surveyed, better, bestAfter, entered, fiveAfter, fitsBetter, noRun, padded, runOrNone}
+use Rattle.grant.proofs.Longest.{five-none, five-law}
+use Rattle.grant.proofs.BestFit.{best-none, best-law}
 
-no-units : (u a : ℕ) → 1 ≤ u → wholeIn u (run a 0) .count ≡ 0
-no-units u a h =
-    let d = div-mul-le-self (a + 0) u in
-    let l : (a + 0) / u ≤ (a + u - 1) / u = le-div-iff-mul-le h .1 (omega arith) in
+-- fewer tracks than a unit has hold no unit
+pub no-units : (u a c : ℕ) → 1 ≤ u → c < u → wholeIn u (run a c) .count ≡ 0
+no-units u a c h k =
+    let d = div-mul-le-self (a + c) u in
+    let l : (a + c) / u ≤ (a + u - 1) / u = le-div-iff-mul-le h .1 (omega arith) in
     omega arith
 
--- where no run is left, what the code looks at has no tracks
-module _ {m : List ℕ} {n s a b : ℕ} (u : ℕ) (pos : 1 ≤ u) (r : NextRun m n s a b) (h : n ≤ a) where
-  at-end : b ≡ n
-  at-end = let l = r .low in let k = r .high in omega arith
+-- ---- one free extent more
 
-  nothing : wholeIn u (run a (b - a)) .count ≡ 0
-  nothing = let q = at-end in let e : b - a ≡ 0 = omega arith in ap (λ (x : ℕ). wholeIn u (run a x) .count) e ∙ no-units u a pos
 
-  none-left : freeFrom m n b ≡ []
-  none-left = ap (freeFrom m n) at-end ∙ free-from-end m n
 
-module _ {m : List ℕ} {n s a b : ℕ} (u : ℕ) (pos : 1 ≤ u) (r : NextRun m n s a b) where
-  pub best-turn : (k : ℕ) (x : Run) → 1 ≤ k → bestAfter u k x (freeFrom m n s) ≡ bestAfter u k (better k x (wholeIn u (run a (b - a)))) (freeFrom m n b)
-  best-turn k x h =
-      ⊎-elim
-      (λ l.
-      ap (bestAfter u k x) (r .done l)
-      ∙ sym (best-none k x (wholeIn u (run a (b - a))) h (nothing u pos r l))
-      ∙ sym (ap (bestAfter u k (better k x (wholeIn u (run a (b - a))))) (none-left u pos r l)))
-      (λ l. ap (bestAfter u k x) (r .more l .1))
-      (le-or-lt n a)
 
-  pub five-turn : (ds : List Run) → fiveAfter u ds (freeFrom m n s) ≡ fiveAfter u (entered (wholeIn u (run a (b - a))) ds) (freeFrom m n b)
-  five-turn ds =
-      ⊎-elim
-      (λ l.
-      ap (fiveAfter u ds) (r .done l)
-      ∙ sym (five-none u (run a (b - a)) ds (nothing u pos r l))
-      ∙ sym (ap (fiveAfter u (entered (wholeIn u (run a (b - a))) ds)) (none-left u pos r l)))
-      (λ l. ap (fiveAfter u ds) (r .more l .1))
-      (le-or-lt n a)
+-- the free extents f, of which x is the first
+pub looked-next : (u n : ℕ) (x : Run) (f rest : List Run) (best best′ b : Run) (five five′ d : List Run) → f ≡ x ∷ rest
+    → b ≡ better n best (wholeIn u x) → d ≡ entered (wholeIn u x) five → Looked u n rest b best′ d five′ → Looked u n f best best′ five five′
+looked-next u n x f rest best best′ b five five′ d e p q r = record {
+  best-is = ap (bestAfter u n best) e ∙ ap (λ (z : Run). bestAfter u n z rest) (sym p) ∙ r .best-is;
+  five-is = ap (fiveAfter u five) e ∙ ap (λ (z : List Run). fiveAfter u z rest) (sym q) ∙ r .five-is;
+}
 
-pub surveyed : (m : List ℕ) (n u k : ℕ) (best : Run) (five : List Run) → 1 ≤ k
-    → bestAfter u k noRun (freeFrom m n 0) ≡ bestAfter u k best (freeFrom m n n)
-    → fiveAfter u (padded 5 []) (freeFrom m n 0) ≡ fiveAfter u five (freeFrom m n n)
-    → Surveyed u k (freeFrom m n 0) best five
-surveyed m n u k best five h p q = record {
-  fit = ap runOrNone (sym (p ∙ ap (bestAfter u k best) (free-from-end m n))) ∙ best-law u k (freeFrom m n 0) h;
-  longest = sym (q ∙ ap (fiveAfter u five) (free-from-end m n)) ∙ five-law u (freeFrom m n 0);
+-- too short for a unit
+module _ (u n a c : ℕ) (pos : 1 ≤ u) (some : 1 ≤ n) (k : c < u) where
+  pub same-best : (best : Run) → best ≡ better n best (wholeIn u (run a c))
+  same-best best = sym (best-none n best (wholeIn u (run a c)) some (no-units u a c pos k))
+
+  pub same-five : (five : List Run) → five ≡ entered (wholeIn u (run a c)) five
+  same-five five = sym (five-none u (run a c) five (no-units u a c pos k))
+
+-- ---- one after the other
+
+best-append : (u n : ℕ) (b : Run) (f g : List Run) → bestAfter u n b (f ++ g) ≡ bestAfter u n (bestAfter u n b f) g
+best-append u n b [] g = refl
+best-append u n b (r ∷ f) g = best-append u n (better n b (wholeIn u r)) f g
+
+five-append : (u : ℕ) (d f g : List Run) → fiveAfter u d (f ++ g) ≡ fiveAfter u (fiveAfter u d f) g
+five-append u d [] g = refl
+five-append u d (r ∷ f) g = five-append u (entered (wholeIn u r) d) f g
+
+-- a member of the chain, and those behind it
+pub looked-more : (u n k : ℕ) (f : List Run) (best b best′ : Run) (five d five′ : List Run) → Looked u n (take k f) best b five d → Looked u n (drop k f) b best′ d five′ → Looked u n f best best′ five five′
+looked-more u n k f best b best′ five d five′ x y = record {
+  best-is = ap (bestAfter u n best) (sym (take-append-drop k f)) ∙ best-append u n best (take k f) (drop k f) ∙ ap (λ (z : Run). bestAfter u n z (drop k f)) (x .best-is) ∙ y .best-is;
+  five-is = ap (fiveAfter u five) (sym (take-append-drop k f)) ∙ five-append u five (take k f) (drop k f) ∙ ap (λ (z : List Run). fiveAfter u z (drop k f)) (x .five-is) ∙ y .five-is;
+}
+
+pub surveyed : (u k : ℕ) (f : List Run) (best : Run) (five : List Run) → 1 ≤ k → Looked u k f noRun best (padded 5 []) five → Surveyed u k f best five
+surveyed u k f best five h x = record {
+  fit = ap runOrNone (sym (x .best-is)) ∙ best-law u k f h;
+  longest = sym (x .five-is) ∙ five-law u f;
 }
 
 -- the best after the test, from what the test says
 pub better-is : (k : ℕ) (x y c : Run) (r : Bool) → r ≡ fitsBetter k (x .count) (y .count) → y ≡ c → cond r y x ≡ better k x c
 better-is k x y c r e q = ap (λ (b : Bool). cond b y x) e ∙ ap (better k x) q
+
+-- the units of a free extent of c tracks, as the code asks for them
+pub unit-is : (u s c : ℕ) (w : Run) → w ≡ wholeIn u (run s (s + c - s)) → w ≡ wholeIn u (run s c)
+unit-is u s c w e = e ∙ ap (λ (x : ℕ). wholeIn u (run s x)) (let q : s + c - s ≡ c = omega arith in q)
+
+-- no free extent is left
+pub looked-empty : (u n : ℕ) (f : List Run) (best : Run) (five : List Run) → f ≡ [] → Looked u n f best best five five
+looked-empty u n f best five e = record { best-is = ap (bestAfter u n best) e; five-is = ap (fiveAfter u five) e }

@@ -8,7 +8,7 @@ use lib.ListN.{getD}
 use lib.Dec.{leb, ltb, eqb}
 use Rattle.model.specs.Basics.{orElse}
 use Rattle.model.specs.Model.{Run, run}
-use Rattle.model.specs.Choice.{candidates, serving, shortest, longestFirst}
+use Rattle.model.specs.Choice.{candidates, serving, shortest, longestFirst, wholeIn}
 
 -- candidates as the code holds them, first unit and count, and none where the count is 0
 abbrev pub toRun : List ℕ → Run
@@ -41,6 +41,24 @@ placed n c (d ∷ ds) = cond (ltb (d .count) n) (c ∷ placed n d ds) (d ∷ pla
 -- c among the five longest, behind those that are as long: nothing is to do where the fifth is as long as c
 unfoldable pub entered : Run → List Run → List Run
 entered c ds = cond (ltb (getD ds 4 noRun .count) (c .count)) (placed (c .count) c ds) ds
+
+-- the better of the best so far and of one more
+abbrev pub better : ℕ → Run → Run → Run
+better n b c = cond (fitsBetter n (b .count) (c .count)) c b
+
+-- the best fit, and the five longest, once the free extents have been looked at one by one
+abbrev pub bestAfter : ℕ → ℕ → Run → List Run → Run
+bestAfter u n b [] = b
+bestAfter u n b (r ∷ rs) = bestAfter u n (better n b (wholeIn u r)) rs
+
+abbrev pub fiveAfter : ℕ → List Run → List Run → List Run
+fiveAfter u five [] = five
+fiveAfter u five (r ∷ rs) = fiveAfter u (entered (wholeIn u r) five) rs
+
+-- the free extents f take the best fit and the five longest from one state to another
+pub record Looked (u n : ℕ) (f : List Run) (best best′ : Run) (five five′ : List Run) : Type 0 where
+  pub best-is : bestAfter u n best f ≡ best′
+  pub five-is : fiveAfter u five f ≡ five′
 
 -- what the pass has found: the best fit for n units, and the five longest candidates
 pub record Surveyed (u n : ℕ) (f : List Run) (best : Run) (five : List Run) : Type 0 where

@@ -1,15 +1,18 @@
 // The choice of pieces out of the free tracks, for any unit: 1 track, or the tracks of a cylinder.
-// One pass over the map's runs finds the best fit and the five longest candidates.
+// One pass over the free extents that the table lists finds the best fit and the five longest candidates.
+use forms::Geometry;
 ghost use mathlib.Core.Path.{_≡_};
-ghost use mathlib.Core.List.{[], map};
-ghost use Prim.Native.Nat.{_-_, _*_, _≤_};
+ghost use mathlib.Core.List.{List, [], map};
+ghost use Prim.Native.Nat.{_-_, _*_, _≤_, _<_};
 ghost use lib.ListN.{length};
 ghost use Rattle.model.specs.Basics.{mapOption};
-ghost use Rattle.model.specs.Model.{run, total};
+ghost use Rattle.model.specs.Model.{Run, run, slots, total};
 ghost use Rattle.model.specs.Choice.{wholeIn, firstPart, gather, scale};
-ghost use Rattle.tracks.specs.Map.{freeFrom};
+ghost use Rattle.rules.proofs.Valid.{Limits};
+ghost use Rattle.forms.specs.Forms.{geometryOf};
+ghost use Rattle.free_list.specs.FreeList.{Entries, Listed};
 ghost use Rattle.grant.specs.Grant.{grantedRuns, row, grant, replyOf};
-ghost use Rattle.grant.specs.Pass.{toRun, toRuns, padded, fitsBetter, entered, Surveyed, Within, Small};
+ghost use Rattle.grant.specs.Pass.{toRun, toRuns, padded, better, fitsBetter, entered, Looked, Surveyed, Within, Small};
 
 // Units that follow each other: the first, and how many; none where the count is 0.
 struct Units {
@@ -17,13 +20,19 @@ struct Units {
     count: u32,
 }
 
-// The whole units of u tracks from track `from` up to track `to`.
-fn whole(u: u32, from: usize, to: usize) -> Units
-    requires { ⌜ (1 ≤ u) × (u ≤ 255) × (from ≤ to) × (to ≤ 65535) ⌝ }
+// The whole units of u tracks from track `from` up to track `to`. A unit of 1 track costs no division.
+fn whole(u: u32, from: u32, to: u32) -> Units
+    requires { ⌜ (1 ≤ u) × (u ≤ 255) × (from ≤ to) × (to ≤ 16777216) ⌝ }
     ensures { λ r. ⌜ run (r .start) (r .count) ≡ wholeIn u (run from (to - from)) ⌝ }
 {
-    let start = (from as u32 + u - 1) / u;
-    let end = to as u32 / u;
+    if u == 1 {
+        return Units {
+            start: from,
+            count: to - from,
+        };
+    }
+    let start = (from + u - 1) / u;
+    let end = to / u;
     if end < start {
         return Units { start, count: 0 };
     }
@@ -61,23 +70,57 @@ fn enter(five: &mut [[u32; 2]; 5], c: Units)
     }
 }
 
-// One pass over the free tracks below n: the best fit is the result, the five longest go into `five`.
-// Where no run is left, the last turn sees tracks n up to n, which have no unit.
-fn survey(map: &[u64], n: usize, u: u32, amount: u32, five: &mut [[u32; 2]; 5]) -> Units
-    requires { ⌜ (n ≤ 65535) × (n ≤ 64 * length (now map)) × (1 ≤ u) × (u ≤ 255) × (1 ≤ amount) ⌝ }
+// Looks at one free extent: the result is the best fit then, and its candidate is entered among the five longest. Most free
+// extents of a worn volume have no whole cylinder; they cost no division.
+fn look(u: u32, amount: u32, start: u32, count: u32, best: Units, five: &mut [[u32; 2]; 5]) -> Units
+    requires { ⌜ (1 ≤ u) × (u ≤ 255) × (1 ≤ amount) × (start < 65536) × (count ≤ 16711680) × (length (now five) ≡ 5) ⌝ }
+    ensures { λ r. ⌜ (length (now (five .exit)) ≡ 5) × (run (r .start) (r .count) ≡ better amount (run (best .start) (best .count)) (wholeIn u (run start count))) × (toRuns (now (five .exit)) ≡ entered (wholeIn u (run start count)) (toRuns (now (five .entry)))) ⌝ }
+{
+    if count < u {
+        return best;
+    }
+    let c = whole(u, start, start + count);
+    enter(five, c);
+    if fits_better(amount, best.count, c.count) {
+        return c;
+    }
+    best
+}
+
+// Looks at the entries of one format 5.
+fn look_member(rec: &[u8], h: u32, u: u32, amount: u32, best: Units, five: &mut [[u32; 2]; 5]) -> Units
+    requires { ⌜ (length (now rec) ≡ 140) × (1 ≤ h) × (h ≤ 255) × (1 ≤ u) × (u ≤ 255) × (1 ≤ amount) × (length (now five) ≡ 5) ⌝ }
+    ensures { λ r. ⌜ (length (now (five .exit)) ≡ 5) × ((f : List Run) → Entries h (now (rec .entry)) f → Looked u amount f (run (best .start) (best .count)) (run (r .start) (r .count)) (toRuns (now (five .entry))) (toRuns (now (five .exit)))) ⌝ }
+{
+    let mut now = best;
+    let mut j: usize = 0;
+    while j < 26 {
+        let hole = free_list::entry(rec, j, h);
+        if hole.count == 0 {
+            return now;
+        }
+        now = look(u, amount, hole.start, hole.count, now, five);
+        j += 1;
+    }
+    now
+}
+
+// One pass over the free extents that the table lists: the best fit is the result, the five longest go into `five`.
+fn survey(table: &[u8], g: Geometry, u: u32, amount: u32, five: &mut [[u32; 2]; 5]) -> Units
+    requires { ⌜ Limits (geometryOf g) × (length (now table) ≡ 140 * slots (geometryOf g)) × (1 ≤ u) × (u ≤ 255) × (1 ≤ amount) ⌝ }
     requires { ⌜ (length (now five) ≡ 5) × (toRuns (now five) ≡ padded 5 []) ⌝ }
-    ensures { λ r. ⌜ Surveyed u amount (freeFrom (now (map .entry)) n 0) (run (r .start) (r .count)) (toRuns (now (five .exit))) ⌝ }
+    ensures { λ r. ⌜ ((f : List Run) → Listed (geometryOf g) (now (table .entry)) f → Surveyed u amount f (run (r .start) (r .count)) (toRuns (now (five .exit)))) ⌝ }
 {
     let mut best = Units { start: 0, count: 0 };
-    let mut at: usize = 0;
-    while at < n {
-        let free = tracks::next_run(map, at, n);
-        let c = whole(u, free.from, free.to);
-        if fits_better(amount, best.count, c.count) {
-            best = c;
+    let mut k: usize = 1;
+    let mut left = (g.tracks * g.records) as usize;
+    while 0 < left {
+        if k == 0 {
+            return best;
         }
-        enter(five, c);
-        at = free.to;
+        best = look_member(fields::record_at(table, k), g.heads, u, amount, best, five);
+        k = free_list::member_after(table, g, k);
+        left -= 1;
     }
     best
 }
@@ -129,15 +172,15 @@ fn fill(five: [[u32; 2]; 5], u: u32, amount: u32, pieces: &mut [[u16; 2]; 5]) ->
     Chosen { count, tracks }
 }
 
-// The pieces for an amount of units of u tracks, out of the free tracks below n. Nothing is written where the five
-// longest candidates are too few.
-pub fn choose(map: &[u64], n: usize, u: u32, amount: u32, pieces: &mut [[u16; 2]; 5]) -> Chosen
-    requires { ⌜ (n ≤ 65535) × (n ≤ 64 * length (now map)) × (1 ≤ u) × (u ≤ 255) ⌝ }
-    requires { ⌜ (1 ≤ amount) × (amount ≤ 16777215) × (length (now pieces) ≡ 5) ⌝ }
-    ensures { λ r. ⌜ grant (r .count) (r .tracks) (now (pieces .exit)) ≡ replyOf (grantedRuns u amount (freeFrom (now (map .entry)) n 0)) (now (pieces .entry)) ⌝ }
+// The pieces for an amount of units of u tracks, out of the free extents that the table lists. Nothing is written where the
+// five longest candidates are too few.
+pub fn choose(table: &[u8], g: Geometry, u: u32, amount: u32, pieces: &mut [[u16; 2]; 5]) -> Chosen
+    requires { ⌜ Limits (geometryOf g) × (length (now table) ≡ 140 * slots (geometryOf g)) × (1 ≤ u) × (u ≤ 255) ⌝ }
+    requires { ⌜ (1 ≤ amount) × (amount ≤ 16777215) × (length (now pieces) ≡ 5) × ((f : List Run) × Listed (geometryOf g) (now table) f) ⌝ }
+    ensures { λ r. ⌜ ((f : List Run) → Listed (geometryOf g) (now (table .entry)) f → grant (r .count) (r .tracks) (now (pieces .exit)) ≡ replyOf (grantedRuns u amount f) (now (pieces .entry))) ⌝ }
 {
     let mut five = [[0u32; 2]; 5];
-    let best = survey(map, n, u, amount, &mut five);
+    let best = survey(table, g, u, amount, &mut five);
     if best.count != 0 {
         let part = piece(u, [best.start, best.count], amount);
         pieces[0] = part;

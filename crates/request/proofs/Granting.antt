@@ -12,8 +12,7 @@ use Rattle.model.specs.Model.{Geometry, Label, Run, extent, free, held, overs, 
 use Rattle.model.specs.Choice.{pieces}
 use Rattle.rules.specs.Calls.{exactly}
 use Rattle.rules.specs.Calls.{grant as granting}
-use Rattle.tracks.specs.Map.{Shows, freeFrom, isFree}
-use Rattle.tracks.proofs.Held.{free-gaps}
+use Rattle.tracks.specs.Map.{Shows, isFree}
 use Rattle.grant.specs.Grant.{Grant, grant, grantedRuns, replyOf, row}
 use Rattle.grant.proofs.Choosing.{first-place}
 use Rattle.grant.proofs.Reply.{granted-pieces, overs-extents}
@@ -59,13 +58,8 @@ runs-back b none = refl
 runs-back b (some ps) = ap (λ (x : List Run). some x) (sym (overs-extents b ps))
 
 module _ (m : List ℕ) (g : Geometry) (ls : List Label) (h : Shows m (tracks g) (held g ls)) where
-  free-is : freeFrom m (tracks g) 0 ≡ free g ls
-  unfolding free
-  free-is = free-gaps m (tracks g) (held g ls) h
-
-  by-units : (b u n : ℕ) → grantedRuns u n (freeFrom m (tracks g) 0) ≡ mapOption overs (pieces b u n (free g ls))
-  by-units b u n =
-      ap (grantedRuns u n) free-is ∙ runs-back b (grantedRuns u n (free g ls)) ∙ ap (mapOption overs) (sym (granted-pieces b u n (free g ls)))
+  by-units : (b u n : ℕ) → grantedRuns u n (free g ls) ≡ mapOption overs (pieces b u n (free g ls))
+  by-units b u n = runs-back b (grantedRuns u n (free g ls)) ∙ ap (mapOption overs) (sym (granted-pieces b u n (free g ls)))
 
   exact-runs : (s n : ℕ) → s + n ≤ tracks g → exactRuns m s n ≡ mapOption overs (exactly (run s n) (held g ls))
   unfolding exactRuns
@@ -76,11 +70,11 @@ module _ (m : List ℕ) (g : Geometry) (ls : List Label) (h : Shows m (tracks g)
       go false = refl
 
   module _ (a : Asked) (x : Grant) (p : List (List ℕ)) where
-    pub tracks-reply : (n : ℕ) → a ≡ Tracks n → x ≡ replyOf (grantedRuns 1 n (freeFrom m (tracks g) 0)) p → x ≡ replyOf (piecesOf g ls (toAmount a)) p
+    pub tracks-reply : (n : ℕ) → a ≡ Tracks n → x ≡ replyOf (grantedRuns 1 n (free g ls)) p → x ≡ replyOf (piecesOf g ls (toAmount a)) p
     unfolding piecesOf granting
     tracks-reply n e q = q ∙ ap (λ (o : Option (List Run)). replyOf o p) (by-units 0x01 1 n ∙ ap (λ (b : Asked). piecesOf g ls (toAmount b)) (sym e))
 
-    pub cylinders-reply : (n : ℕ) → a ≡ Cylinders n → x ≡ replyOf (grantedRuns (g .heads) n (freeFrom m (tracks g) 0)) p → x ≡ replyOf (piecesOf g ls (toAmount a)) p
+    pub cylinders-reply : (n : ℕ) → a ≡ Cylinders n → x ≡ replyOf (grantedRuns (g .heads) n (free g ls)) p → x ≡ replyOf (piecesOf g ls (toAmount a)) p
     unfolding piecesOf granting
     cylinders-reply n e q = q ∙ ap (λ (o : Option (List Run)). replyOf o p) (by-units 0x81 (g .heads) n ∙ ap (λ (b : Asked). piecesOf g ls (toAmount b)) (sym e))
 

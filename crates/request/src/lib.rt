@@ -9,10 +9,11 @@ ghost use Prim.Native.Nat.{_+_, _-_, _*_, _≤_, _<_};
 ghost use lib.Dec.{eqb, leb};
 ghost use lib.ListN.{length};
 ghost use Rattle.model.specs.Basics.{all, upFrom, within};
-ghost use Rattle.model.specs.Model.{Label, held, tracks};
+ghost use Rattle.model.specs.Model.{Label, Run, free, held, slots, tracks};
 ghost use Rattle.rules.specs.Calls.{amountOf, inCylinders, inRange, inTracks, unitOf};
 ghost use Rattle.rules.proofs.Valid.{Limits};
 ghost use Rattle.tracks.specs.Map.{Shows, isFree};
+ghost use Rattle.free_list.specs.FreeList.{Listed};
 ghost use Rattle.grant.specs.Grant.{grant, replyOf};
 ghost use Rattle.forms.specs.Forms.{geometryOf};
 ghost use Rattle.request.specs.Request.{Askable, exactRuns, kindOf, piecesOf, toAmount, typeOf};
@@ -166,16 +167,21 @@ fn exact(map: &[u64], start: u32, n: u32, pieces: &mut [[u16; 2]; 5]) -> Chosen
     }
 }
 
-// The pieces that an amount is granted out of the free tracks of the map, whatever labels hold the others. Where there
-// is no space the count is 0 and no piece is written.
-pub fn fulfil(map: &[u64], g: Geometry, amount: Amount, pieces: &mut [[u16; 2]; 5]) -> Chosen
-    requires { ⌜ Limits (geometryOf g) × (tracks (geometryOf g) ≤ 64 * length (now map)) × Askable (geometryOf g) (toAmount amount) × (length (now pieces) ≡ 5) ⌝ }
-    ensures { λ r. ⌜ ((ls : List Label) → Shows (now (map .entry)) (tracks (geometryOf g)) (held (geometryOf g) ls) → grant (r .count) (r .tracks) (now (pieces .exit)) ≡ replyOf (piecesOf (geometryOf g) ls (toAmount amount)) (now (pieces .entry))) ⌝ }
+// The pieces that an amount is granted out of the free tracks, which the table lists and the map shows, whatever labels hold
+// the others. Where there is no space the count is 0 and no piece is written.
+pub fn fulfil<'a>(
+    table: &'a [u8],
+    map: &'a [u64],
+    g: Geometry,
+    amount: Amount,
+    pieces: &mut [[u16; 2]; 5],
+) -> Chosen
+    requires { ⌜ Limits (geometryOf g) × (tracks (geometryOf g) ≤ 64 * length (now map)) × Askable (geometryOf g) (toAmount amount) × (length (now pieces) ≡ 5) × (length (now table) ≡ 140 * slots (geometryOf g)) × ((f : List Run) × Listed (geometryOf g) (now table) f) ⌝ }
+    ensures { λ r. ⌜ ((ls : List Label) → Shows (now (map .entry)) (tracks (geometryOf g)) (held (geometryOf g) ls) → Listed (geometryOf g) (now (table .entry)) (free (geometryOf g) ls) → grant (r .count) (r .tracks) (now (pieces .exit)) ≡ replyOf (piecesOf (geometryOf g) ls (toAmount amount)) (now (pieces .entry))) ⌝ }
 {
-    let n = (g.cylinders * g.heads) as usize;
     match amount {
-        Amount::Tracks(k) => grant::choose(map, n, 1, k, pieces),
-        Amount::Cylinders(k) => grant::choose(map, n, g.heads, k, pieces),
+        Amount::Tracks(k) => grant::choose(table, g, 1, k, pieces),
+        Amount::Cylinders(k) => grant::choose(table, g, g.heads, k, pieces),
         Amount::Absolute(start, k) => exact(map, start, k, pieces),
     }
 }

@@ -3,6 +3,8 @@ use mathlib.Core.Option.{Option}
 use mathlib.Core.Path.{refl, ap, _∙_}
 use native.Mathlib.Omega.{arith}
 use native.Mathlib.Nat.{mul-le-mul}
+use Rattle.model.specs.Model.{tracks}
+use Rattle.forms.specs.Forms.{geometryOf}
 use borrow.Author.Needs.{needs}
 use Rattle.model.specs.Model.{Run}
 use Rattle.grant.proofs.Choosing.{five-within, five-small, best-within, granted-one, granted-none, granted-more}
@@ -13,12 +15,13 @@ use Rattle.grant.proofs.choose.Tie as tie
 
 survey-requires : tie.Need-survey-requires
 unfolding padded
-survey-requires c κs = (search needs, (refl, refl))
+survey-requires c κs = let p = c .before .before .pre in ((p .0 .0, p .0 .1, p .0 .2, p .0 .3, p .1 .0), (refl, refl))
 
 piece-requires : tie.Need-piece-requires
 piece-requires c κs =
     let top = c .before .before .before .before .before in
-    best-within (top .args .map .now) (top .args .n) (omega arith) (omega arith) (c .before .before .survey .ensures) (omega arith)
+    let w = top .pre .1 .3 in
+    best-within (w .0) (tracks (geometryOf (top .args .g))) (w .1 .apart) (top .pre .0 .0 .tracksMost) (omega arith) (c .before .before .survey .ensures (w .0) (w .1)) (omega arith)
 
 element-set-from-part : tie.Need-element-set-from-part
 element-set-from-part c = search needs
@@ -31,28 +34,30 @@ mul-tracks c =
 returns : tie.Need-returns
 returns c =
     let top = c .before .before .before .before .before .before in
-    rw (c .piece .ensures) (granted-one (top .args .map .now) (top .args .n) (omega arith) (omega arith) (c .before .before .before .survey .ensures) (omega arith) (top .args .pieces .now) (top .pre .1 .2))
+    λ f x. rw (c .piece .ensures) (granted-one f (tracks (geometryOf (top .args .g))) (x .apart) (top .pre .0 .0 .tracksMost) (omega arith) (c .before .before .before .survey .ensures f x) (omega arith) (top .args .pieces .now) (top .pre .1 .2))
 
 sum-requires : tie.Need-sum-requires
 sum-requires c κs =
     let top = c .before .before .before .before .before in
-    five-small (top .args .map .now) (top .args .n) (omega arith) (omega arith) (c .before .before .survey .ensures) (omega arith)
+    let w = top .pre .1 .3 in
+    five-small (w .0) (tracks (geometryOf (top .args .g))) (w .1 .apart) (top .pre .0 .0 .tracksMost) (omega arith) (c .before .before .survey .ensures (w .0) (w .1)) (omega arith)
 
 returns-2 : tie.Need-returns-2
 returns-2 c =
     let top = c .before .before .before .before .before .before .before in
-    granted-none (top .args .map .now) (top .args .n) (omega arith) (omega arith) (c .before .before .before .before .survey .ensures) (omega arith) (omega arith) (top .args .pieces .now)
+    λ f x. granted-none f (tracks (geometryOf (top .args .g))) (x .apart) (top .pre .0 .0 .tracksMost) (omega arith) (c .before .before .before .before .survey .ensures f x) (omega arith) (omega arith) (top .args .pieces .now)
 
 fill-requires : tie.Need-fill-requires
 fill-requires c κs =
     let top = c .before .before .before .before .before .before .before .before in
-    ((omega arith, omega arith, omega arith, omega arith, omega arith), (five-within (top .args .map .now) (top .args .n) (omega arith) (omega arith) (c .before .before .before .before .before .survey .ensures), top .pre .1 .2))
+    let w = top .pre .1 .3 in
+    ((omega arith, omega arith, omega arith, omega arith, omega arith), (five-within (w .0) (tracks (geometryOf (top .args .g))) (w .1 .apart) (top .pre .0 .0 .tracksMost) (omega arith) (c .before .before .before .before .before .survey .ensures (w .0) (w .1)), top .pre .1 .2))
 
 returns-3 : tie.Need-returns-3
 returns-3 c =
     let top = c .before .before .before .before .before .before .before .before .before in
-    c .fill .ensures
-    ∙ ap (λ (o : Option (List Run)). replyOf o (top .args .pieces .now)) (granted-more (top .args .map .now) (top .args .n) (omega arith) (omega arith) (c .before .before .before .before .before .before .survey .ensures) (omega arith))
+    λ f x. c .fill .ensures
+        ∙ ap (λ (o : Option (List Run)). replyOf o (top .args .pieces .now)) (granted-more f (tracks (geometryOf (top .args .g))) (x .apart) (top .pre .0 .0 .tracksMost) (omega arith) (c .before .before .before .before .before .before .survey .ensures f x) (omega arith))
 
 pub choose-spec : {M : Type 1} → statement M
 choose-spec =

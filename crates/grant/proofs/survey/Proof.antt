@@ -1,81 +1,98 @@
-use mathlib.Core.Path.{_≡_, refl, sym, ap, _∙_}
+use mathlib.Core.Path.{_≡_, refl, sym, ap, _∙_, subst}
 use mathlib.Core.List.{List, []}
-use mathlib.Core.Logic.{⊎-elim}
-use mathlib.Core.Bool.{cond}
-use Prim.Native.Nat.{_≤_, _-_}
+use Prim.Native.Nat.{ℕ, _≤_, _<_, _-_}
 use native.Mathlib.Omega.{arith}
-use borrow.Author.Needs.{needs}
 use lib.ListN.{length}
-use Rattle.grant.proofs.Passing.{best-turn, five-turn, surveyed, better-is}
-use Rattle.grant.proofs.Longest.{fiveAfter}
-use Rattle.grant.proofs.BestFit.{bestAfter}
-use Rattle.grant.specs.Pass.{toRuns, noRun, padded, entered}
-use Rattle.tracks.proofs.Walk.{goes-on}
-use Rattle.tracks.specs.Map.{freeFrom}
-use Rattle.model.specs.Choice.{wholeIn}
-use Rattle.model.specs.Model.{Run, run}
+use Rattle.model.specs.Model.{Run, run, slots}
+use Rattle.forms.specs.Forms.{geometryOf}
+use Rattle.free_list.specs.FreeList.{Entries, Listed}
+use Rattle.grant.specs.Pass.{Looked, toRuns}
+use Rattle.grant.proofs.Members.{Going, going-all, going-end, going-next, going-none}
+use borrow.Author.Needs.{needs}
 use Rattle.grant.proofs.survey.Statement.{statement}
 use Rattle.grant.proofs.survey.Tie as tie
+use Rattle.grant.proofs.survey.Reads as reads
+use Rattle.grant.proofs.survey.Lts as lts
+use Rattle.fields.proofs.record_at.Reads as record-at-reads
+use Rattle.free_list.proofs.member_after.Reads as member-after-reads
+use Rattle.grant.proofs.look_member.Reads as look-member-reads
 
 abbrev Inv-loop : tie.InvT-loop
-Inv-loop map n u amount five₀ best₀ at₀ five best at =
-    (at ≤ n) × (length five ≡ 5)
-    × (bestAfter u amount noRun (freeFrom map n 0) ≡ bestAfter u amount (run (best .start) (best .count)) (freeFrom map n at))
-    × (fiveAfter u (padded 5 []) (freeFrom map n 0) ≡ fiveAfter u (toRuns five) (freeFrom map n at))
+Inv-loop table g u amount five₀ best₀ k₀ left₀ five best k left =
+    (length five ≡ 5) × (k < slots (geometryOf g))
+    × ((f : List Run) → Listed (geometryOf g) table f → Going (geometryOf g) table u amount f (toRuns five₀) left k (run (best .start) (best .count)) (toRuns five))
 
 abbrev μ-loop : tie.MeasureT-loop
-μ-loop map n u amount five₀ best₀ at₀ five best at = n - at
+μ-loop table g u amount five₀ best₀ k₀ left₀ five best k left = left
 
+-- src/lib.rt:116:21
+mul-left : tie.Need-mul-left Inv-loop μ-loop
+mul-left c = search needs
+
+-- src/lib.rt:116:20
+cast-left : tie.Need-cast-left Inv-loop μ-loop
+cast-left c = search needs
+
+-- src/lib.rt:117:5
 loop-holds : tie.Need-loop-holds Inv-loop μ-loop
-loop-holds c = (omega arith, c .before .pre .1 .0, refl, ap (λ (x : List Run). fiveAfter (c .before .args .u) x (freeFrom (c .before .args .map .now) (c .before .args .n) 0)) (sym (c .before .pre .1 .1)))
+loop-holds c =
+    let a = c .before .before .args in
+    let p = c .before .before .pre in
+    (p .1 .0, omega (arith, p .0 .0 .least), λ f x. going-all (geometryOf (a .g)) (a .table .now) (a .u) (a .amount) f (toRuns (a .five .now)) x)
 
-next-run-requires : tie.Need-next-run-requires Inv-loop μ-loop
-next-run-requires c κs = search needs
-
-whole-requires : tie.Need-whole-requires Inv-loop μ-loop
-whole-requires c κs = search needs
-
-fits-better-requires : tie.Need-fits-better-requires Inv-loop μ-loop
-fits-better-requires c κs = search needs
-
-enter-requires : tie.Need-enter-requires Inv-loop μ-loop
-enter-requires c κs = search needs
-
-loop-less : tie.Need-loop-less Inv-loop μ-loop
-loop-less c =
-    let next = c .before .before .before .before .before in
-    omega (arith, goes-on (next .next-run .ensures) (next .before .loop-test .taken))
-
-loop-again : tie.Need-loop-again Inv-loop μ-loop
-loop-again c =
-    let test = c .before .before .before in
-    let unit = test .before in
-    let next = unit .before in
-    let at-loop = next .before .before in
-    let top = at-loop .before .before in
-    let u = top .args .u in
-    let k = top .args .amount in
-    let from = next .next-run .result .from in
-    let to = next .next-run .result .to in
-    let f : List Run = freeFrom (top .args .map .now) (top .args .n) to in
-    let x : Run = run (at-loop .loop .best .start) (at-loop .loop .best .count) in
-    let y : Run = run (unit .whole .result .start) (unit .whole .result .count) in
-    let best = better-is k x y (wholeIn u (run from (to - from))) (test .fits-better .result) (test .fits-better .ensures) (unit .whole .ensures) in
-    let new : run (c .before .before .if1 .best .start) (c .before .before .if1 .best .count) ≡ cond (test .fits-better .result) y x =
-    ⊎-elim (λ w. rw (w .1, w .0 .taken)) (λ w. rw (w .1, w .0 .left)) (c .before .before .if1 .came) in (
-      omega arith,
-      c .enter .ensures .0,
-      at-loop .loop .inv .2 ∙ best-turn u (omega arith) (next .next-run .ensures) k x (omega arith)
-          ∙ ap (λ (z : Run). bestAfter u k z f) (sym (new ∙ best)),
-      at-loop .loop .inv .3 ∙ five-turn u (omega arith) (next .next-run .ensures) (toRuns (at-loop .loop .five))
-          ∙ ap (λ (ds : List Run). fiveAfter u ds f) (ap (λ (z : Run). entered z (toRuns (at-loop .loop .five))) (sym (unit .whole .ensures)) ∙ sym (c .enter .ensures .1)),
-    )
-
+-- src/lib.rt:119:13
 returns : tie.Need-returns Inv-loop μ-loop
 returns c =
-    let top = c .before .before .before in
-    let e : c .before .loop .at ≡ top .args .n = omega arith in
-    surveyed (top .args .map .now) (top .args .n) (top .args .u) (top .args .amount) _ _ (omega arith) (rw e at (c .before .loop .inv .2)) (rw e at (c .before .loop .inv .3))
+    let a = c .before .before .before .before .before .args in
+    let p = c .before .before .before .before .before .pre in
+    let l = c .before .before .loop in
+    λ f x. going-none (geometryOf (a .g)) (a .table .now) (a .u) (a .amount) f (toRuns (a .five .now)) (l .left) (l .k) _ _ (l .inv .2 f x) (p .1 .1) (p .0 .4) (c .if1 .taken)
+
+-- src/lib.rt:121:28
+record-at-requires : tie.Need-record-at-requires Inv-loop μ-loop
+record-at-requires c κs = omega (arith, c .before .before .loop .inv .1, c .before .before .before .before .before .pre .0 .1)
+
+-- src/lib.rt:121:9
+look-member-requires : tie.Need-look-member-requires Inv-loop μ-loop
+look-member-requires c κs =
+    let p = c .before .before .before .before .before .before .before .pre in
+    (c .before .record-at .ensures .1, p .0 .0 .heads, p .0 .0 .headsMost, p .0 .2, p .0 .3, p .0 .4, c .before .before .before .before .loop .inv .0)
+
+-- src/lib.rt:122:9
+member-after-requires : tie.Need-member-after-requires Inv-loop μ-loop
+member-after-requires c κs =
+    let p = c .before .before .before .before .before .before .before .before .pre in
+    (p .0 .0, p .0 .1, c .before .before .before .before .before .loop .inv .1)
+
+-- src/lib.rt:123:9
+sub-left : tie.Need-sub-left Inv-loop μ-loop
+sub-left c = search needs
+
+-- src/lib.rt:117:5
+loop-less : tie.Need-loop-less Inv-loop μ-loop
+loop-less c = search needs
+
+-- src/lib.rt:117:5
+loop-again : tie.Need-loop-again Inv-loop μ-loop
+loop-again c =
+    let top = c .before .before .before .before .before .before .before .before .before in
+    let a = top .args in
+    let l = c .before .before .before .before .before .before .loop in
+    let rec = c .before .before .before .record-at in (
+      c .before .look-member .ensures .0,
+      c .member-after .ensures .0,
+      λ f x. going-next (geometryOf (a .g)) (a .table .now) (a .u) (a .amount) f (toRuns (a .five .now)) (l .left) (l .k) _ _ (l .inv .2 f x) (omega (arith, c .before .before .before .before .if1 .left)) (c .member-after .result) _ _
+          (λ e y. c .before .look-member .ensures .1 e (subst (λ (r : List ℕ). Entries (a .g .heads) r e) (sym (rec .ensures .0)) y))
+          (c .member-after .ensures .1),
+    )
+
+-- src/lib.rt:109:1
+returns-2 : tie.Need-returns-2 Inv-loop μ-loop
+returns-2 c =
+    let a = c .before .before .before .before .args in
+    let p = c .before .before .before .before .pre in
+    let l = c .before .loop in
+    λ f x. going-end (geometryOf (a .g)) (a .table .now) (a .u) (a .amount) f (toRuns (a .five .now)) (l .left) (l .k) _ _ (l .inv .2 f x) (p .1 .1) (p .0 .4) (omega arith)
 
 pub survey-spec : {M : Type 1} → statement M
 survey-spec =
@@ -83,11 +100,14 @@ survey-spec =
     (tie.spec
     Inv-loop
     μ-loop
+    mul-left
+    cast-left
     loop-holds
-    next-run-requires
-    whole-requires
-    fits-better-requires
-    enter-requires
+    returns
+    record-at-requires
+    look-member-requires
+    member-after-requires
+    sub-left
     loop-less
     loop-again
-    returns)
+    returns-2)

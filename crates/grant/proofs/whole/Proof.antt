@@ -1,35 +1,48 @@
-use Prim.Native.Nat.{_+_, _-_, _/_}
+use mathlib.Core.Path.{_≡_, ap, sym, _∙_}
+use Prim.Native.Nat.{ℕ, _+_, _-_, _/_}
+use native.Mathlib.Nat.{div-one}
 use native.Mathlib.Omega.{arith}
+use Rattle.model.specs.Model.{Run, run}
+use Rattle.model.specs.Choice.{wholeIn}
+use Rattle.grant.proofs.Bounds.{whole-is, whole-one}
 use borrow.Author.Needs.{needs}
-use Rattle.grant.proofs.Bounds.{whole-is}
 use Rattle.grant.proofs.whole.Statement.{statement}
 use Rattle.grant.proofs.whole.Tie as tie
+use Rattle.grant.proofs.whole.Reads as reads
+use Rattle.grant.proofs.whole.Lts as lts
 
-cast-start : tie.Need-cast-start
-cast-start c = search needs
+-- src/lib.rt:31:20
+sub-t7 : tie.Need-sub-t7
+sub-t7 c = search needs
 
+-- src/lib.rt:29:9
+returns : tie.Need-returns
+returns c = whole-one (c .before .args .u) (c .before .args .from) (c .before .args .to) (omega arith) (c .if1 .taken)
+
+-- src/lib.rt:34:18
 add-start : tie.Need-add-start
 add-start c = search needs
 
+-- src/lib.rt:34:18
 sub-start : tie.Need-sub-start
 sub-start c = search needs
 
+-- src/lib.rt:34:17
 div-start : tie.Need-div-start
 div-start c = search needs
 
-cast-end : tie.Need-cast-end
-cast-end c = search needs
-
+-- src/lib.rt:35:15
 div-end : tie.Need-div-end
 div-end c = search needs
 
-returns : tie.Need-returns
-returns c = whole-is (c .before .args .u) (c .before .args .from) (c .before .args .to) 0 (omega arith) (omega arith)
-
+-- src/lib.rt:37:9
 returns-2 : tie.Need-returns-2
-returns-2 c = whole-is (c .before .args .u) (c .before .args .from) (c .before .args .to) (c .before .args .to / c .before .args .u - (c .before .args .from + c .before .args .u - 1) / c .before .args .u) (omega arith) (omega arith)
+returns-2 c = whole-is (c .before .before .args .u) (c .before .before .args .from) (c .before .before .args .to) 0 (omega arith) (omega arith)
+
+-- src/lib.rt:24:1
+returns-3 : tie.Need-returns-3
+returns-3 c = whole-is (c .before .before .args .u) (c .before .before .args .from) (c .before .before .args .to) (c .before .before .args .to / c .before .before .args .u - (c .before .before .args .from + c .before .before .args .u - 1) / c .before .before .args .u) (omega arith) (omega arith)
 
 pub whole-spec : {M : Type 1} → statement M
 whole-spec =
-    tie.close
-    (tie.spec cast-start add-start sub-start div-start cast-end div-end returns returns-2)
+    tie.close (tie.spec sub-t7 returns add-start sub-start div-start div-end returns-2 returns-3)

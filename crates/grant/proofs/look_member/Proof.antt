@@ -1,0 +1,96 @@
+use mathlib.Core.Path.{_≡_, refl, sym, ap, _∙_, subst}
+use mathlib.Core.List.{List, []}
+use Prim.Native.Nat.{ℕ, _≤_, _-_}
+use native.Mathlib.Omega.{arith}
+use lib.ListN.{drop, length}
+use Rattle.model.specs.Model.{Run, run}
+use Rattle.free_list.specs.FreeList.{Entries}
+use Rattle.free_list.proofs.Chain.{entry-end, entry-next, entry-none}
+use Rattle.grant.specs.Pass.{Looked, toRuns}
+use Rattle.grant.proofs.Passing.{looked-empty, looked-next}
+use borrow.Author.Needs.{needs}
+use Rattle.grant.proofs.look_member.Statement.{statement}
+use Rattle.grant.proofs.look_member.Tie as tie
+use Rattle.grant.proofs.look_member.Reads as reads
+use Rattle.grant.proofs.look_member.Lts as lts
+use Rattle.free_list.proofs.entry.Reads as entry-reads
+use Rattle.grant.proofs.look.Reads as look-reads
+
+abbrev Inv-loop : tie.InvT-loop
+Inv-loop rec h u amount five₀ now₀ j₀ five now j =
+    (j ≤ 26) × (length five ≡ 5)
+    × ((f : List Run) (best : Run) (ds : List (List ℕ)) → Entries h rec f → Looked u amount (drop j f) (run (now .start) (now .count)) best (toRuns five) (toRuns ds) → Looked u amount f (run (now₀ .start) (now₀ .count)) best (toRuns five₀) (toRuns ds))
+
+abbrev μ-loop : tie.MeasureT-loop
+μ-loop rec h u amount five₀ now₀ j₀ five now j = 26 - j
+
+-- src/lib.rt:97:5
+loop-holds : tie.Need-loop-holds Inv-loop μ-loop
+loop-holds c = (omega arith, c .before .pre .6, λ f best ds e x. x)
+
+-- src/lib.rt:98:13
+entry-requires : tie.Need-entry-requires Inv-loop μ-loop
+entry-requires c κs = search needs
+
+-- src/lib.rt:100:13
+returns : tie.Need-returns Inv-loop μ-loop
+returns c =
+    let at-loop = c .before .before .before .before in
+    let a = at-loop .before .before .args in
+    let i = at-loop .loop .inv in
+    let n = at-loop .loop .now in
+    let hole = c .before .before in
+    (i .1, λ f x. i .2 f (run (n .start) (n .count)) (at-loop .loop .five) x
+        (looked-empty (a .u) (a .amount) _ _ _ (entry-none x (at-loop .loop .j) (hole .entry .result .start) (hole .entry .result .count) (omega arith) (hole .entry .ensures .0) (c .if1 .taken))))
+
+-- src/lib.rt:102:9
+look-requires : tie.Need-look-requires Inv-loop μ-loop
+look-requires c κs = search needs
+
+-- src/lib.rt:103:9
+add-j : tie.Need-add-j Inv-loop μ-loop
+add-j c = search needs
+
+-- src/lib.rt:97:5
+loop-less : tie.Need-loop-less Inv-loop μ-loop
+loop-less c = search needs
+
+-- src/lib.rt:97:5
+loop-again : tie.Need-loop-again Inv-loop μ-loop
+loop-again c =
+    let at-loop = c .before .before .before .before .before .before in
+    let a = at-loop .before .before .args in
+    let i = at-loop .loop .inv in
+    let n = at-loop .loop .now in
+    let hole = c .before .before .before .before in (
+      omega arith,
+      c .look .ensures .0,
+      λ f best ds x y. i .2 f best ds x
+          (looked-next (a .u) (a .amount) (run (hole .entry .result .start) (hole .entry .result .count)) _ _ (run (n .start) (n .count)) best _ (toRuns (at-loop .loop .five)) (toRuns ds) _
+          (entry-next x (at-loop .loop .j) (hole .entry .result .start) (hole .entry .result .count) (omega arith) (hole .entry .ensures .0) (c .before .before .if1 .left))
+          (c .look .ensures .1) (c .look .ensures .2) y),
+    )
+
+-- src/lib.rt:91:1
+returns-2 : tie.Need-returns-2 Inv-loop μ-loop
+returns-2 c =
+    let a = c .before .before .before .args in
+    let i = c .before .loop .inv in
+    let n = c .before .loop .now in
+    let e : c .before .loop .j ≡ 26 = omega arith in
+    (i .1, λ f x. i .2 f (run (n .start) (n .count)) (c .before .loop .five) x (looked-empty (a .u) (a .amount) _ _ _ (ap (λ (j : ℕ). drop j f) e ∙ entry-end x)))
+
+pub look-member-spec : {M : Type 1} → statement M
+look-member-spec =
+    tie.close
+    (tie.spec
+    Inv-loop
+    μ-loop
+    loop-holds
+    entry-requires
+    returns
+    look-requires
+    add-j
+    loop-less
+    loop-again
+    returns-2)
