@@ -8,7 +8,7 @@ use native.Mathlib.Omega.{arith}
 use lib.Dec.{T, eqb, eqb→eq, leb, leb→le}
 use lib.ListN.{length, take}
 use Rattle.model.specs.Basics.{any}
-use Rattle.model.specs.Model.{Extent, Geometry, Label, Run, Volume, extent, held, overs, slots, slotsOf, tally, tracks, used}
+use Rattle.model.specs.Model.{Extent, Geometry, Label, Run, Volume, extent, free, held, overs, slots, slotsOf, tally, tracks, used}
 use Rattle.model.proofs.Lists.{and-l, and-r, is-true}
 use Rattle.rules.specs.Calls.{Amount, Outcome, absolute, allocate, allocate₁, allocate₂, granted, inCylinders, inRange, inTracks, settled, unitOf}
 use Rattle.rules.specs.Calls.{grant as granting}
@@ -27,6 +27,8 @@ use Rattle.request.specs.Request.{Askable, piecesOf, typeOf}
 use Rattle.request.proofs.Laws.{Accepted, accepted, range-askable, refused}
 use Rattle.set_change.specs.Change.{granted as more}
 use Rattle.opening.proofs.Laws.{Ready, ready}
+use Rattle.free_list.specs.FreeList.{Listed}
+use Rattle.free_list.proofs.Chain.{listed}
 use Rattle.opening.proofs.Lookup.{limits-of, table-long}
 use Rattle.granting.specs.Granting.{Granted, Grants}
 use Rattle.call_allocate.specs.Asking.{Asking, Chooses}
@@ -64,6 +66,9 @@ module _ {t m s name at a : List ℕ} {g : Geometry} {amount : Amount} {sec : �
   shows : Shows m (tracks g) (held g ls)
   shows = subst (λ (y : Geometry). Shows m (tracks y) (held y ls)) (sym (d .geometryIs)) (d .shown .freeTracks)
 
+  pub lists : Listed g t (free g ls)
+  lists = subst (λ (y : Geometry). Listed y t (free y ls)) (sym (d .geometryIs)) (listed t v (is-ready .sound))
+
   -- ---- the rule, as far as it goes
 
   abbrev chosen : Option (List Extent)
@@ -86,9 +91,9 @@ module _ {t m s name at a : List ℕ} {g : Geometry} {amount : Amount} {sec : �
 
   -- ---- the choice
 
-  module _ (count sum : ℕ) (p p′ : List (List ℕ)) (f : (ls : List Label) → Shows m (tracks g) (held g ls) → grant count sum p′ ≡ replyOf (piecesOf g ls amount) p) where
+  module _ (count sum : ℕ) (p p′ : List (List ℕ)) (f : (ls : List Label) → Shows m (tracks g) (held g ls) → Listed g t (free g ls) → grant count sum p′ ≡ replyOf (piecesOf g ls amount) p) where
     reply : grant count sum p′ ≡ replyOf (piecesOf (v .geometry) ls amount) p
-    reply = f ls shows ∙ ap (λ (y : Geometry). replyOf (piecesOf y ls amount) p) (d .geometryIs)
+    reply = f ls shows lists ∙ ap (λ (y : Geometry). replyOf (piecesOf y ls amount) p) (d .geometryIs)
 
     askable-there : Askable (v .geometry) amount
     askable-there = subst (λ (y : Geometry). Askable y amount) (d .geometryIs) askable

@@ -24,7 +24,7 @@ fn place(
 {
     let amount = request.amount;
     let mut pieces = [[0u16; 2]; 5];
-    let got = request::fulfil(map, g, amount, &mut pieces);
+    let got = request::fulfil(table, map, g, amount, &mut pieces);
     if got.count == 0 {
         return 9;
     }

@@ -9,7 +9,7 @@ use borrow.Author.Tests.{le-leb, lt-leb}
 use lib.Dec.{T, eqb, leb}
 use lib.ListN.{length, take, getD, length-map}
 use Rattle.model.specs.Basics.{get3, upFrom}
-use Rattle.model.specs.Model.{Extent, Geometry, Label, Run, Volume, extent, held, overs, runsOf, slots, times, tracks}
+use Rattle.model.specs.Model.{Extent, Geometry, Label, Run, Volume, extent, free, held, overs, runsOf, slots, times, tracks}
 use Rattle.rules.specs.Calls.{Amount, extend, extend₁, extend₂, granted, inCylinders, inTracks, refuse, secondaryOf, settled}
 use Rattle.rules.specs.Calls.{grant as granting}
 use Rattle.rules.specs.Entries.{lent, result, written}
@@ -29,6 +29,8 @@ use Rattle.set_change.specs.Change.{granted as more}
 use Rattle.set_at.specs.Held.{SetAt}
 use Rattle.set_at.proofs.Laws.{Known, known}
 use Rattle.opening.proofs.Laws.{Ready, ready}
+use Rattle.free_list.specs.FreeList.{Listed}
+use Rattle.free_list.proofs.Chain.{listed}
 use Rattle.opening.proofs.Lookup.{limits-of, table-long}
 use Rattle.commit.proofs.Sets.{held-apart, others-stay, slots-same}
 use Rattle.granting.specs.Granting.{Granted, Grants}
@@ -86,6 +88,9 @@ module _ {t m s a : List ℕ} {g : Geometry} {k : ℕ} (d : Longer t m s a g k) 
   shows : Shows m (tracks g) (held g (v .labels))
   shows = subst (λ (y : Geometry). Shows m (tracks y) (held y (v .labels))) (sym (d .geometryIs)) (d .shown .freeTracks)
 
+  pub lists : Listed g t (free g (v .labels))
+  lists = subst (λ (y : Geometry). Listed y t (free y (v .labels))) (sym (d .geometryIs)) (listed t v (is-ready .sound))
+
   good : GoodLabel g l
   good = subst (λ (y : Geometry). GoodLabel y l) (sym (d .geometryIs)) (d .there .records .good)
 
@@ -132,9 +137,9 @@ module _ {t m s a : List ℕ} {g : Geometry} {k : ℕ} (d : Longer t m s a g k) 
             let e : leb 1 (l .secondary) ≡ true = le-leb 1 (l .secondary) (let z = sec-is in let w = positive in omega arith) in
             rw e (ap (λ (y : Amount). extend₂ v name l (granting (v .geometry) (v .labels) y)) (sym amount-is))
 
-        module _ (n sum : ℕ) (p p′ : List (List ℕ)) (f : (ls : List Label) → Shows m (tracks g) (held g ls) → grant n sum p′ ≡ replyOf (piecesOf g ls q) p) where
+        module _ (n sum : ℕ) (p p′ : List (List ℕ)) (f : (ls : List Label) → Shows m (tracks g) (held g ls) → Listed g t (free g ls) → grant n sum p′ ≡ replyOf (piecesOf g ls q) p) where
           reply : grant n sum p′ ≡ replyOf (piecesOf (v .geometry) (v .labels) q) p
-          reply = f (v .labels) shows ∙ ap (λ (y : Geometry). replyOf (piecesOf y (v .labels) q) p) (d .geometryIs)
+          reply = f (v .labels) shows lists ∙ ap (λ (y : Geometry). replyOf (piecesOf y (v .labels) q) p) (d .geometryIs)
 
           askable-there : Askable (v .geometry) q
           askable-there = subst (λ (y : Geometry). Askable y q) (d .geometryIs) askable

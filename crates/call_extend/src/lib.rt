@@ -29,7 +29,7 @@ fn lengthen(
     }
     let amount = request::secondary_of(one[94], secondary);
     let mut pieces = [[0u16; 2]; 5];
-    let got = request::fulfil(map, g, amount, &mut pieces);
+    let got = request::fulfil(table, map, g, amount, &mut pieces);
     if got.count == 0 {
         return 9;
     }
