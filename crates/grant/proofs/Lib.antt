@@ -3,7 +3,6 @@ pub mod Longest
 pub mod BestFit
 pub mod Entering
 pub mod Passing
-pub mod Members
 pub mod Gathering
 pub mod Choosing
 pub mod Reply

@@ -1,5 +1,5 @@
 -- The pass over the free extents, turn by turn, and what it comes to. Assumes nothing.
-use mathlib.Core.Path.{_≡_, refl, sym, ap, _∙_}
+use mathlib.Core.Path.{_≡_, refl, sym, ap, _∙_, subst}
 use mathlib.Core.Bool.{Bool, cond}
 use mathlib.Core.List.{List, [], _∷_, _++_}
 use Prim.Native.Nat.{ℕ, suc, _+_, _-_, _/_, _≤_, _<_}
@@ -74,3 +74,13 @@ unit-is u s c w e = e ∙ ap (λ (x : ℕ). wholeIn u (run s x)) (let q : s + c 
 -- no free extent is left
 pub looked-empty : (u n : ℕ) (f : List Run) (best : Run) (five : List Run) → f ≡ [] → Looked u n f best best five five
 looked-empty u n f best five e = record { best-is = ap (bestAfter u n best) e; five-is = ap (fiveAfter u five) e }
+
+-- what is known on the way through f: what the rest does to the best fit and the five longest, all of f does from the start
+abbrev pub Onwards : ℕ → ℕ → List Run → List Run → Run → List Run → List Run → Type 0
+Onwards u n f five₀ best five rest = (best′ : Run) (five′ : List Run) → Looked u n rest best best′ five five′ → Looked u n f noRun best′ five₀ five′
+
+pub onwards-next : (u n : ℕ) (f five₀ : List Run) (best b : Run) (five d : List Run) (rest : List Run) → Looked u n (take 26 rest) best b five d → Onwards u n f five₀ best five rest → Onwards u n f five₀ b d (drop 26 rest)
+onwards-next u n f five₀ best b five d rest x p b′ d′ z = p b′ d′ (looked-more u n 26 rest best b b′ five d d′ x z)
+
+pub onwards-done : (u n : ℕ) (f five₀ : List Run) (best : Run) (five : List Run) → five₀ ≡ padded 5 [] → 1 ≤ n → Onwards u n f five₀ best five [] → Surveyed u n f best five
+onwards-done u n f five₀ best five e h p = surveyed u n f best five h (subst (λ (y : List Run). Looked u n f noRun best y five) e (p best five (looked-empty u n [] best five refl)))

@@ -2,12 +2,13 @@ use mathlib.Core.Path.{_≡_, refl, sym, ap, _∙_, subst}
 use mathlib.Core.List.{List, []}
 use Prim.Native.Nat.{ℕ, _≤_, _<_, _-_}
 use native.Mathlib.Omega.{arith}
-use lib.ListN.{length}
+use lib.ListN.{length, take}
 use Rattle.model.specs.Model.{Run, run, slots}
 use Rattle.forms.specs.Forms.{geometryOf}
 use Rattle.free_list.specs.FreeList.{Entries, Listed}
 use Rattle.grant.specs.Pass.{Looked, toRuns}
-use Rattle.grant.proofs.Members.{Going, going-all, going-end, going-next, going-none}
+use Rattle.free_list.proofs.Walk.{Going, going-all, going-end, going-next, going-none}
+use Rattle.grant.proofs.Passing.{Onwards, onwards-done, onwards-next}
 use borrow.Author.Needs.{needs}
 use Rattle.grant.proofs.survey.Statement.{statement}
 use Rattle.grant.proofs.survey.Tie as tie
@@ -20,7 +21,7 @@ use Rattle.grant.proofs.look_member.Reads as look-member-reads
 abbrev Inv-loop : tie.InvT-loop
 Inv-loop table g u amount five₀ best₀ k₀ left₀ five best k left =
     (length five ≡ 5) × (k < slots (geometryOf g))
-    × ((f : List Run) → Listed (geometryOf g) table f → Going (geometryOf g) table u amount f (toRuns five₀) left k (run (best .start) (best .count)) (toRuns five))
+    × ((f : List Run) → Listed (geometryOf g) table f → Going (geometryOf g) table left k (Onwards u amount f (toRuns five₀) (run (best .start) (best .count)) (toRuns five)))
 
 abbrev μ-loop : tie.MeasureT-loop
 μ-loop table g u amount five₀ best₀ k₀ left₀ five best k left = left
@@ -38,7 +39,7 @@ loop-holds : tie.Need-loop-holds Inv-loop μ-loop
 loop-holds c =
     let a = c .before .before .args in
     let p = c .before .before .pre in
-    (p .1 .0, omega (arith, p .0 .0 .least), λ f x. going-all (geometryOf (a .g)) (a .table .now) (a .u) (a .amount) f (toRuns (a .five .now)) x)
+    (p .1 .0, omega (arith, p .0 .0 .least), λ f x. going-all (geometryOf (a .g)) (a .table .now) _ f x (λ best five y. y))
 
 -- src/lib.rt:119:13
 returns : tie.Need-returns Inv-loop μ-loop
@@ -46,7 +47,7 @@ returns c =
     let a = c .before .before .before .before .before .args in
     let p = c .before .before .before .before .before .pre in
     let l = c .before .before .loop in
-    λ f x. going-none (geometryOf (a .g)) (a .table .now) (a .u) (a .amount) f (toRuns (a .five .now)) (l .left) (l .k) _ _ (l .inv .2 f x) (p .1 .1) (p .0 .4) (c .if1 .taken)
+    λ f x. onwards-done (a .u) (a .amount) f (toRuns (a .five .now)) _ _ (p .1 .1) (p .0 .4) (going-none (geometryOf (a .g)) (a .table .now) _ (l .left) (l .k) (l .inv .2 f x) (c .if1 .taken))
 
 -- src/lib.rt:121:28
 record-at-requires : tie.Need-record-at-requires Inv-loop μ-loop
@@ -81,8 +82,8 @@ loop-again c =
     let rec = c .before .before .before .record-at in (
       c .before .look-member .ensures .0,
       c .member-after .ensures .0,
-      λ f x. going-next (geometryOf (a .g)) (a .table .now) (a .u) (a .amount) f (toRuns (a .five .now)) (l .left) (l .k) _ _ (l .inv .2 f x) (omega (arith, c .before .before .before .before .if1 .left)) (c .member-after .result) _ _
-          (λ e y. c .before .look-member .ensures .1 e (subst (λ (r : List ℕ). Entries (a .g .heads) r e) (sym (rec .ensures .0)) y))
+      λ f x. going-next (geometryOf (a .g)) (a .table .now) _ (l .left) (l .k) (l .inv .2 f x) (omega (arith, c .before .before .before .before .if1 .left)) (c .member-after .result) _
+          (λ e y z. onwards-next (a .u) (a .amount) f (toRuns (a .five .now)) _ _ _ _ e (c .before .look-member .ensures .1 (take 26 e) (subst (λ (r : List ℕ). Entries (a .g .heads) r (take 26 e)) (sym (rec .ensures .0)) y)) z)
           (c .member-after .ensures .1),
     )
 
@@ -92,7 +93,7 @@ returns-2 c =
     let a = c .before .before .before .before .args in
     let p = c .before .before .before .before .pre in
     let l = c .before .loop in
-    λ f x. going-end (geometryOf (a .g)) (a .table .now) (a .u) (a .amount) f (toRuns (a .five .now)) (l .left) (l .k) _ _ (l .inv .2 f x) (p .1 .1) (p .0 .4) (omega arith)
+    λ f x. onwards-done (a .u) (a .amount) f (toRuns (a .five .now)) _ _ (p .1 .1) (p .0 .4) (going-end (geometryOf (a .g)) (a .table .now) _ (l .left) (l .k) (l .inv .2 f x) (omega arith))
 
 pub survey-spec : {M : Type 1} → statement M
 survey-spec =
