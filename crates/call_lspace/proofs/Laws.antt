@@ -1,154 +1,168 @@
 -- The sums over the free extents, run by run, and the space inquiry as a whole. Assumes nothing.
-use mathlib.Core.Path.{_≡_, refl, sym, ap, ap₂, _∙_}
+use mathlib.Core.Path.{_≡_, refl, sym, ap, ap₂, _∙_, subst}
 use mathlib.Core.Bool.{Bool, true, false, _&&_}
-use mathlib.Core.List.{List, [], _∷_}
-use Prim.Native.Nat.{ℕ, zero, suc, _+_, _-_, _/_, _%_, _≤_, _<_, max, min}
-use native.Mathlib.Nat.{div-le-self, mod-le, zero-div, zero-mod}
+use mathlib.Core.List.{List, [], _∷_, _++_}
+use Prim.Native.Nat.{ℕ, zero, suc, _+_, _*_, _/_, _%_, _≤_, _<_, max}
+use native.Mathlib.Nat.{div-le-self, mod-le}
 use mathlib.Core.Logic.{⊎-elim}
 use native.Mathlib.Omega.{arith}
 use lib.Dec.{eqb}
-use lib.ListN.{length}
+use lib.ListN.{drop, length, length-append, take, take-append-drop}
 use Rattle.model.specs.Basics.{get2, sumOf}
-use Rattle.model.specs.Model.{Geometry, Run, Volume, format0s, free, slots, tracks}
+use Rattle.model.specs.Model.{Geometry, Run, Separate, Volume, format0s, free, slots}
 use Rattle.model.proofs.Lists.{All}
 use Rattle.rules.specs.Calls.{answer, longest, lspace, numbers, rule, spaceNumbers}
 use Rattle.rules.specs.Entries.{lent, perform, result, written}
 use Rattle.rules.specs.Layout.{format4, highest}
 use Rattle.rules.specs.Reading.{read}
 use Rattle.rules.proofs.Bytes.{be2-back}
-use Rattle.tracks.specs.Map.{NextRun, freeFrom}
 use Rattle.tracks.proofs.Bits.{le-or-lt}
-use Rattle.tracks.proofs.Walk.{free-from-end}
 use Rattle.fields.specs.Records.{slotBytes}
 use Rattle.fields.proofs.Slots.{chop-slot}
-use Rattle.table_check.specs.Check.{Shown}
-use Rattle.table_check.proofs.Free.{free-shown}
+use Rattle.free_list.specs.FreeList.{Listed}
+use Rattle.free_list.proofs.Chain.{listed}
+use Rattle.call_lspace.specs.declared.Sums.{Sums}
+use Rattle.call_lspace.specs.Totals.{Below, Summed, none}
 use Rattle.opening.specs.Opening.{openNumber}
 use Rattle.opening.proofs.Laws.{Ready}
 use Rattle.opening.proofs.Numbers.{opened-ready, passed, refused}
 
--- ---- the loop
+-- ---- the sums
 
--- what the runs of free tracks before track t add up to: c cylinders, o odd tracks, k runs, the longest l
-pub record Summed (h : ℕ) (m : List ℕ) (n t c o k l : ℕ) : Type 0 where
-  pub cylinders : c + sumOf (λ r. r .count / h) (freeFrom m n t) ≡ sumOf (λ r. r .count / h) (freeFrom m n 0)
-  pub odd : o + sumOf (λ r. r .count % h) (freeFrom m n t) ≡ sumOf (λ r. r .count % h) (freeFrom m n 0)
-  pub many : k + length (freeFrom m n t) ≡ length (freeFrom m n 0)
-  pub long : max l (longest (freeFrom m n t)) ≡ longest (freeFrom m n 0)
-  pub upTo : t ≤ n
-  pub mostCylinders : c ≤ t
-  pub mostOdd : o ≤ t
-  pub mostRuns : k ≤ t
-  pub mostLong : l ≤ t
+pub summed-empty : (h : ℕ) (f : List Run) (s : Sums) → f ≡ [] → Summed h f s s
+summed-empty h f s e =
+    let a : sumOf (λ x. x .count / h) f ≡ 0 = ap (λ (y : List Run). sumOf (λ x. x .count / h) y) e in
+    let b : sumOf (λ x. x .count % h) f ≡ 0 = ap (λ (y : List Run). sumOf (λ x. x .count % h) y) e in
+    let c : length f ≡ 0 = ap length e in
+    let d : longest f ≡ 0 = ap (λ (y : List Run). longest y) e in
+    record { cylinders = omega arith; odd = omega arith; many = omega arith; long = omega arith }
 
-pub none-summed : (h : ℕ) (m : List ℕ) (n : ℕ) → Summed h m n 0 0 0 0 0
-none-summed h m n =
+-- the free extents f, of which x is the first
+pub summed-next : (h : ℕ) (x : Run) (f rest : List Run) (s u r : Sums) → f ≡ x ∷ rest → u .cylinders ≡ s .cylinders + x .count / h → u .odd ≡ s .odd + x .count % h → u .many ≡ s .many + 1
+    → u .long ≡ max (s .long) (x .count) → Summed h rest u r → Summed h f s r
+summed-next h x f rest s u r e ec eo em el y =
+    let a : sumOf (λ x. x .count / h) f ≡ x .count / h + sumOf (λ x. x .count / h) rest = ap (λ (y : List Run). sumOf (λ x. x .count / h) y) e in
+    let b : sumOf (λ x. x .count % h) f ≡ x .count % h + sumOf (λ x. x .count % h) rest = ap (λ (y : List Run). sumOf (λ x. x .count % h) y) e in
+    let c : length f ≡ suc (length rest) = ap length e in
+    let d : longest f ≡ max (x .count) (longest rest) = ap (λ (y : List Run). longest y) e in
     record {
-      cylinders = omega arith;
-      odd = omega arith;
-      many = omega arith;
-      long = omega arith;
-      upTo = omega arith;
-      mostCylinders = omega arith;
-      mostOdd = omega arith;
-      mostRuns = omega arith;
-      mostLong = omega arith;
+      cylinders = let z = y .cylinders in omega arith;
+      odd = let z = y .odd in omega arith;
+      many = let z = y .many in omega arith;
+      long = let z = y .long in omega arith;
     }
 
--- the next run, from a up to b
-module _ {h : ℕ} {m : List ℕ} {n t a b c o k l : ℕ} (r : NextRun m n t a b) (x : Summed h m n t c o k l) where
-  abbrev d : ℕ
-  d = b - a
+long-append : (f g : List Run) → longest (f ++ g) ≡ max (longest f) (longest g)
+long-append [] g = omega arith
+long-append (x ∷ f) g = let i = long-append f g in omega arith
 
-  -- a sum over the runs: the next one, and those behind it
-  sum-next : (F : ℕ → ℕ) → F 0 ≡ 0 → sumOf (λ q. F (q .count)) (freeFrom m n t) ≡ F d + sumOf (λ q. F (q .count)) (freeFrom m n b)
-  sum-next F z =
-      let G : List Run → ℕ = λ f. sumOf (λ q. F (q .count)) f in
-      let low = r .low in
-      let high = r .high in
+sum-append : (F : Run → ℕ) (f g : List Run) → sumOf F (f ++ g) ≡ sumOf F f + sumOf F g
+sum-append F [] g = omega arith
+sum-append F (x ∷ f) g = let i = sum-append F f g in omega arith
+
+-- the first k of f, and the others
+pub summed-more : (h k : ℕ) (f : List Run) (s u r : Sums) → Summed h (take k f) s u → Summed h (drop k f) u r → Summed h f s r
+summed-more h k f s u r x y =
+    let e = take-append-drop k f in
+    let a : sumOf (λ x. x .count / h) f ≡ sumOf (λ x. x .count / h) (take k f) + sumOf (λ x. x .count / h) (drop k f)
+    = ap (λ (y : List Run). sumOf (λ x. x .count / h) y) (sym e) ∙ sum-append (λ x. x .count / h) (take k f) (drop k f) in
+    let b : sumOf (λ x. x .count % h) f ≡ sumOf (λ x. x .count % h) (take k f) + sumOf (λ x. x .count % h) (drop k f)
+    = ap (λ (y : List Run). sumOf (λ x. x .count % h) y) (sym e) ∙ sum-append (λ x. x .count % h) (take k f) (drop k f) in
+    let c : length f ≡ length (take k f) + length (drop k f) = ap length (sym e) ∙ length-append (take k f) (drop k f) in
+    let d : longest f ≡ max (longest (take k f)) (longest (drop k f)) = ap (λ (y : List Run). longest y) (sym e) ∙ long-append (take k f) (drop k f) in
+    record {
+      cylinders = let z = x .cylinders in let w = y .cylinders in omega arith;
+      odd = let z = x .odd in let w = y .odd in omega arith;
+      many = let z = x .many in let w = y .many in omega arith;
+      long = let z = x .long in let w = y .long in omega arith;
+    }
+
+-- what is known on the way through f: what the rest adds, all of f adds from the start
+abbrev pub Onwards : ℕ → List Run → Sums → List Run → Type 0
+Onwards h f s rest = (r : Sums) → Summed h rest s r → Summed h f none r
+
+-- ---- how large the sums get
+
+pub below-more : (m n : ℕ) (s : Sums) → m ≤ n → Below m s → Below n s
+below-more m n s h b = record {
+  cylinders = let z = b .cylinders in omega arith;
+  odd = let z = b .odd in omega arith;
+  many = let z = b .many in omega arith;
+  long = let z = b .long in omega arith;
+}
+
+-- one entry more, of c tracks
+pub below-next : (n j c h : ℕ) (s u : Sums) → c ≤ 16711680 → 16711680 ≤ n → u .cylinders ≡ s .cylinders + c / h → u .odd ≡ s .odd + c % h → u .many ≡ s .many + 1 → u .long ≡ max (s .long) c
+    → Below (n + j * 16711680) s → Below (n + (j + 1) * 16711680) u
+below-next n j c h s u k l ec eo em el b =
+    let q = div-le-self c h in
+    let w = mod-le c h in
+    record {
+      cylinders = let z = b .cylinders in omega arith;
+      odd = let z = b .odd in omega arith;
+      many = let z = b .many in omega arith;
+      long = let z = b .long in omega arith;
+    }
+
+-- ---- the six numbers
+
+-- the sums of free extents are no more than their tracks
+module _ (h : ℕ) where
+  pub bounded : (lo hi : ℕ) (f : List Run) → Separate lo hi f → lo ≤ hi
+      → (sumOf (λ x. x .count / h) f + lo ≤ hi) × (sumOf (λ x. x .count % h) f + lo ≤ hi) × (length f + lo ≤ hi) × (longest f + lo ≤ hi)
+  bounded lo hi [] s l = (omega arith, omega arith, omega arith, omega arith)
+  bounded lo hi (x ∷ f) s l =
+      let q = div-le-self (x .count) h in
+      let w = mod-le (x .count) h in
+      let a = s .0 in
+      let b = s .1 in
+      let c = s .2 in
       ⊎-elim
-      (λ w.
-      let q : b ≡ n = omega arith in
-      let e : G (freeFrom m n t) ≡ 0 = ap G (r .done w) in
-      let f : G (freeFrom m n b) ≡ 0 = ap (λ (y : ℕ). G (freeFrom m n y)) q ∙ ap G (free-from-end m n) in
-      let i : F d ≡ 0 = ap F (let j : d ≡ 0 = omega arith in j) ∙ z in
-      omega arith)
-      (λ w. ap G (r .more w .1))
-      (le-or-lt n a)
+      (λ k. let i = bounded (suc (x .start + x .count)) hi f (s .3) k in let i0 = i .0 in let i1 = i .1 in let i2 = i .2 in let i3 = i .3 in (omega arith, omega arith, omega arith, omega arith))
+      (λ k. let e : f ≡ [] = last f (s .3) k in
+      let z0 : sumOf (λ x. x .count / h) f ≡ 0 = ap (λ (y : List Run). sumOf (λ x. x .count / h) y) e in
+      let z1 : sumOf (λ x. x .count % h) f ≡ 0 = ap (λ (y : List Run). sumOf (λ x. x .count % h) y) e in
+      let z2 : length f ≡ 0 = ap length e in
+      let z3 : longest f ≡ 0 = ap (λ (y : List Run). longest y) e in
+      (omega arith, omega arith, omega arith, omega arith))
+      (le-or-lt (suc (x .start + x .count)) hi)
+    where
+      last : (f : List Run) → Separate (suc (x .start + x .count)) hi f → hi < suc (x .start + x .count) → f ≡ []
+      last [] s k = refl
+      last (y ∷ f) s k = absurd (let a = s .0 in let b = s .1 in let c = s .2 in omega arith)
 
-  runs-next : length (freeFrom m n t) ≡ min d 1 + length (freeFrom m n b)
-  runs-next =
-      let low = r .low in
-      let high = r .high in
-      ⊎-elim
-      (λ w.
-      let q : b ≡ n = omega arith in
-      let e : length (freeFrom m n t) ≡ 0 = ap length (r .done w) in
-      let f : length (freeFrom m n b) ≡ 0 = ap (λ (y : ℕ). length (freeFrom m n y)) q ∙ ap length (free-from-end m n) in
-      omega arith)
-      (λ w. let u = r .more w .0 in let e = ap length (r .more w .1) in omega arith)
-      (le-or-lt n a)
+module _ (h : ℕ) (f : List Run) (s : Sums) (x : Summed h f none s) where
+  pub six-numbers : (e : ℕ) → (s .cylinders ∷ s .odd ∷ s .many ∷ s .long / h ∷ s .long % h ∷ e ∷ []) ≡ spaceNumbers h f e
+  six-numbers e =
+      let ec : s .cylinders ≡ sumOf (λ r. r .count / h) f = let y = x .cylinders in omega arith in
+      let eo : s .odd ≡ sumOf (λ r. r .count % h) f = let y = x .odd in omega arith in
+      let ek : s .many ≡ length f = let y = x .many in omega arith in
+      let el : s .long ≡ longest f = let y = x .long in omega arith in
+      λ i. ec i ∷ eo i ∷ ek i ∷ el i / h ∷ el i % h ∷ e ∷ []
 
-  longest-next : longest (freeFrom m n t) ≡ max d (longest (freeFrom m n b))
-  longest-next =
-      let low = r .low in
-      let high = r .high in
-      ⊎-elim
-      (λ w.
-      let q : b ≡ n = omega arith in
-      let e : longest (freeFrom m n t) ≡ 0 = ap (λ (f : List Run). longest f) (r .done w) in
-      let f : longest (freeFrom m n b) ≡ 0 = ap (λ (y : ℕ). longest (freeFrom m n y)) q ∙ ap (λ (f : List Run). longest f) (free-from-end m n) in
-      omega arith)
-      (λ w. ap (λ (f : List Run). longest f) (r .more w .1))
-      (le-or-lt n a)
-
-  pub summed-next : 1 ≤ h → Summed h m n b (c + d / h) (o + d % h) (k + min d 1) (max l d)
-  summed-next pos =
-      let low = r .low in
-      let from = r .from in
-      let q = div-le-self d h in
-      let w = mod-le d h in
-      let a = x .mostCylinders in
-      let a1 = x .mostOdd in
-      let a2 = x .mostRuns in
-      let a3 = x .mostLong in
+  -- each fits two bytes
+  pub six-small : (n : ℕ) → Separate 0 n f → n ≤ 65535 → Below 65535 s
+  six-small n a u =
+      let b = bounded h 0 n f a (omega arith) in
+      let b0 = b .0 in
+      let b1 = b .1 in
+      let b2 = b .2 in
+      let b3 = b .3 in
       record {
-        cylinders = let e = x .cylinders in let f = sum-next (λ y. y / h) (zero-div h) in omega arith;
-        odd = let e = x .odd in let f = sum-next (λ y. y % h) (zero-mod h) in omega arith;
-        many = let e = x .many in let f = runs-next in omega arith;
-        long = let e = x .long in let f = longest-next in omega arith;
-        upTo = r .high;
-        mostCylinders = omega arith;
-        mostOdd = omega arith;
-        mostRuns = omega arith;
-        mostLong = omega arith;
+        cylinders = let y = x .cylinders in omega arith;
+        odd = let y = x .odd in omega arith;
+        many = let y = x .many in omega arith;
+        long = let y = x .long in omega arith;
       }
 
-pub all-summed : (h : ℕ) (m : List ℕ) (n t c o k l e : ℕ) → n ≤ t → Summed h m n t c o k l → (c ∷ o ∷ k ∷ l / h ∷ l % h ∷ e ∷ []) ≡ spaceNumbers h (freeFrom m n 0) e
-all-summed h m n t c o k l e u x =
-    let up = x .upTo in
-    let q : t ≡ n = omega arith in
-    let z : freeFrom m n t ≡ [] = ap (freeFrom m n) q ∙ free-from-end m n in
-    let zc : sumOf (λ r. r .count / h) (freeFrom m n t) ≡ 0 = ap (λ (f : List Run). sumOf (λ r. r .count / h) f) z in
-    let zo : sumOf (λ r. r .count % h) (freeFrom m n t) ≡ 0 = ap (λ (f : List Run). sumOf (λ r. r .count % h) f) z in
-    let zk : length (freeFrom m n t) ≡ 0 = ap length z in
-    let zl : longest (freeFrom m n t) ≡ 0 = ap (λ (f : List Run). longest f) z in
-    let ec : c ≡ sumOf (λ r. r .count / h) (freeFrom m n 0) = let y = x .cylinders in omega arith in
-    let eo : o ≡ sumOf (λ r. r .count % h) (freeFrom m n 0) = let y = x .odd in omega arith in
-    let ek : k ≡ length (freeFrom m n 0) = let y = x .many in omega arith in
-    let el : l ≡ longest (freeFrom m n 0) = let y = x .long in omega arith in
-    λ i. ec i ∷ eo i ∷ ek i ∷ el i / h ∷ el i % h ∷ e ∷ []
-
--- each fits two bytes
-pub all-small : {h : ℕ} {m : List ℕ} {n t c o k l e : ℕ} → Summed h m n t c o k l → n ≤ 65535 → e < 65536 → All (λ x. x < 65536) (c ∷ o ∷ k ∷ l / h ∷ l % h ∷ e ∷ [])
-all-small {h} {l = l} x u w =
-    let up = x .upTo in
-    let a = x .mostCylinders in
-    let b = x .mostOdd in
-    let d = x .mostRuns in
-    let f = x .mostLong in
-    let i = div-le-self l h in
-    let j = mod-le l h in
+pub all-small : (h e : ℕ) (s : Sums) → Below 65535 s → e < 65536 → All (λ x. x < 65536) (s .cylinders ∷ s .odd ∷ s .many ∷ s .long / h ∷ s .long % h ∷ e ∷ [])
+all-small h e s x w =
+    let a = x .cylinders in
+    let b = x .odd in
+    let d = x .many in
+    let f = x .long in
+    let i = div-le-self (s .long) h in
+    let j = mod-le (s .long) h in
     (omega arith, (omega arith, (omega arith, (omega arith, (omega arith, (w, tt))))))
 
 -- ---- the number of format 0s
@@ -183,12 +197,14 @@ module _ (t a : List ℕ) (ok : Bool) (r : ℕ) (long : ok ≡ eqb (length a) 24
     unfolding rule
     told ns e = ap₂ (λ (x y : List ℕ). result 0 (lent x (answer (numbers y)) [])) (sym (is-open .bytes)) (sym e)
 
-    pub inquired : (g : Geometry) (m s rec six a′ : List ℕ) (e : ℕ) → g ≡ read t .geometry → Shown (read t) m s → rec ≡ slotBytes t 0 → e ≡ get2 rec 50
-        → six ≡ spaceNumbers (g .heads) (freeFrom m (tracks g) 0) e → a′ ≡ answer (numbers six)
+    pub lists : (g : Geometry) → g ≡ read t .geometry → Listed g t (free (read t .geometry) (read t .labels))
+    lists g e = subst (λ (y : Geometry). Listed y t (free (read t .geometry) (read t .labels))) (sym e) (listed t (read t) (is-open .sound))
+
+    pub inquired : (g : Geometry) (rec six a′ : List ℕ) (e : ℕ) → g ≡ read t .geometry → rec ≡ slotBytes t 0 → e ≡ get2 rec 50
+        → ((f : List Run) → Listed g t f → six ≡ spaceNumbers (g .heads) f e) → a′ ≡ answer (numbers six)
         → result 0 (lent t a′ []) ≡ perform (lent t a []) lspace
-    inquired g m s rec six a′ e eg shown er ee es ea =
-        let f : freeFrom m (tracks g) 0 ≡ free (read t .geometry) (read t .labels) = ap (λ (x : Geometry). freeFrom m (tracks x) 0) eg ∙ free-shown (read t) m s shown in
+    inquired g rec six a′ e eg er ee es ea =
+        let f = free (read t .geometry) (read t .labels) in
         let n : e ≡ length (format0s (read t)) = ee ∙ ap (λ (x : List ℕ). get2 x 50) er ∙ empty-is t (read t) is-open in
-        let q : six ≡ spaceNumbers (read t .geometry .heads) (free (read t .geometry) (read t .labels)) (length (format0s (read t)))
-        = es ∙ ap (λ (x : Geometry). spaceNumbers (x .heads) (freeFrom m (tracks g) 0) e) eg ∙ ap₂ (λ (x : List Run) (y : ℕ). spaceNumbers (read t .geometry .heads) x y) f n in
+        let q : six ≡ spaceNumbers (read t .geometry .heads) f (length (format0s (read t))) = es f (lists g eg) ∙ ap₂ (λ (x : Geometry) (y : ℕ). spaceNumbers (x .heads) f y) eg n in
         ap (λ (x : List ℕ). result 0 (lent t x [])) ea ∙ sym (told six q) ∙ passed (lent t a []) lspace ok r (long ∙ and-true (eqb (length a) 24)) number z

@@ -1,53 +1,94 @@
 // LSPACE, the space inquiry: how many free cylinders, odd tracks, free extents and format 0s there are, and the longest
-// free extent.
+// free extent. All but the format 0s is read in the entries of the format 5s.
 use forms::Geometry;
 ghost use mathlib.Core.Path.{_≡_};
-ghost use Prim.Native.Nat.{_<_, max, min};
+ghost use mathlib.Core.List.{List};
+ghost use Prim.Native.Nat.{_*_, _≤_, _<_, max};
 ghost use lib.ListN.{length};
-ghost use Rattle.model.specs.Model.{tracks};
+ghost use Rattle.model.specs.Model.{Run, slots};
 ghost use Rattle.model.proofs.Lists.{All};
 ghost use Rattle.rules.specs.Calls.{spaceNumbers};
 ghost use Rattle.rules.specs.Contracts.{Inquires};
 ghost use Rattle.rules.proofs.Valid.{Limits};
-ghost use Rattle.tracks.specs.Map.{freeFrom};
 ghost use Rattle.forms.specs.Forms.{geometryOf};
+ghost use Rattle.free_list.specs.FreeList.{Listed};
+ghost use Rattle.call_lspace.specs.Totals.{Added, Below, Summed, none};
+
+// What free extents add up to: their cylinders and odd tracks, how many they are, and the tracks of the longest.
+pub struct Sums {
+    pub cylinders: u64,
+    pub odd: u64,
+    pub many: u64,
+    pub long: u64,
+}
 
 // The larger of two numbers.
-fn larger(a: u32, b: u32) -> u32
+fn larger(a: u64, b: u64) -> u64
     ensures { λ r. ⌜ r ≡ max a b ⌝ }
 {
     if a < b { b } else { a }
 }
 
-// 1 for a run of c tracks, 0 where there are none: the last run that the map shows may be empty.
-fn runs_in(c: u32) -> u32
-    ensures { λ r. ⌜ r ≡ min c 1 ⌝ }
+// Adds the entries of one format 5.
+fn add_member(rec: &[u8], h: u32, sums: Sums) -> Sums
+    requires { ⌜ (length (now rec) ≡ 140) × (1 ≤ h) × (h ≤ 255) × Below 203347722240 sums ⌝ }
+    ensures { λ r. ⌜ Added h (now (rec .entry)) sums r ⌝ }
 {
-    if c < 1 { 0 } else { 1 }
+    let mut s = sums;
+    let mut j: usize = 0;
+    while j < 26 {
+        let hole = free_list::entry(rec, j, h);
+        if hole.count == 0 {
+            return s;
+        }
+        s.cylinders = s.cylinders + hole.cylinders as u64;
+        s.odd = s.odd + hole.odd as u64;
+        s.many = s.many + 1;
+        s.long = larger(s.long, hole.count as u64);
+        j += 1;
+    }
+    s
 }
 
-// The six numbers, by the map of free tracks; `none` is the number of format 0s.
-fn space(map: &[u64], g: Geometry, none: u32) -> [u32; 6]
-    requires { ⌜ Limits (geometryOf g) × (length (now map) ≡ 1024) × (none < 65536) ⌝ }
-    ensures { λ r. ⌜ (r ≡ spaceNumbers (g .heads) (freeFrom (now (map .entry)) (tracks (geometryOf g)) 0) none) × All (λ x. x < 65536) r ⌝ }
+// Adds the entries of all format 5s.
+fn add_all(table: &[u8], g: Geometry) -> Sums
+    requires { ⌜ Limits (geometryOf g) × (length (now table) ≡ 140 * slots (geometryOf g)) ⌝ }
+    ensures { λ r. ⌜ ((f : List Run) → Listed (geometryOf g) (now (table .entry)) f → Summed (g .heads) f none r) ⌝ }
 {
-    let h = g.heads;
-    let n = (g.cylinders * h) as usize;
-    let mut cylinders: u32 = 0;
-    let mut odd: u32 = 0;
-    let mut many: u32 = 0;
-    let mut long: u32 = 0;
-    let mut t: usize = 0;
-    while t < n {
-        let free = tracks::next_run(map, t, n);
-        let c = (free.to - free.from) as u32;
-        cylinders += c / h;
-        odd += c % h;
-        many += runs_in(c);
-        long = larger(long, c);
-        t = free.to;
+    let mut s = Sums {
+        cylinders: 0,
+        odd: 0,
+        many: 0,
+        long: 0,
+    };
+    let mut k: usize = 1;
+    let mut left = (g.tracks * g.records) as usize;
+    while 0 < left {
+        if k == 0 {
+            return s;
+        }
+        s = add_member(fields::record_at(table, k), g.heads, s);
+        k = free_list::member_after(table, g, k);
+        left -= 1;
     }
-    [cylinders, odd, many, long / h, long % h, none]
+    s
+}
+
+// The six numbers; `empty` is the number of format 0s.
+fn space(table: &[u8], g: Geometry, empty: u32) -> [u32; 6]
+    requires { ⌜ Limits (geometryOf g) × (length (now table) ≡ 140 * slots (geometryOf g)) × (empty < 65536) × ((f : List Run) × Listed (geometryOf g) (now table) f) ⌝ }
+    ensures { λ r. ⌜ ((f : List Run) → Listed (geometryOf g) (now (table .entry)) f → r ≡ spaceNumbers (g .heads) f empty) × All (λ x. x < 65536) r ⌝ }
+{
+    let s = add_all(table, g);
+    let h = g.heads as u64;
+    [
+        s.cylinders as u32,
+        s.odd as u32,
+        s.many as u32,
+        (s.long / h) as u32,
+        (s.long % h) as u32,
+        empty,
+    ]
 }
 
 // The call: refusals 2 and 3. The number of format 0s is read in the format 4, DS4DSREC.
@@ -62,8 +103,8 @@ pub fn lspace(table: &[u8], answer: &mut [u8]) -> u32
         return r;
     }
     let g = opening::geometry(table);
-    let none = fields::two(fields::record_at(table, 0), 50);
-    let six = space(&map, g, none);
+    let format0s = fields::two(fields::record_at(table, 0), 50);
+    let six = space(table, g, format0s);
     answers::put_numbers(answer, six);
     0
 }

@@ -47,7 +47,12 @@ pub fn entry(rec: &[u8], j: usize, h: u32) -> Hole
     ensures { λ r. ⌜ (run (r .start) (r .count) ≡ readEntry h (now (rec .entry)) (entryPlace j)) × (r .start < 65536) × (r .count ≤ 16711680) × (r .cylinders ≡ r .count / h) × (r .odd ≡ r .count % h) ⌝ }
 {
     let p = records::entry_place(j);
-    hole_of(fields::two(rec, p), fields::two(rec, p + 2), fields::wide(rec[p + 4]), h)
+    hole_of(
+        fields::two(rec, p),
+        fields::two(rec, p + 2),
+        fields::wide(rec[p + 4]),
+        h,
+    )
 }
 
 // The slot of the format 5 behind the one in slot k, 0 for none.

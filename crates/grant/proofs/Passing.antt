@@ -21,9 +21,6 @@ no-units u a c h k =
 
 -- ---- one free extent more
 
-
-
-
 -- the free extents f, of which x is the first
 pub looked-next : (u n : ℕ) (x : Run) (f rest : List Run) (best best′ b : Run) (five five′ d : List Run) → f ≡ x ∷ rest
     → b ≡ better n best (wholeIn u x) → d ≡ entered (wholeIn u x) five → Looked u n rest b best′ d five′ → Looked u n f best best′ five five′

@@ -88,7 +88,14 @@ fn look(u: u32, amount: u32, start: u32, count: u32, best: Units, five: &mut [[u
 }
 
 // Looks at the entries of one format 5.
-fn look_member(rec: &[u8], h: u32, u: u32, amount: u32, best: Units, five: &mut [[u32; 2]; 5]) -> Units
+fn look_member(
+    rec: &[u8],
+    h: u32,
+    u: u32,
+    amount: u32,
+    best: Units,
+    five: &mut [[u32; 2]; 5],
+) -> Units
     requires { ⌜ (length (now rec) ≡ 140) × (1 ≤ h) × (h ≤ 255) × (1 ≤ u) × (u ≤ 255) × (1 ≤ amount) × (length (now five) ≡ 5) ⌝ }
     ensures { λ r. ⌜ (length (now (five .exit)) ≡ 5) × ((f : List Run) → Entries h (now (rec .entry)) f → Looked u amount f (run (best .start) (best .count)) (run (r .start) (r .count)) (toRuns (now (five .entry))) (toRuns (now (five .exit)))) ⌝ }
 {

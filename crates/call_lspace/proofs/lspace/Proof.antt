@@ -1,10 +1,12 @@
 use borrow.Author.Needs.{needs}
-use Rattle.call_lspace.proofs.Laws.{inquired, not-opened}
+use Rattle.call_lspace.proofs.Laws.{inquired, lists, not-opened}
 use Rattle.opening.proofs.Numbers.{opened-good, opened-ready, opened-taken}
 use Rattle.forms.specs.Forms.{geometryOf}
 use Rattle.rules.proofs.Valid.{Limits}
 use borrow.Author.Tests.{eqb-true}
 use native.Mathlib.Omega.{arith}
+use Prim.Native.Nat.{_*_}
+use Rattle.model.specs.Model.{Geometry, slots}
 use mathlib.Core.Path.{_≡_, refl, sym, ap, _∙_, subst}
 use Rattle.call_lspace.proofs.lspace.Statement.{statement}
 use Rattle.call_lspace.proofs.lspace.Tie as tie
@@ -37,17 +39,18 @@ record-at-requires c κs = let x = opened-ready (c .before .before .before .befo
 two-requires : tie.Need-two-requires
 two-requires c κs = search needs
 
--- src/lib.rt:66:21
-slice-aggregate-space : tie.Need-slice-aggregate-space
-slice-aggregate-space c = search needs
-
--- src/lib.rt:66:9
 space-requires : tie.Need-space-requires
-space-requires c κs = (subst Limits (sym (c .before .before .before .geometry .ensures)) (opened-ready (c .before .before .before .before .before .before .before .before .before .before .before .before .args .table .now) _ _ (c .before .before .before .before .before .before .before .«open» .ensures .number) (c .before .before .before .before .if1 .left) .limits), c .before .before .before .before .before .before .before .«open» .ensures .longMap, c .before .two .ensures .1)
+space-requires c κs =
+    let a = c .before .before .before .before .before .before .before .before .before .before .before .args in
+    let o = c .before .before .before .before .before .before .«open» .ensures in
+    let z = c .before .before .before .if1 .left in
+    let e = c .before .before .geometry .ensures in
+    let x = opened-ready (a .table .now) _ _ (o .number) z in
+    (subst Limits (sym e) (x .limits), x .long ∙ ap (λ (g : Geometry). 140 * slots g) (sym e), c .two .ensures .1, (_, lists (a .table .now) (a .answer .now) _ _ refl (o .number) z _ e))
 
 -- src/lib.rt:67:5
 put-numbers-requires : tie.Need-put-numbers-requires
-put-numbers-requires c κs = (eqb-true _ _ (opened-good (c .before .before .before .before .before .before .before .before .before .before .before .before .before .before .args .table .now) _ (sym (c .before .before .before .before .before .before .if1 .left) ∙ c .before .before .before .before .before .before .before .before .before .«open» .ensures .number)), c .before .space .ensures .1)
+put-numbers-requires c κs = (eqb-true _ _ (opened-good (c .before .before .before .before .before .before .before .before .before .before .before .before .before .args .table .now) _ (sym (c .before .before .before .before .before .if1 .left) ∙ c .before .before .before .before .before .before .before .before .«open» .ensures .number)), c .before .space .ensures .1)
 
 -- src/lib.rt:54:1
 same-length : tie.Need-same-length
@@ -55,7 +58,10 @@ same-length c = search needs
 
 -- src/lib.rt:54:1
 returns-2 : tie.Need-returns-2
-returns-2 c = inquired (c .before .before .before .before .before .before .before .before .before .before .before .before .before .before .before .before .before .args .table .now) (c .before .before .before .before .before .before .before .before .before .before .before .before .before .before .before .before .before .args .answer .now) _ _ refl (c .before .before .before .before .before .before .before .before .before .before .before .before .«open» .ensures .number) (c .before .before .before .before .before .before .before .before .before .if1 .left) (geometryOf (c .before .before .before .before .before .before .before .before .geometry .result)) _ _ (c .before .before .before .before .before .before .before .record-at .result .now) (c .before .before .before .before .space .result) _ (c .before .before .before .before .before .before .two .result) (c .before .before .before .before .before .before .before .before .geometry .ensures) (c .before .before .before .before .before .before .before .before .before .before .before .before .«open» .ensures .shown (c .before .before .before .before .before .before .before .before .before .if1 .left)) (c .before .before .before .before .before .before .before .record-at .ensures .0) (c .before .before .before .before .before .before .two .ensures .0) (c .before .before .before .before .space .ensures .0) (c .before .before .put-numbers .ensures)
+returns-2 c =
+    let a = c .before .before .before .before .before .before .before .before .before .before .before .before .before .before .before .before .args in
+    inquired (a .table .now) (a .answer .now) _ _ refl (c .before .before .before .before .before .before .before .before .before .before .before .«open» .ensures .number) (c .before .before .before .before .before .before .before .before .if1 .left) (geometryOf (c .before .before .before .before .before .before .before .geometry .result)) (c .before .before .before .before .before .before .record-at .result .now) (c .before .before .before .before .space .result) _ (c .before .before .before .before .before .two .result)
+    (c .before .before .before .before .before .before .before .geometry .ensures) (c .before .before .before .before .before .before .record-at .ensures .0) (c .before .before .before .before .before .two .ensures .0) (c .before .before .before .before .space .ensures .0) (c .before .before .put-numbers .ensures)
 
 pub lspace-spec : {M : Type 1} → statement M
 lspace-spec =
@@ -68,7 +74,6 @@ lspace-spec =
     geometry-requires
     record-at-requires
     two-requires
-    slice-aggregate-space
     space-requires
     put-numbers-requires
     same-length

@@ -1,112 +1,77 @@
-use Rattle.call_lspace.proofs.Laws.{Summed, all-small, all-summed, none-summed, summed-next}
-use Rattle.tracks.proofs.Walk.{goes-on}
 use native.Mathlib.Nat.{div-le-self, mod-le}
 use native.Mathlib.Omega.{arith}
-use mathlib.Core.Path.{sym, ap, _∙_}
-use Prim.Native.Nat.{_-_, _*_}
+use Rattle.model.specs.Model.{tracks}
+use Rattle.forms.specs.Forms.{geometryOf}
+use Rattle.call_lspace.specs.Totals.{Below}
+use Rattle.call_lspace.proofs.Laws.{all-small, six-numbers, six-small}
 use borrow.Author.Needs.{needs}
 use Rattle.call_lspace.proofs.space.Statement.{statement}
 use Rattle.call_lspace.proofs.space.Tie as tie
+use Rattle.call_lspace.proofs.space.Reads as reads
+use Rattle.call_lspace.proofs.space.Lts as lts
+use Rattle.call_lspace.proofs.add_all.Reads as add-all-reads
 
-abbrev Inv-loop : tie.InvT-loop
-Inv-loop map none h n cylinders₀ odd₀ many₀ long₀ t₀ cylinders odd many long t = Summed h map n t cylinders odd many long
+-- src/lib.rt:82:9
+add-all-requires : tie.Need-add-all-requires
+add-all-requires c κs = search needs
 
-abbrev μ-loop : tie.MeasureT-loop
-μ-loop map none h n cylinders₀ odd₀ many₀ long₀ t₀ cylinders odd many long t = n - t
+-- the sums fit two bytes
+small : (c : tie.After-struct-known) → Below 65535 (c .before .add-all .result)
+small c =
+    let top = c .before .before .before in
+    let w = top .pre .3 in
+    six-small (top .args .g .heads) (w .0) (c .before .add-all .result) (c .before .add-all .ensures (w .0) (w .1)) (tracks (geometryOf (top .args .g))) (w .1 .apart) (top .pre .0 .tracksMost)
 
--- src/lib.rt:35:14
-mul-n : tie.Need-mul-n Inv-loop μ-loop
-mul-n c = search needs
+-- src/lib.rt:83:13
+cast-h : tie.Need-cast-h
+cast-h c = search needs
 
--- src/lib.rt:35:13
-cast-n : tie.Need-cast-n Inv-loop μ-loop
-cast-n c = search needs
+-- src/lib.rt:84:6
+cast-t6 : tie.Need-cast-t6
+cast-t6 c = omega (arith, small (c .before) .cylinders)
 
--- src/lib.rt:41:5
-loop-holds : tie.Need-loop-holds Inv-loop μ-loop
-loop-holds c = none-summed _ _ _
+-- src/lib.rt:84:26
+cast-t7 : tie.Need-cast-t7
+cast-t7 c = omega (arith, small (c .before .before) .odd)
 
--- src/lib.rt:42:13
-next-run-requires : tie.Need-next-run-requires Inv-loop μ-loop
-next-run-requires c κs = omega (arith, c .before .loop .inv .upTo, c .before .before .before .before .pre .0 .tracksMost, c .before .before .before .before .pre .1)
+-- src/lib.rt:84:40
+cast-t8 : tie.Need-cast-t8
+cast-t8 c = omega (arith, small (c .before .before .before) .many)
 
--- src/lib.rt:43:18
-sub-c : tie.Need-sub-c Inv-loop μ-loop
-sub-c c = search needs
+-- src/lib.rt:84:56
+div-t9 : tie.Need-div-t9
+div-t9 c = search needs
 
--- src/lib.rt:43:17
-cast-c : tie.Need-cast-c Inv-loop μ-loop
-cast-c c = search needs
+-- src/lib.rt:84:55
+cast-t10 : tie.Need-cast-t10
+cast-t10 c = omega (arith, small (c .before .before .before .before) .long, div-le-self (c .before .before .before .before .before .add-all .result .long) (c .before .before .before .before .before .before .before .args .g .heads))
 
--- src/lib.rt:44:22
-div-cylinders : tie.Need-div-cylinders Inv-loop μ-loop
-div-cylinders c = search needs
+-- src/lib.rt:84:77
+rem-t11 : tie.Need-rem-t11
+rem-t11 c = search needs
 
--- src/lib.rt:44:9
-add-cylinders : tie.Need-add-cylinders Inv-loop μ-loop
-add-cylinders c = omega (arith, c .before .before .before .loop .inv .mostCylinders, c .before .before .before .loop .inv .upTo, c .before .before .before .before .before .before .pre .0 .tracksMost, c .before .next-run .ensures .high, div-le-self (c .before .next-run .result .to - c .before .next-run .result .from) (c .before .before .before .before .before .before .args .g .heads))
+-- src/lib.rt:84:76
+cast-t12 : tie.Need-cast-t12
+cast-t12 c = omega (arith, small (c .before .before .before .before .before) .long, mod-le (c .before .before .before .before .before .before .add-all .result .long) (c .before .before .before .before .before .before .before .before .args .g .heads))
 
--- src/lib.rt:45:16
-rem-odd : tie.Need-rem-odd Inv-loop μ-loop
-rem-odd c = search needs
-
--- src/lib.rt:45:9
-add-odd : tie.Need-add-odd Inv-loop μ-loop
-add-odd c = omega (arith, c .before .before .before .loop .inv .mostOdd, c .before .before .before .loop .inv .upTo, c .before .before .before .before .before .before .pre .0 .tracksMost, c .before .next-run .ensures .high, mod-le (c .before .next-run .result .to - c .before .next-run .result .from) (c .before .before .before .before .before .before .args .g .heads))
-
--- src/lib.rt:46:17
-runs-in-requires : tie.Need-runs-in-requires Inv-loop μ-loop
-runs-in-requires c κs = search needs
-
--- src/lib.rt:46:9
-add-many : tie.Need-add-many Inv-loop μ-loop
-add-many c = omega (arith, c .before .before .before .before .loop .inv .mostRuns, c .before .before .before .before .loop .inv .upTo, c .before .before .before .before .before .before .before .pre .0 .tracksMost, c .runs-in .ensures)
-
--- src/lib.rt:47:9
-larger-requires : tie.Need-larger-requires Inv-loop μ-loop
-larger-requires c κs = search needs
-
--- src/lib.rt:41:5
-loop-less : tie.Need-loop-less Inv-loop μ-loop
-loop-less c = omega (arith, goes-on (c .before .before .before .next-run .ensures) (c .before .before .before .before .loop-test .taken), c .before .before .before .next-run .ensures .high)
-
--- src/lib.rt:41:5
-loop-again : tie.Need-loop-again Inv-loop μ-loop
-loop-again c = rw (c .larger .ensures, c .before .runs-in .ensures) (summed-next (c .before .before .before .next-run .ensures) (c .before .before .before .before .before .loop .inv) (c .before .before .before .before .before .before .before .before .pre .0 .heads))
-
--- src/lib.rt:50:28
-div-t13 : tie.Need-div-t13 Inv-loop μ-loop
-div-t13 c = search needs
-
--- src/lib.rt:50:38
-rem-t17 : tie.Need-rem-t17 Inv-loop μ-loop
-rem-t17 c = search needs
-
--- src/lib.rt:30:1
-returns : tie.Need-returns Inv-loop μ-loop
-returns c = (all-summed (c .before .before .before .before .args .g .heads) (c .before .before .before .before .args .map .now) (c .before .before .before .before .args .g .cylinders * c .before .before .before .before .args .g .heads) (c .before .loop .t) _ _ _ _ (c .before .before .before .before .args .none) (omega (arith, c .loop-test .left)) (c .before .loop .inv), all-small (c .before .loop .inv) (c .before .before .before .before .pre .0 .tracksMost) (c .before .before .before .before .pre .2))
+-- src/lib.rt:78:1
+returns : tie.Need-returns
+returns c =
+    let top = c .before .before .before .before .before .before .before .before in
+    let sums = c .before .before .before .before .before .before .add-all in
+    ((λ f x. six-numbers (top .args .g .heads) f (sums .result) (sums .ensures f x) (top .args .empty)), all-small (top .args .g .heads) (top .args .empty) (sums .result) (small (c .before .before .before .before .before)) (top .pre .2))
 
 pub space-spec : {M : Type 1} → statement M
 space-spec =
     tie.close
     (tie.spec
-    Inv-loop
-    μ-loop
-    mul-n
-    cast-n
-    loop-holds
-    next-run-requires
-    sub-c
-    cast-c
-    div-cylinders
-    add-cylinders
-    rem-odd
-    add-odd
-    runs-in-requires
-    add-many
-    larger-requires
-    loop-less
-    loop-again
-    div-t13
-    rem-t17
+    add-all-requires
+    cast-h
+    cast-t6
+    cast-t7
+    cast-t8
+    div-t9
+    cast-t10
+    rem-t11
+    cast-t12
     returns)

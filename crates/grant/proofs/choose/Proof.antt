@@ -57,7 +57,7 @@ returns-3 : tie.Need-returns-3
 returns-3 c =
     let top = c .before .before .before .before .before .before .before .before .before in
     λ f x. c .fill .ensures
-        ∙ ap (λ (o : Option (List Run)). replyOf o (top .args .pieces .now)) (granted-more f (tracks (geometryOf (top .args .g))) (x .apart) (top .pre .0 .0 .tracksMost) (omega arith) (c .before .before .before .before .before .before .survey .ensures f x) (omega arith))
+    ∙ ap (λ (o : Option (List Run)). replyOf o (top .args .pieces .now)) (granted-more f (tracks (geometryOf (top .args .g))) (x .apart) (top .pre .0 .0 .tracksMost) (omega arith) (c .before .before .before .before .before .before .survey .ensures f x) (omega arith))
 
 pub choose-spec : {M : Type 1} → statement M
 choose-spec =

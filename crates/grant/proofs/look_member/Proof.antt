@@ -39,9 +39,11 @@ returns c =
     let a = at-loop .before .before .args in
     let i = at-loop .loop .inv in
     let n = at-loop .loop .now in
-    let hole = c .before .before in
-    (i .1, λ f x. i .2 f (run (n .start) (n .count)) (at-loop .loop .five) x
-        (looked-empty (a .u) (a .amount) _ _ _ (entry-none x (at-loop .loop .j) (hole .entry .result .start) (hole .entry .result .count) (omega arith) (hole .entry .ensures .0) (c .if1 .taken))))
+    let hole = c .before .before in (
+      i .1,
+      λ f x. i .2 f (run (n .start) (n .count)) (at-loop .loop .five) x
+          (looked-empty (a .u) (a .amount) _ _ _ (entry-none x (at-loop .loop .j) (hole .entry .result .start) (hole .entry .result .count) (omega arith) (hole .entry .ensures .0) (c .if1 .taken))),
+    )
 
 -- src/lib.rt:102:9
 look-requires : tie.Need-look-requires Inv-loop μ-loop
