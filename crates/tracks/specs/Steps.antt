@@ -28,6 +28,10 @@ pub record First (m : List ℕ) (b : Bool) (s n r : ℕ) : Type 0 where
   pub before : (t : ℕ) → s ≤ t → t < r → freeBit m t ≡ 1 - bit b
   pub here : r < n → freeBit m r ≡ bit b
 
+-- the word of the 64 tracks from track t on
+abbrev pub Window : List ℕ → ℕ → ℕ → Type 0
+Window m t r = (j : ℕ) → j < 64 → bitAt r (63 - j) ≡ freeBit m (t + j)
+
 -- the bits of the word x with a clear bit before them, where y is the word before x
 pub record Starts (y x r : ℕ) : Type 0 where
   pub small : r < 2 ^ 64

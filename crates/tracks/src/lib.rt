@@ -1,10 +1,10 @@
 // The map of free tracks, a bit a track: track t is bit 63 - t % 64 of word t / 64, set where the track is free.
 // No loop goes by tracks: each turn does the rest of a word.
 ghost use mathlib.Core.Path.{_≡_};
-ghost use Prim.Native.Nat.{_+_, _-_, _*_, _%_, _≤_, _<_, min};
+ghost use Prim.Native.Nat.{_+_, _-_, _*_, _/_, _%_, _≤_, _<_, min};
 ghost use lib.ListN.{length};
-ghost use Rattle.tracks.specs.Map.{freeFrom, Begun, Opened, Taken, Given, NextRun};
-ghost use Rattle.tracks.specs.Steps.{block, WordAt, flipped, First, Starts};
+ghost use Rattle.tracks.specs.Map.{freeFrom, Begun, Opened, Taken, Given, NextRun, IsRun};
+ghost use Rattle.tracks.specs.Steps.{block, WordAt, flipped, First, Window, Starts};
 
 const ALL: u64 = 0xffff_ffff_ffff_ffff;
 
@@ -130,14 +130,58 @@ pub struct Span {
     pub to: usize,
 }
 
-// The first run of free tracks from s on and below n; from n to n where there is none.
+// The 64 tracks from t on as one word, track t in its highest bit.
+fn window(map: &[u64], t: usize) -> u64
+    requires { ⌜ t / 64 + 1 < length (now map) ⌝ }
+    ensures { λ r. ⌜ Window (now (map .entry)) t r ⌝ }
+{
+    let w = t / 64;
+    let o = t % 64;
+    (map[w] << o) | ((map[w + 1] >> 1) >> (63 - o))
+}
+
+// The first run of free tracks from s on and below n; from n to n where there is none. A run that ends within 64 tracks
+// is read off one word.
 pub fn next_run(map: &[u64], s: usize, n: usize) -> Span
     requires { ⌜ (s ≤ n) × (n ≤ 64 * length (now map)) ⌝ }
     ensures { λ r. ⌜ NextRun (now (map .entry)) n s (r .from) (r .to) ⌝ }
 {
+    if n - s > 64 {
+        let x = window(map, s);
+        let a = u64::leading_zeros(x) as usize;
+        if a < 64 {
+            let b = u64::leading_zeros((x << a) ^ ALL) as usize;
+            let c = a + b;
+            if c < 64 {
+                return Span {
+                    from: s + a,
+                    to: s + c,
+                };
+            }
+        }
+    }
     let from = next_track(map, s, n, true);
     let to = next_track(map, from, n, false);
     Span { from, to }
+}
+
+// Whether the first run of free tracks from t on and below n is from s up to e. It searches nothing where the run ends
+// within 64 tracks: a loop over runs that are given does not wait for the map to say where to look next.
+pub fn is_run(map: &[u64], t: usize, n: usize, s: usize, e: usize) -> bool
+    requires { ⌜ (t ≤ s) × (s < e) × (e ≤ n) × (n ≤ 64 * length (now map)) ⌝ }
+    ensures { λ r. ⌜ IsRun (now (map .entry)) n t s e r ⌝ }
+{
+    let k = e - t;
+    if k < 64 {
+        if n - t > 64 {
+            return window(map, t) >> (63 - k) == (ALL >> (64 - (e - s))) << 1;
+        }
+    }
+    let r = next_run(map, t, n);
+    if r.from != s {
+        return false;
+    }
+    r.to == e
 }
 
 // The tracks of the word x that are free behind one that is not; y is the word before x.
