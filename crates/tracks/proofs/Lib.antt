@@ -3,4 +3,5 @@ pub mod Words
 pub mod Walk
 pub mod Counting
 pub mod Near
+pub mod Pair
 pub mod Held

@@ -25,11 +25,11 @@ mask t n = block (64 - (t % 64 + n)) n
 
 -- ---- a track's bit after a store
 
-store-in : (m : List ℕ) (w v j : ℕ) → w < length m → j / 64 ≡ w → freeBit (set m w v) j ≡ bitAt v (63 - j % 64)
+pub store-in : (m : List ℕ) (w v j : ℕ) → w < length m → j / 64 ≡ w → freeBit (set m w v) j ≡ bitAt v (63 - j % 64)
 unfolding freeBit
 store-in m w v j h e = rw (e, getD-set-same m w v 0 h)
 
-store-off : (m : List ℕ) (w v j : ℕ) → (j / 64 ≡ w → ⊥) → freeBit (set m w v) j ≡ freeBit m j
+pub store-off : (m : List ℕ) (w v j : ℕ) → (j / 64 ≡ w → ⊥) → freeBit (set m w v) j ≡ freeBit m j
 unfolding freeBit
 store-off m w v j n = rw (getD-set-other m w (j / 64) v 0 n)
 

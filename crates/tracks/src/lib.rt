@@ -63,8 +63,29 @@ pub fn free_below(map: &mut [u64], n: usize)
     }
 }
 
-// Takes the tracks from s up to e: true if all of them were free.
-pub fn take_range(map: &mut [u64], s: usize, e: usize) -> bool
+// Takes the tracks from s up to e, at most 64, which lie in two neighbouring words: true if all of them were free.
+fn take_near(map: &mut [u64], s: usize, e: usize) -> bool
+    requires { ⌜ (s < e) × (e ≤ s + 64) × (s / 64 + 1 < length (now map)) ⌝ }
+    ensures { λ r. ⌜ Taken (now (map .entry)) (now (map .exit)) s e r ⌝ }
+{
+    let w = s / 64;
+    let v = w + 1;
+    let o = s % 64;
+    let top = ALL << (64 - (e - s));
+    let m = top >> o;
+    let k = (top << 1) << (63 - o);
+    let x = map[w];
+    let y = map[v];
+    if ((x & m) ^ m) | ((y & k) ^ k) != 0 {
+        return false;
+    }
+    map[w] = x ^ m;
+    map[v] = y ^ k;
+    true
+}
+
+// The same for any number of tracks, word by word.
+fn take_far(map: &mut [u64], s: usize, e: usize) -> bool
     requires { ⌜ (s ≤ e) × (e ≤ 64 * length (now map)) ⌝ }
     ensures { λ r. ⌜ Taken (now (map .entry)) (now (map .exit)) s e r ⌝ }
 {
@@ -81,6 +102,21 @@ pub fn take_range(map: &mut [u64], s: usize, e: usize) -> bool
         t += n;
     }
     true
+}
+
+// Takes the tracks from s up to e: true if all of them were free. Most extents are short: they need no loop.
+pub fn take_range(map: &mut [u64], s: usize, e: usize) -> bool
+    requires { ⌜ (s ≤ e) × (e ≤ 64 * length (now map)) ⌝ }
+    ensures { λ r. ⌜ Taken (now (map .entry)) (now (map .exit)) s e r ⌝ }
+{
+    if s < e {
+        if e - s <= 64 {
+            if s / 64 + 1 < map.len() {
+                return take_near(map, s, e);
+            }
+        }
+    }
+    take_far(map, s, e)
 }
 
 // Makes the tracks from s up to e free.
