@@ -63,7 +63,8 @@ pub fn free_below(map: &mut [u64], n: usize)
     }
 }
 
-// Takes the tracks from s up to e, at most 64, which lie in two neighbouring words: true if all of them were free.
+// Takes the tracks from s up to e, at most 64: true if all of them were free. They lie in two neighbouring words, which are
+// tested at once; the mask of the second is 0 where the first has all of them.
 fn take_near(map: &mut [u64], s: usize, e: usize) -> bool
     requires { ⌜ (s < e) × (e ≤ s + 64) × (s / 64 + 1 < length (now map)) ⌝ }
     ensures { λ r. ⌜ Taken (now (map .entry)) (now (map .exit)) s e r ⌝ }
@@ -166,7 +167,7 @@ pub struct Span {
     pub to: usize,
 }
 
-// The 64 tracks from t on as one word, track t in its highest bit.
+// The 64 tracks from t on as one word, track t in its highest bit. Two shifts down, since one by 64 - o may be by 64.
 fn window(map: &[u64], t: usize) -> u64
     requires { ⌜ t / 64 + 1 < length (now map) ⌝ }
     ensures { λ r. ⌜ Window (now (map .entry)) t r ⌝ }
