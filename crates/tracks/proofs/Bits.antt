@@ -3,7 +3,7 @@ use mathlib.Core.Path.{_≡_, refl, sym, ap, _∙_}
 use mathlib.Core.Logic.{_⊎_, inl, inr, ⊎-elim}
 use Prim.Native.Nat.{ℕ, zero, suc, _+_, _-_, _*_, _/_, _%_, _^_, _≤_, _<_, min, max}
 use native.Mathlib.Nat.{mul-one, pow-suc, mul-assoc, zero-div, div-one, div-eq-of-lt, lt-of-lt-of-le, lt-of-le-of-lt, lt-of-not-le}
-use native.Mathlib.Decide.{decLe}
+use native.Mathlib.Decide.{decLe, ℕ-discrete}
 use native.Mathlib.Omega.{arith}
 use lib.Count.{leadingZeros, leading-length, leading-top, leading-of-zero}
 use lib.Bits.{differ, bitAnd, bitOr, bitXor, and-shr, or-shr, xor-shr, and-step, or-step, xor-step, and-le-l, and-le-r, xor-lt, xor-add-and, shifted-even}
@@ -63,6 +63,10 @@ word-bit x j h =
     let d = 63 - j in
     let e : 64 ≡ d + 1 + j = omega arith in
     ap (λ (k : ℕ). bitAt (x % 2 ^ k) j) e ∙ ap (λ (y : ℕ). y % 2) (field x (d + 1) j) ∙ mod-mod-pow (x / 2 ^ j) d 1
+
+-- a number shifted down has its own bits, lower
+pub shr-bit : (x s j : ℕ) → bitAt (x / 2 ^ s) j ≡ bitAt x (s + j)
+shr-bit x s j = ap (λ (y : ℕ). y % 2) (shr-shr x s j)
 
 -- a word shifted up by s: bit i from the top is what was bit s + i from the top
 pub shifted : (x s i : ℕ) → s + i < 64 → bitAt (x * 2 ^ s % 2 ^ 64) (63 - i) ≡ bitAt x (63 - (s + i))
@@ -153,6 +157,18 @@ lacks x m f n =
     let a = and-bit x m (r .0) in
     let o = r .2 in
     (r .0, r .1, omega arith, omega arith)
+
+-- words with the same bits are the same
+pub same-bits : (a b : ℕ) → a < 2 ^ 64 → b < 2 ^ 64 → ((j : ℕ) → j < 64 → bitAt a j ≡ bitAt b j) → a ≡ b
+same-bits a b f g h =
+    elim (ℕ-discrete (bitXor a b) 0) [
+      | yes z ↦ omega (arith, xor-add-and a b, and-le-l a b, and-le-r a b)
+      | no z ↦ absurd (let r = some-bit 64 (bitXor a b) (xor-lt 64 a b f g) z in omega (arith, r .2, h (r .0) (r .1), xor-bit a b (r .0)))
+    ]
+
+-- no bit is set above a word
+pub above-word : (x j : ℕ) → x < 2 ^ 64 → 64 ≤ j → bitAt x j ≡ 0
+above-word x j h k = ap (λ (y : ℕ). y % 2) (div-eq-of-lt (lt-of-lt-of-le h (pow-mono {i = 64} {j = j} k)))
 
 -- ---- the complement
 

@@ -12,15 +12,12 @@ use Rattle.model.specs.Basics.{bit}
 use Rattle.model.specs.Model.{Run, run, runs, covers, times, gaps, Separate}
 use Rattle.model.proofs.Lists.{by}
 use Rattle.model.proofs.Runs.{Once, canonical, runs-separate, runs-times, hit-in, hit-below, hit-above, bit-zero}
-use Rattle.tracks.specs.Map.{freeBit, isFree, freeFrom, Shows, Begun, Opened, Made, AllFree, Hit, Taken, Given}
+use Rattle.tracks.specs.Map.{freeBit, isFree, freeFrom, Shows, Opened, Made, AllFree, Hit, Taken, Given}
 use Rattle.tracks.proofs.Bits.{le-or-lt}
 use Rattle.tracks.proofs.Walk.{free-from-zero}
 use Rattle.tracks.proofs.Counting.{bit-of, free-le}
 
 -- ---- `Shows` from call to call
-
-pub shows-begin : (m m′ : List ℕ) (n : ℕ) → n ≤ 64 * length m → Begun m m′ n → Shows m′ n []
-shows-begin m m′ n h b t u = let x = b .only t (omega arith) ∙ ap bit (lt-ltb t n u) in omega arith
 
 pub shows-opened : (m m′ : List ℕ) (n : ℕ) → Opened m m′ n → Shows m′ n []
 shows-opened m m′ n o t u = let x = o .below t u in omega arith

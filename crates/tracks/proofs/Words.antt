@@ -1,5 +1,5 @@
 -- What a turn over one word says of its tracks. Assumes nothing.
-use mathlib.Core.Path.{_≡_, refl, sym, ap, _∙_}
+use mathlib.Core.Path.{_≡_, refl, sym, ap, _∙_, subst}
 use mathlib.Core.Bool.{Bool, true, false}
 use mathlib.Core.Logic.{⊎-elim}
 use mathlib.Core.List.{List}
@@ -15,7 +15,8 @@ use lib.Count.{leadingZeros}
 use lib.ListN.{length, getD, set, length-set}
 use lib.Seq.{getD-set-same, getD-set-other}
 use Rattle.model.specs.Basics.{bit}
-use Rattle.tracks.specs.Map.{bitAt, freeBit, AllFree, Hit, Made}
+use Rattle.model.proofs.Lists.{clash}
+use Rattle.tracks.specs.Map.{bitAt, freeBit, AllFree, Hit, Made, Taken}
 use Rattle.tracks.specs.Steps.{block, flipped, WordAt}
 use Rattle.tracks.proofs.Bits.{le-or-lt, zero-bit, all-ones, and-bit, or-bit, xor-bit, block-low, block-in, block-high, block-lt, lacks, not-bit, shifted, leading-zero, leading-one}
 
@@ -25,11 +26,11 @@ mask t n = block (64 - (t % 64 + n)) n
 
 -- ---- a track's bit after a store
 
-store-in : (m : List ℕ) (w v j : ℕ) → w < length m → j / 64 ≡ w → freeBit (set m w v) j ≡ bitAt v (63 - j % 64)
+pub store-in : (m : List ℕ) (w v j : ℕ) → w < length m → j / 64 ≡ w → freeBit (set m w v) j ≡ bitAt v (63 - j % 64)
 unfolding freeBit
 store-in m w v j h e = rw (e, getD-set-same m w v 0 h)
 
-store-off : (m : List ℕ) (w v j : ℕ) → (j / 64 ≡ w → ⊥) → freeBit (set m w v) j ≡ freeBit m j
+pub store-off : (m : List ℕ) (w v j : ℕ) → (j / 64 ≡ w → ⊥) → freeBit (set m w v) j ≡ freeBit m j
 unfolding freeBit
 store-off m w v j n = rw (getD-set-other m w (j / 64) v 0 n)
 
@@ -170,20 +171,8 @@ module _ (m : List ℕ) (b : Bool) (t n : ℕ) (k : t % 64 + n ≤ 64) where
 
 -- ---- the map at the beginning
 
-pub word-none : (a n : ℕ) → n ≤ a → WordAt a n 0
-word-none a n h j u = zero-bit (63 - j) ∙ sym (ap bit (le-ltb (a + j) n (omega arith)))
-
 pub word-all : (a n : ℕ) → a + 64 ≤ n → WordAt a n 0xffff_ffff_ffff_ffff
 word-all a n h j u = all-ones (63 - j) (omega arith) ∙ sym (ap bit (lt-ltb (a + j) n (omega arith)))
-
-pub word-part : (a n r : ℕ) → a < n → n < a + 64 → r ≡ block (64 - (0 + (n - a))) (n - a) → WordAt a n r
-word-part a n r h k q j u =
-    let lo = 64 - (0 + (n - a)) in
-    ap (λ (x : ℕ). bitAt x (63 - j)) q
-    ∙ ⊎-elim
-    (λ g. block-low lo (n - a) (63 - j) (omega arith) ∙ sym (ap bit (le-ltb (a + j) n g)))
-    (λ g. block-in lo (n - a) (63 - j) (omega arith) (omega arith) ∙ sym (ap bit (lt-ltb (a + j) n g)))
-    (le-or-lt n (a + j))
 
 -- the first w words say that the tracks below n are free
 abbrev pub Upto : List ℕ → ℕ → ℕ → Type 0
@@ -201,3 +190,29 @@ upto-more m w n r h p q t u =
 -- w words of ones cover n tracks
 pub upto-ones : (m : List ℕ) (w l n : ℕ) → w ≤ l → n ≤ 64 * w → Upto m w (64 * l) → (t : ℕ) → t < n → freeBit m t ≡ 1
 upto-ones m w l n h k p t u = p t (omega arith) ∙ ap bit (lt-ltb t (64 * l) (omega arith))
+
+-- ---- tracks that lie in one word
+
+module _ (m : List ℕ) (s e q : ℕ) (h : s / 64 < length m) (u : s < e) (k : s % 64 + (e - s) ≤ 64) (is : q ≡ mask s (e - s)) where
+  ends : s + (e - s) ≡ e
+  ends = omega arith
+
+  as-mask : bitAnd (getD m (s / 64) 0) q ≡ q → bitAnd (getD m (s / 64) 0) (mask s (e - s)) ≡ mask s (e - s)
+  as-mask z = ap (bitAnd (getD m (s / 64) 0)) (sym is) ∙ z ∙ is
+
+  pub took-word : bitAnd (getD m (s / 64) 0) q ≡ q → Taken m (set m (s / 64) (bitXor (getD m (s / 64) 0) q)) s e true
+  took-word z = record {
+    long = length-set m (s / 64) (bitXor (getD m (s / 64) 0) q);
+    were = λ _. subst (AllFree m s) ends (all-free m s (e - s) h k (as-mask z));
+    made = λ _. subst (λ (y : ℕ). Made 0 m (set m (s / 64) (bitXor (getD m (s / 64) 0) y)) s e) (sym is)
+        (subst (Made 0 m (set m (s / 64) (bitXor (getD m (s / 64) 0) (mask s (e - s)))) s) ends (take-chunk m s (e - s) h k (as-mask z)));
+    hit = λ r. clash refl r;
+  }
+
+  pub took-none : (bitAnd (getD m (s / 64) 0) q ≡ q → ⊥) → Taken m m s e false
+  took-none z = record {
+    long = refl;
+    were = λ r. clash r refl;
+    made = λ r. clash r refl;
+    hit = λ _. hit-chunk m s (e - s) h k e (omega arith) (λ y. z (ap (bitAnd (getD m (s / 64) 0)) is ∙ y ∙ sym is));
+  }

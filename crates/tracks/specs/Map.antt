@@ -31,11 +31,6 @@ Shows m n hs = (t : ℕ) → t < n → freeBit m t + times t hs ≡ 1
 
 -- ---- what the functions promise
 
--- m′ is a map of the tracks of m in which those below n are free and no others
-pub record Begun (m m′ : List ℕ) (n : ℕ) : Type 0 where
-  pub long : length m′ ≡ length m
-  pub only : (t : ℕ) → t < 64 * length m → freeBit m′ t ≡ bit (ltb t n)
-
 -- m′ is a map of the tracks of m in which those below n are free
 pub record Opened (m m′ : List ℕ) (n : ℕ) : Type 0 where
   pub long : length m′ ≡ length m
@@ -77,3 +72,8 @@ pub record NextRun (m : List ℕ) (n s a b : ℕ) : Type 0 where
   pub high : b ≤ n
   pub more : a < n → (a < b) × (freeFrom m n s ≡ run a (b - a) ∷ freeFrom m n b)
   pub done : n ≤ a → freeFrom m n s ≡ []
+
+-- whether that run is from s up to e
+pub record IsRun (m : List ℕ) (n t s e : ℕ) (r : Bool) : Type 0 where
+  pub yes : r ≡ true → NextRun m n t s e
+  pub no : r ≡ false → NextRun m n t s e → ⊥

@@ -1,10 +1,10 @@
 // The map of free tracks, a bit a track: track t is bit 63 - t % 64 of word t / 64, set where the track is free.
 // No loop goes by tracks: each turn does the rest of a word.
 ghost use mathlib.Core.Path.{_≡_};
-ghost use Prim.Native.Nat.{_+_, _-_, _*_, _%_, _≤_, _<_, min};
+ghost use Prim.Native.Nat.{_+_, _-_, _*_, _/_, _%_, _≤_, _<_, min};
 ghost use lib.ListN.{length};
-ghost use Rattle.tracks.specs.Map.{freeFrom, Begun, Opened, Taken, Given, NextRun};
-ghost use Rattle.tracks.specs.Steps.{block, WordAt, flipped, First, Passed, Starts};
+ghost use Rattle.tracks.specs.Map.{freeFrom, Opened, Taken, Given, NextRun, IsRun};
+ghost use Rattle.tracks.specs.Steps.{block, flipped, First, Passed, Window, Starts};
 
 const ALL: u64 = 0xffff_ffff_ffff_ffff;
 
@@ -25,32 +25,6 @@ fn chunk(t: usize, e: usize) -> usize
     if room < e - t { room } else { e - t }
 }
 
-// The word whose first track is a: the tracks below n are free.
-fn word_at(a: usize, n: usize) -> u64
-    requires { ⌜ a ≤ 65536 ⌝ }
-    ensures { λ r. ⌜ WordAt a n r ⌝ }
-{
-    if n <= a {
-        return 0;
-    }
-    if a + 64 <= n {
-        return ALL;
-    }
-    mask(0, n - a)
-}
-
-// Makes the tracks below n free and the others not.
-pub fn begin(map: &mut [u64], n: usize)
-    requires { ⌜ length (now map) ≤ 1024 ⌝ }
-    ensures { λ _. ⌜ Begun (now (map .entry)) (now (map .exit)) n ⌝ }
-{
-    let mut w = 0;
-    while w < map.len() {
-        map[w] = word_at(w * 64, n);
-        w += 1;
-    }
-}
-
 // Makes the tracks below n free, by whole words: those from n on are not looked at. A small volume costs a few words.
 pub fn free_below(map: &mut [u64], n: usize)
     requires { ⌜ (length (now map) ≤ 1024) × (n ≤ 64 * length (now map)) ⌝ }
@@ -63,8 +37,23 @@ pub fn free_below(map: &mut [u64], n: usize)
     }
 }
 
-// Takes the tracks from s up to e: true if all of them were free.
-pub fn take_range(map: &mut [u64], s: usize, e: usize) -> bool
+// Takes the tracks from s up to e, which lie in one word: true if all of them were free.
+fn take_near(map: &mut [u64], s: usize, e: usize) -> bool
+    requires { ⌜ (s < e) × (s % 64 + (e - s) ≤ 64) × (s / 64 < length (now map)) ⌝ }
+    ensures { λ r. ⌜ Taken (now (map .entry)) (now (map .exit)) s e r ⌝ }
+{
+    let w = s / 64;
+    let m = mask(s % 64, e - s);
+    let x = map[w];
+    if x & m != m {
+        return false;
+    }
+    map[w] = x ^ m;
+    true
+}
+
+// The same for any number of tracks, word by word.
+fn take_far(map: &mut [u64], s: usize, e: usize) -> bool
     requires { ⌜ (s ≤ e) × (e ≤ 64 * length (now map)) ⌝ }
     ensures { λ r. ⌜ Taken (now (map .entry)) (now (map .exit)) s e r ⌝ }
 {
@@ -81,6 +70,19 @@ pub fn take_range(map: &mut [u64], s: usize, e: usize) -> bool
         t += n;
     }
     true
+}
+
+// Takes the tracks from s up to e: true if all of them were free. Most extents are short: they need no loop.
+pub fn take_range(map: &mut [u64], s: usize, e: usize) -> bool
+    requires { ⌜ (s ≤ e) × (e ≤ 64 * length (now map)) ⌝ }
+    ensures { λ r. ⌜ Taken (now (map .entry)) (now (map .exit)) s e r ⌝ }
+{
+    if s < e {
+        if e - s <= 64 - s % 64 {
+            return take_near(map, s, e);
+        }
+    }
+    take_far(map, s, e)
 }
 
 // Makes the tracks from s up to e free.
@@ -148,14 +150,60 @@ pub struct Span {
     pub to: usize,
 }
 
-// The first run of free tracks from s on and below n; from n to n where there is none.
+// The 64 tracks from t on as one word, track t in its highest bit. Two shifts down, since one by 64 - o may be by 64.
+fn window(map: &[u64], t: usize) -> u64
+    requires { ⌜ t / 64 + 1 < length (now map) ⌝ }
+    ensures { λ r. ⌜ Window (now (map .entry)) t r ⌝ }
+{
+    let w = t / 64;
+    let o = t % 64;
+    (map[w] << o) | ((map[w + 1] >> 1) >> (63 - o))
+}
+
+// The first run of free tracks from s on and below n; from n to n where there is none. A run that ends within 64 tracks
+// is read off one word.
 pub fn next_run(map: &[u64], s: usize, n: usize) -> Span
     requires { ⌜ (s ≤ n) × (n ≤ 64 * length (now map)) ⌝ }
     ensures { λ r. ⌜ NextRun (now (map .entry)) n s (r .from) (r .to) ⌝ }
 {
+    if n - s > 64 {
+        let x = window(map, s);
+        let a = u64::leading_zeros(x) as usize;
+        if a < 64 {
+            let b = u64::leading_zeros((x << a) ^ ALL) as usize;
+            let c = a + b;
+            if c < 64 {
+                return Span {
+                    from: s + a,
+                    to: s + c,
+                };
+            }
+        }
+    }
     let from = next_track(map, s, n, true);
     let to = next_track(map, from, n, false);
     Span { from, to }
+}
+
+// Whether the first run of free tracks from t on and below n is from s up to e. It searches nothing where the tracks from t
+// up to e lie in one word: a loop over runs that are given does not wait for the map to say where to look next.
+pub fn is_run(map: &[u64], t: usize, n: usize, s: usize, e: usize) -> bool
+    requires { ⌜ (t ≤ s) × (s < e) × (e ≤ n) × (n ≤ 64 * length (now map)) ⌝ }
+    ensures { λ r. ⌜ IsRun (now (map .entry)) n t s e r ⌝ }
+{
+    let k = e - t;
+    let o = t % 64;
+    if k < 64 - o {
+        if e < n {
+            let w = t / 64;
+            return (map[w] << o) >> (63 - k) == (ALL >> (64 - (e - s))) << 1;
+        }
+    }
+    let r = next_run(map, t, n);
+    if r.from != s {
+        return false;
+    }
+    r.to == e
 }
 
 // The tracks of the word x that are free behind one that is not; y is the word before x.

@@ -8,8 +8,8 @@ use Rattle.tracks.specs.Steps.{block}
 use Rattle.tracks.specs.Map.{Made, AllFree}
 use Rattle.tracks.proofs.Words.{all-free, hit-chunk, take-chunk, made-none, made-more, free-more, hit-before}
 use Rattle.model.proofs.Lists.{clash}
-use Rattle.tracks.proofs.take_range.Statement.{statement}
-use Rattle.tracks.proofs.take_range.Tie as tie
+use Rattle.tracks.proofs.take_far.Statement.{statement}
+use Rattle.tracks.proofs.take_far.Tie as tie
 
 abbrev Inv-loop : tie.InvT-loop
 Inv-loop map₀ s e t₀ map t = (s ≤ t) × (t ≤ e) × AllFree map₀ s t × Made 0 map₀ map s t
@@ -88,8 +88,8 @@ returns-2 c =
     let e : c .before .loop .t ≡ c .before .before .before .args .e = omega arith in
     record { long = c .before .loop .inv .3 .long; were = λ _. rw e at (c .before .loop .inv .2); made = λ _. rw e at (c .before .loop .inv .3); hit = λ r. clash refl r }
 
-pub take-range-spec : {M : Type 1} → statement M
-take-range-spec =
+pub take-far-spec : {M : Type 1} → statement M
+take-far-spec =
     tie.close
     (tie.spec
     Inv-loop
