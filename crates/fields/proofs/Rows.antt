@@ -22,18 +22,18 @@ pub and-false : (t : Bool) → t && false ≡ false
 and-false true = refl
 and-false false = refl
 
-and-true : (t : Bool) → t && true ≡ t
+pub and-true : (t : Bool) → t && true ≡ t
 and-true true = refl
 and-true false = refl
 
-and-assoc : (a b c : Bool) → (a && b) && c ≡ a && (b && c)
+pub and-assoc : (a b c : Bool) → (a && b) && c ≡ a && (b && c)
 and-assoc true b c = refl
 and-assoc false b c = refl
 
 -- ---- all alike
 
 -- what is gathered stays 0 as long as the bytes are v
-gather : (a x v : ℕ) → eqb (bitOr a (bitXor x v)) 0 ≡ eqb a 0 && eqb x v
+pub gather : (a x v : ℕ) → eqb (bitOr a (bitXor x v)) 0 ≡ eqb a 0 && eqb x v
 gather a x v =
     let o = or-add-and a (bitXor x v) in
     let l = and-le-l a (bitXor x v) in

@@ -13,6 +13,14 @@ use Rattle.rules.specs.Table.{inPart}
 unfoldable pub allAre : ℕ → List ℕ → Bool
 allAre v xs = all (λ b. eqb b v) xs
 
+-- four bytes from place i on as a number, the low one first
+abbrev pub word4 : List ℕ → ℕ → ℕ
+word4 s i = getD s i 0 + getD s (i + 1) 0 * 256 + getD s (i + 2) 0 * 65536 + getD s (i + 3) 0 * 16777216
+
+-- eight of them
+unfoldable pub word8 : List ℕ → ℕ → ℕ
+word8 s i = word4 s i + word4 s (i + 4) * 4294967296
+
 -- the bit of the character c in a set of 64
 abbrev pub inSet : ℕ → ℕ → Bool
 inSet w c = eqb (w / 2 ^ (c % 64) % 2) 1
