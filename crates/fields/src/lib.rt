@@ -9,7 +9,7 @@ ghost use Rattle.rules.specs.Layout.{extentPart};
 ghost use Rattle.rules.specs.Reading.{trackAt};
 ghost use Rattle.rules.specs.Table.{goodName, inPart, startsPart};
 ghost use Rattle.fields.specs.Records.{putRecord, slotBytes};
-ghost use Rattle.fields.specs.Tests.{PartEnd, addressOk, allAre, goodTen, inLow, inSet, slotNamed, typeOk, word4, word8};
+ghost use Rattle.fields.specs.Tests.{OfEight, PartEnd, addressOk, allAre, goodTen, inLow, inSet, slotNamed, typeOk, word4, word8};
 
 // ---- numbers and rows of bytes
 
@@ -249,8 +249,25 @@ pub fn in_part(c: u8) -> bool
     has_low(PARTS_LOW, c)
 }
 
-// Where the characters that may stand in a part, from place `from` on, end.
-fn part_end(name: &[u8], from: usize) -> usize
+// How many of the eight characters from place `from` on may stand in a part, before one that may not. The number of turns is
+// fixed, so that no loop is left in the end, and no test of the name's end.
+fn eight(name: &[u8], from: usize) -> usize
+    requires { ⌜ from + 8 ≤ length (now name) ⌝ }
+    ensures { λ r. ⌜ OfEight (now (name .entry)) from r ⌝ }
+{
+    let mut k: usize = 0;
+    while k < 8 {
+        if in_part(name[from + k]) {
+            k += 1;
+        } else {
+            return k;
+        }
+    }
+    k
+}
+
+// Where the characters that may stand in a part, from place `from` on, end: one by one.
+fn slow_end(name: &[u8], from: usize) -> usize
     requires { ⌜ from ≤ length (now name) ⌝ }
     ensures { λ r. ⌜ PartEnd (now (name .entry)) from r ⌝ }
 {
@@ -263,6 +280,21 @@ fn part_end(name: &[u8], from: usize) -> usize
         }
     }
     i
+}
+
+// The same, by eight characters where the name has so many.
+fn part_end(name: &[u8], from: usize) -> usize
+    requires { ⌜ from ≤ length (now name) ⌝ }
+    ensures { λ r. ⌜ PartEnd (now (name .entry)) from r ⌝ }
+{
+    if from + 8 > name.len() {
+        return slow_end(name, from);
+    }
+    let k = eight(name, from);
+    if k < 8 {
+        return from + k;
+    }
+    slow_end(name, from + 8)
 }
 
 // Whether a name obeys the rule: parts of 1 to 8 characters joined by periods, then blanks. A turn sees one part.
