@@ -1,14 +1,15 @@
 -- The lookup of a name in a table's slots, and that names differ, as the code goes. Assumes nothing.
 use Prim.Native.Nat.{ℕ, zero, suc, _+_, _*_, _/_, _%_, _<_}
 use mathlib.Core.Bool.{Bool, true, false, cond, _&&_}
-use mathlib.Core.List.{List, [], _∷_}
+use mathlib.Core.List.{List}
 use mathlib.Core.Path.{_≡_}
 use lib.ListN.{getD, length}
 use lib.Dec.{eqb}
-use Rattle.model.specs.Basics.{any, part, same}
-use Rattle.fields.specs.Records.{slotBytes}
 use Rattle.names.specs.declared.Found.{Found}
 use Rattle.names.specs.declared.Found.the-variants.{Slot, Nothing}
+use Rattle.model.specs.Basics.{any, part, same}
+use Rattle.tracks.specs.Map.{freeBit}
+use Rattle.fields.specs.Records.{slotBytes}
 
 -- the record is a format 1
 abbrev pub isLabel : List ℕ → Bool
@@ -75,9 +76,9 @@ hasTag tags t = any (λ x. eqb x t) tags
 abbrev pub Tagged : List ℕ → ℕ → List ℕ → Type 0
 Tagged t k tags = (j : ℕ) → j < k → isLabel (slotBytes t j) ≡ true → getD tags j 0 ≡ tagOf (nameOf (slotBytes t j))
 
--- each label among the first k slots has its mark
+-- each label among the first k slots has its mark, at its tag's remainder by 4,096; a mark is a free track of the map `seen`
 abbrev pub Seen : List ℕ → ℕ → List ℕ → Type 0
-Seen t k seen = (j : ℕ) → j < k → isLabel (slotBytes t j) ≡ true → getD seen (tagOf (nameOf (slotBytes t j)) % 1024) 0 ≡ 0 → ⊥
+Seen t k seen = (j : ℕ) → j < k → isLabel (slotBytes t j) ≡ true → freeBit seen (tagOf (nameOf (slotBytes t j)) % 4096) ≡ 1
 
 -- slot k was looked at: whether its name is new, and the tags and marks then
 pub record Entered (t : List ℕ) (k : ℕ) (tags tags′ seen seen′ : List ℕ) (r : Bool) : Type 0 where
