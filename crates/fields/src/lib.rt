@@ -51,7 +51,7 @@ pub fn track_at(s: &[u8], i: usize, h: u32) -> u32
 }
 
 // Four bytes from place i on as a number, the low one first.
-fn word4(s: &[u8], i: usize) -> u64
+pub fn word4(s: &[u8], i: usize) -> u64
     requires { ⌜ i + 3 < length (now s) ⌝ }
     ensures { λ r. ⌜ (r ≡ word4 (now (s .entry)) i) × (r < 4294967296) ⌝ }
 {

@@ -21,7 +21,8 @@ use Rattle.tracks.specs.Map.{Given, freeBit, isFree}
 use Rattle.tracks.proofs.Bits.{le-or-lt}
 use Rattle.tracks.proofs.Walk.{is-free}
 use Rattle.fields.specs.Records.{slotBytes}
-use Rattle.names.specs.Find.{Entered, Seen, Tagged, distinctFrom, findSlot, firstNamed, hasTag, isLabel, isNamed, isNothing, nameOf, newAt, tagOf, weightOf, wordAt, wordSum}
+use Rattle.fields.specs.Tests.{word4}
+use Rattle.names.specs.Find.{Entered, Seen, Tagged, distinctFrom, findSlot, firstNamed, hasTag, isLabel, isNamed, isNothing, nameOf, newAt, tagOf, weightOf, wordSum}
 
 module _ (t name : List ℕ) (k n : ℕ) (h : k < n) where
   step : firstNamed t name k (n - k) ≡ cond (isNamed (slotBytes t k) name) (Slot k) (firstNamed t name (k + 1) (n - (k + 1)))
@@ -172,7 +173,7 @@ pub tag-end : (tags : List ℕ) (x i : ℕ) (b : Bool) → length tags ≤ i →
 unfolding hasTag
 tag-end tags x i b h = rw (drop-of-length-le tags {i = i} h) (or-false b)
 
-pub word-more : (name : List ℕ) (i : ℕ) → wordSum name (i + 1) ≡ wordSum name i + wordAt name (4 * i) * weightOf i
+pub word-more : (name : List ℕ) (i : ℕ) → wordSum name (i + 1) ≡ wordSum name i + word4 name (4 * i) * weightOf i
 unfolding wordSum
 word-more name i = rw add-one
 

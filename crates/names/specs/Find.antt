@@ -10,6 +10,7 @@ use Rattle.names.specs.declared.Found.the-variants.{Slot, Nothing}
 use Rattle.model.specs.Basics.{any, part, same}
 use Rattle.tracks.specs.Map.{freeBit}
 use Rattle.fields.specs.Records.{slotBytes}
+use Rattle.fields.specs.Tests.{word4}
 
 -- the record is a format 1
 abbrev pub isLabel : List ℕ → Bool
@@ -54,17 +55,13 @@ distinct t n = distinctFrom t 0 n
 
 -- ---- a number made of a name: any function of it would do
 
--- four bytes from place i on as a number, the low one first
-abbrev pub wordAt : List ℕ → ℕ → ℕ
-wordAt s i = getD s i 0 + getD s (i + 1) 0 * 256 + getD s (i + 2) 0 * 65536 + getD s (i + 3) 0 * 16777216
-
 abbrev pub weightOf : ℕ → ℕ
 weightOf i = (i + 5) * 2246822519 % 268435456
 
 -- the first n words, each with its weight
 unfoldable pub wordSum : List ℕ → ℕ → ℕ
 wordSum s zero = 0
-wordSum s (suc n) = wordSum s n + wordAt s (4 * n) * weightOf n
+wordSum s (suc n) = wordSum s n + word4 s (4 * n) * weightOf n
 
 unfoldable pub tagOf : List ℕ → ℕ
 tagOf name = wordSum name 11 / 16777216 % 65536

@@ -3,7 +3,8 @@ use fields::*;
 ghost use mathlib.Core.Path.{_≡_};
 ghost use Prim.Native.Nat.{_+_, _*_, _%_, _≤_, _<_};
 ghost use lib.ListN.{length};
-ghost use Rattle.names.specs.Find.{isNamed, findSlot, isNothing, distinct, wordAt, weightOf, tagOf, hasTag, Tagged, Seen, Entered};
+ghost use Rattle.fields.specs.Tests.{word4};
+ghost use Rattle.names.specs.Find.{isNamed, findSlot, isNothing, distinct, weightOf, tagOf, hasTag, Tagged, Seen, Entered};
 
 // A lookup's answer.
 pub enum Found {
@@ -37,18 +38,6 @@ pub fn find(table: &[u8], n: usize, name: &[u8]) -> Found
     Found::Nothing
 }
 
-// Four bytes of a name as a number.
-fn word(name: &[u8], i: usize) -> u32
-    requires { ⌜ i + 3 < length (now name) ⌝ }
-    ensures { λ r. ⌜ (r ≡ wordAt (now (name .entry)) i) × (r < 4294967296) ⌝ }
-{
-    let a = fields::wide(name[i]);
-    let b = fields::wide(name[i + 1]);
-    let c = fields::wide(name[i + 2]);
-    let d = fields::wide(name[i + 3]);
-    a + b * 256 + c * 65536 + d * 16777216
-}
-
 // What word number i is multiplied by in a name's tag: 28 bits, so that the sum of 11 products fits.
 fn weight(i: usize) -> u64
     requires { ⌜ i < 11 ⌝ }
@@ -60,9 +49,9 @@ fn weight(i: usize) -> u64
 // A word's share of a tag.
 fn weighed(name: &[u8], i: usize) -> u64
     requires { ⌜ (i < 11) × (length (now name) ≡ 44) ⌝ }
-    ensures { λ r. ⌜ (r ≡ wordAt (now (name .entry)) (4 * i) * weightOf i) × (r ≤ 1152921504606846976) ⌝ }
+    ensures { λ r. ⌜ (r ≡ word4 (now (name .entry)) (4 * i) * weightOf i) × (r ≤ 1152921504606846976) ⌝ }
 {
-    let x = word(name, 4 * i) as u64;
+    let x = fields::word4(name, 4 * i);
     x * weight(i)
 }
 
