@@ -4,13 +4,13 @@ use mathlib.Core.Bool.{Bool, true, false, not, cond, _&&_, _||_}
 use mathlib.Core.List.{List, [], _∷_}
 use Prim.Native.Nat.{ℕ, zero, suc, _+_, _-_, _≤_, _<_}
 use native.Mathlib.Omega.{arith}
-use borrow.Author.Tests.{ne-eqb, eq-eqb, lt-ltb, le-ltb, eqb-true}
+use borrow.Author.Tests.{ne-eqb, eq-eqb, lt-ltb, le-ltb, eqb-true, leb-true, leb-false}
 use lib.Dec.{T, eqb, leb, ltb}
 use lib.ListN.{length, getD, drop, drop-of-length-le}
 use Rattle.model.specs.Basics.{all, upFrom}
 use Rattle.model.proofs.Lists.{and-l, and-r, by, clash}
 use Rattle.rules.specs.Table.{inPart, nameFrom, startsPart}
-use Rattle.fields.specs.Tests.{PartEnd, allAre, inLow, inSet}
+use Rattle.fields.specs.Tests.{OfEight, PartEnd, allAre, inLow, inSet}
 use Rattle.fields.proofs.Rows.{rest}
 
 or-false : (t : Bool) → t || false ≡ t
@@ -70,6 +70,22 @@ in-more s j i a x k u v =
       | yes q ↦ rw q x
       | no q ↦ a k u (omega arith)
     ]
+
+pub in-eight : (s : List ℕ) (j k : ℕ) → AllIn s j (j + k) → inPart (getD s (j + k) 0) ≡ true → AllIn s j (j + (k + 1))
+in-eight s j k a x i u v = in-more s j (j + k) a x i u (omega arith)
+
+-- eight at once: the part ends among them, or goes on behind them
+module _ (s : List ℕ) (from k : ℕ) (l : from + 8 ≤ length s) (p : OfEight s from k) where
+  pub end-in-eight : k < 8 → PartEnd s from (from + k)
+  end-in-eight h = record { low = omega arith; high = omega arith; inside = p .inside; stop = λ _. p .stop h }
+
+  pub end-behind : (r : ℕ) → 8 ≤ k → PartEnd s (from + 8) r → PartEnd s from r
+  end-behind r h q = record {
+    low = omega (arith, q .low);
+    high = q .high;
+    inside = λ i u v. by (leb (from + 8) i) (λ w. q .inside i (leb-true _ _ w) v) (λ w. p .inside i u (omega (arith, leb-false (from + 8) i w)));
+    stop = q .stop;
+  }
 
 -- m characters: they go on with a part of 8 at most, or make it too long
 walk : (s : List ℕ) (m n j : ℕ) → AllIn s j (j + m) → j + m ≤ length s → suc n + m ≤ 8 → nameFrom (suc n) (drop j s) ≡ nameFrom (suc n + m) (drop (j + m) s)

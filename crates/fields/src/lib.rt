@@ -9,7 +9,7 @@ ghost use Rattle.rules.specs.Layout.{extentPart};
 ghost use Rattle.rules.specs.Reading.{trackAt};
 ghost use Rattle.rules.specs.Table.{goodName, inPart, startsPart};
 ghost use Rattle.fields.specs.Records.{putRecord, slotBytes};
-ghost use Rattle.fields.specs.Tests.{PartEnd, addressOk, allAre, goodTen, inLow, inSet, slotNamed, typeOk};
+ghost use Rattle.fields.specs.Tests.{OfEight, PartEnd, addressOk, allAre, goodTen, inLow, inSet, slotNamed, typeOk, word4, word8};
 
 // ---- numbers and rows of bytes
 
@@ -50,8 +50,30 @@ pub fn track_at(s: &[u8], i: usize, h: u32) -> u32
     cc * h + hh
 }
 
-// Whether every byte of s is v. There is no exit from the loop, so that it is done many bytes at a time.
-pub fn all_are(s: &[u8], v: u8) -> bool
+// Four bytes from place i on as a number, the low one first.
+pub fn word4(s: &[u8], i: usize) -> u64
+    requires { ⌜ i + 3 < length (now s) ⌝ }
+    ensures { λ r. ⌜ (r ≡ word4 (now (s .entry)) i) × (r < 4294967296) ⌝ }
+{
+    let a = wide(s[i]) as u64;
+    let b = wide(s[i + 1]) as u64;
+    let c = wide(s[i + 2]) as u64;
+    let d = wide(s[i + 3]) as u64;
+    a + b * 256 + c * 65536 + d * 16777216
+}
+
+// Eight bytes from place i on as a number, the low one first. Written as a sum it is one load in the end.
+pub fn word8(s: &[u8], i: usize) -> u64
+    requires { ⌜ i + 7 < length (now s) ⌝ }
+    ensures { λ r. ⌜ r ≡ word8 (now (s .entry)) i ⌝ }
+{
+    let lo = word4(s, i);
+    let hi = word4(s, i + 4);
+    lo + hi * 4294967296
+}
+
+// Whether every byte of s is v, byte by byte: for short rows.
+fn few_are(s: &[u8], v: u8) -> bool
     ensures { λ r. ⌜ r ≡ allAre v (now (s .entry)) ⌝ }
 {
     let mut unlike: u8 = 0;
@@ -59,6 +81,25 @@ pub fn all_are(s: &[u8], v: u8) -> bool
     while i < s.len() {
         unlike = unlike | (s[i] ^ v);
         i += 1;
+    }
+    unlike == 0
+}
+
+// Whether every byte of s is v, by eight bytes; the last eight come first, so that no rest is left over. There is no exit
+// from the loop, so that it is done many words at a time.
+pub fn all_are(s: &[u8], v: u8) -> bool
+    ensures { λ r. ⌜ r ≡ allAre v (now (s .entry)) ⌝ }
+{
+    let n = s.len();
+    if n < 8 {
+        return few_are(s, v);
+    }
+    let all = wide(v) as u64 * 0x0101_0101_0101_0101;
+    let mut unlike: u64 = word8(s, n - 8) ^ all;
+    let mut i = 0;
+    while i + 8 <= n {
+        unlike = unlike | (word8(s, i) ^ all);
+        i += 8;
     }
     unlike == 0
 }
@@ -72,18 +113,36 @@ pub fn part_is(s: &[u8], i: usize, n: usize, v: u8) -> bool
     all_are(&s[i..e], v)
 }
 
-// Whether a and b hold the same bytes. There is no exit from the loop, as in all_are.
-pub fn same(a: &[u8], b: &[u8]) -> bool
+// Whether a and b, of one length, hold the same bytes, byte by byte: for short rows.
+fn few_same(a: &[u8], b: &[u8]) -> bool
+    requires { ⌜ length (now a) ≡ length (now b) ⌝ }
     ensures { λ r. ⌜ r ≡ same (now (a .entry)) (now (b .entry)) ⌝ }
 {
-    if a.len() != b.len() {
-        return false;
-    }
     let mut unlike: u8 = 0;
     let mut i = 0;
     while i < a.len() {
         unlike = unlike | (a[i] ^ b[i]);
         i += 1;
+    }
+    unlike == 0
+}
+
+// Whether a and b hold the same bytes, by eight bytes, as in all_are.
+pub fn same(a: &[u8], b: &[u8]) -> bool
+    ensures { λ r. ⌜ r ≡ same (now (a .entry)) (now (b .entry)) ⌝ }
+{
+    let n = a.len();
+    if n != b.len() {
+        return false;
+    }
+    if n < 8 {
+        return few_same(a, b);
+    }
+    let mut unlike: u64 = word8(a, n - 8) ^ word8(b, n - 8);
+    let mut i = 0;
+    while i + 8 <= n {
+        unlike = unlike | (word8(a, i) ^ word8(b, i));
+        i += 8;
     }
     unlike == 0
 }
@@ -190,8 +249,25 @@ pub fn in_part(c: u8) -> bool
     has_low(PARTS_LOW, c)
 }
 
-// Where the characters that may stand in a part, from place `from` on, end.
-fn part_end(name: &[u8], from: usize) -> usize
+// How many of the eight characters from place `from` on may stand in a part, before one that may not. The number of turns is
+// fixed, so that no loop is left in the end, and no test of the name's end.
+fn eight(name: &[u8], from: usize) -> usize
+    requires { ⌜ from + 8 ≤ length (now name) ⌝ }
+    ensures { λ r. ⌜ OfEight (now (name .entry)) from r ⌝ }
+{
+    let mut k: usize = 0;
+    while k < 8 {
+        if in_part(name[from + k]) {
+            k += 1;
+        } else {
+            return k;
+        }
+    }
+    k
+}
+
+// Where the characters that may stand in a part, from place `from` on, end: one by one.
+fn slow_end(name: &[u8], from: usize) -> usize
     requires { ⌜ from ≤ length (now name) ⌝ }
     ensures { λ r. ⌜ PartEnd (now (name .entry)) from r ⌝ }
 {
@@ -204,6 +280,21 @@ fn part_end(name: &[u8], from: usize) -> usize
         }
     }
     i
+}
+
+// The same, by eight characters where the name has so many.
+fn part_end(name: &[u8], from: usize) -> usize
+    requires { ⌜ from ≤ length (now name) ⌝ }
+    ensures { λ r. ⌜ PartEnd (now (name .entry)) from r ⌝ }
+{
+    if from + 8 > name.len() {
+        return slow_end(name, from);
+    }
+    let k = eight(name, from);
+    if k < 8 {
+        return from + k;
+    }
+    slow_end(name, from + 8)
 }
 
 // Whether a name obeys the rule: parts of 1 to 8 characters joined by periods, then blanks. A turn sees one part.

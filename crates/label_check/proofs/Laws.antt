@@ -1,19 +1,22 @@
 -- How the test of extents goes on from one to the next. Assumes nothing.
-use mathlib.Core.Path.{_≡_, _∙_, sym, subst, refl, ap}
+use mathlib.Core.Path.{_≡_, _∙_, sym, subst, refl, ap, ap₂}
 use mathlib.Core.Bool.{true, false, _&&_, Bool}
-use mathlib.Core.List.{List}
-use Prim.Native.Nat.{ℕ, suc, _+_, _-_, _≤_, _<_, zero}
+use mathlib.Core.List.{List, _++_}
+use Prim.Native.Nat.{ℕ, suc, _+_, _-_, _*_, _≤_, _<_, zero}
 use native.Mathlib.Omega.{arith}
 use Rattle.label_check.specs.declared.Form.the-variants.{Bad, Good}
 use native.Mathlib.Numerals.{add-one}
 use borrow.Author.Tests.{lt-leb, le-leb}
-use lib.ListN.{getD}
+use lib.ListN.{getD, take, drop, length, length-drop, take-append-drop}
+use lib.Seq.{drop-drop, take-all}
 use Rattle.model.specs.Basics.{part}
 use Rattle.model.specs.Model.{Geometry}
 use Rattle.rules.specs.Layout.{extentPart}
 use Rattle.rules.proofs.Keyed.{count}
 use Rattle.fields.specs.Records.{slotBytes}
 use Rattle.fields.specs.Tests.{allAre}
+use Rattle.fields.proofs.Rows.{and-assoc, are-append, from-place}
+use Rattle.fields.proofs.Tens.{in-format1}
 use Rattle.forms.specs.Forms.{extentOk, oneOk, threeOk}
 use Rattle.label_check.specs.Label.{extentsOk, fewShape, goodIf, goodThird, namedThird, orZero, shapeOf, thirdShape, unusedOk}
 
@@ -49,14 +52,35 @@ unused-end f1 f3 e m u = let q : m - e ≡ 0 = omega arith in rw q
 
 -- ---- a label: the definitions, by the tests that led to an answer
 
-module _ (f1 : List ℕ) (n : ℕ) where
-  pub few-linked : allAre 0 (part 135 5 f1) ≡ false → false ≡ fewShape f1 n
-  unfolding fewShape
-  few-linked e = rw e
+and-swap : (a b : Bool) → (a && b) ≡ (b && a)
+and-swap true true = refl
+and-swap true false = refl
+and-swap false true = refl
+and-swap false false = refl
 
-  pub few-free : (r : Bool) → allAre 0 (part 135 5 f1) ≡ true → r ≡ unusedOk f1 f1 n (3 - n) → r ≡ fewShape f1 n
-  unfolding fewShape
-  few-free r e q = rw e q
+-- from extent number e on a format 1 has k extents and its link, and that is all
+few-rest : (f1 : List ℕ) (k e : ℕ) → length f1 ≡ 140 → e + k ≡ 3 → allAre 0 (drop (105 + 10 * e) f1) ≡ (unusedOk f1 f1 e k && allAre 0 (part 135 5 f1))
+unfolding unusedOk
+few-rest f1 zero e l q =
+    let p : 105 + 10 * e ≡ 135 = omega arith in
+    rw (p, take-all 5 (drop 135 f1) (omega (arith, length-drop 135 f1)))
+few-rest f1 (suc k) e l q =
+    let at : ℕ = 105 + 10 * e in
+    let p : at + 10 ≡ 105 + 10 * suc e = omega arith in
+    ap (allAre 0) (sym (take-append-drop 10 (drop at f1)) ∙ ap (λ (x : List ℕ). part at 10 f1 ++ x) (drop-drop 10 at f1 ∙ ap (λ (x : ℕ). drop x f1) p))
+    ∙ are-append 0 (part at 10 f1) (drop (105 + 10 * suc e) f1)
+    ∙ ap₂ _&&_ (ap (allAre 0) (sym (in-format1 f1 f1 e l l (omega arith)))) (few-rest f1 k (suc e) l (omega arith))
+    ∙ sym (and-assoc (allAre 0 (extentPart f1 f1 e)) (unusedOk f1 f1 (suc e) k) (allAre 0 (part 135 5 f1)))
+
+-- a format 1 without a format 3, by one row of zeros
+pub few-zeros : (f1 : List ℕ) (n : ℕ) (r : Bool) → length f1 ≡ 140 → n ≤ 3
+    → r ≡ allAre 0 (take (length f1 - (105 + 10 * n)) (drop (105 + 10 * n) f1)) → r ≡ fewShape f1 n
+unfolding fewShape
+few-zeros f1 n r l u e =
+    e
+    ∙ ap (allAre 0) (from-place f1 (105 + 10 * n))
+    ∙ few-rest f1 (3 - n) n l (omega arith)
+    ∙ and-swap (unusedOk f1 f1 n (3 - n)) (allAre 0 (part 135 5 f1))
 
 or-zero : (b : Bool) → orZero b 0 ≡ 0
 or-zero true = refl

@@ -2,13 +2,13 @@
 use Rattle.label_check.specs.declared.Form.{Form}
 use Rattle.label_check.specs.declared.Form.the-variants.{Bad, Good}
 use mathlib.Core.Path.{_≡_, refl, sym, ap, ap₂, _∙_, subst}
-use mathlib.Core.Bool.{Bool, true, false, cond, _&&_}
+use mathlib.Core.Bool.{Bool, true, false, _&&_}
 use mathlib.Core.List.{List}
 use Prim.Native.Nat.{ℕ, zero, suc, _+_, _-_, _≤_, _<_}
 use native.Mathlib.Nat.{zero-add, add-zero}
 use native.Mathlib.Omega.{arith}
-use borrow.Author.Tests.{le-ltb, leb-true, leb-false}
-use lib.Dec.{leb, ltb}
+use borrow.Author.Tests.{le-ltb, leb-true}
+use lib.Dec.{leb}
 use lib.ListN.{length, getD}
 use Rattle.model.specs.Basics.{part, within}
 use Rattle.model.specs.Model.{Geometry, slots, tracks}
@@ -16,15 +16,12 @@ use Rattle.model.proofs.Lists.{and-l, and-r, by, is-true, true-is}
 use Rattle.rules.specs.Layout.{extentPart}
 use Rattle.rules.proofs.Valid.{Limits}
 use Rattle.fields.specs.Records.{slotBytes}
-use Rattle.fields.specs.Tests.{allAre, slotNamed}
+use Rattle.fields.specs.Tests.{allAre}
 use Rattle.fields.proofs.Links.{slot-below}
+use Rattle.fields.proofs.Rows.{and-assoc}
 use Rattle.fields.proofs.Tens.{in-format1}
 use Rattle.forms.specs.Forms.{extentOk, oneOk, threeOk}
 use Rattle.label_check.specs.Label.{extentsOk, fewOk, fewShape, formOf, goodIf, goodThird, namedThird, orZero, shapeOf, thirdOf, thirdShape, unusedOk, usedOk}
-
-and-assoc : (a b c : Bool) → ((a && b) && c) ≡ (a && (b && c))
-and-assoc true b c = refl
-and-assoc false b c = refl
 
 module _ (h t : ℕ) (f1 f3 : List ℕ) (n : ℕ) where
   abbrev X : ℕ → ℕ → Bool

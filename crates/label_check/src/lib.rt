@@ -32,15 +32,13 @@ fn unused_ok<'a>(f1: &'a [u8], f3: &'a [u8], n: usize, m: usize) -> bool
     true
 }
 
-// Whether a format 1 of n extents, 3 at most, has zeros behind them and no link.
+// Whether a format 1 of n extents, 3 at most, has zeros behind them and no link: one row of zeros, to the record's end.
 fn few_ok(f1: &[u8], n: usize) -> bool
     requires { ⌜ (length (now f1) ≡ 140) × (n ≤ 3) ⌝ }
     ensures { λ r. ⌜ r ≡ fewShape (now (f1 .entry)) n ⌝ }
 {
-    if fields::part_is(f1, 135, 5, 0) {
-        return unused_ok(f1, f1, n, 3);
-    }
-    false
+    let at = 105 + 10 * n;
+    fields::all_are(&f1[at..], 0)
 }
 
 // The slot of the format 3 of a format 1 of n extents, more than 3, where it has zeros behind them; else 0.

@@ -1,6 +1,7 @@
 -- How the searches and the comparison of names go on from slot to slot. Assumes nothing.
 use mathlib.Core.Path.{_≡_, refl, ap, _∙_, subst, sym}
 use mathlib.Core.Bool.{true, false, cond, _&&_, _||_, Bool}
+use mathlib.Core.Logic.{⊎-elim}
 use mathlib.Core.List.{List, [], _∷_}
 use Prim.Native.Nat.{ℕ, zero, suc, _+_, _-_, _≤_, _<_, _*_, _/_, _%_}
 use native.Mathlib.Nat.{lt-of-not-le}
@@ -16,8 +17,12 @@ use borrow.Author.Tests.{eq-eqb, ne-eqb}
 use Rattle.model.specs.Basics.{same}
 use Rattle.model.specs.Choice.{before}
 use Rattle.model.proofs.Lists.{and-l, and-r, by, clash, is-true, same→eq, true-is}
+use Rattle.tracks.specs.Map.{Given, freeBit, isFree}
+use Rattle.tracks.proofs.Bits.{le-or-lt}
+use Rattle.tracks.proofs.Walk.{is-free}
 use Rattle.fields.specs.Records.{slotBytes}
-use Rattle.names.specs.Find.{Entered, Seen, Tagged, distinctFrom, findSlot, firstNamed, hasTag, isLabel, isNamed, isNothing, nameOf, newAt, tagOf, weightOf, wordAt, wordSum}
+use Rattle.fields.specs.Tests.{word4}
+use Rattle.names.specs.Find.{Entered, Seen, Tagged, distinctFrom, findSlot, firstNamed, hasTag, isLabel, isNamed, isNothing, nameOf, newAt, tagOf, weightOf, wordSum}
 
 module _ (t name : List ℕ) (k n : ℕ) (h : k < n) where
   step : firstNamed t name k (n - k) ≡ cond (isNamed (slotBytes t k) name) (Slot k) (firstNamed t name (k + 1) (n - (k + 1)))
@@ -168,7 +173,7 @@ pub tag-end : (tags : List ℕ) (x i : ℕ) (b : Bool) → length tags ≤ i →
 unfolding hasTag
 tag-end tags x i b h = rw (drop-of-length-le tags {i = i} h) (or-false b)
 
-pub word-more : (name : List ℕ) (i : ℕ) → wordSum name (i + 1) ≡ wordSum name i + wordAt name (4 * i) * weightOf i
+pub word-more : (name : List ℕ) (i : ℕ) → wordSum name (i + 1) ≡ wordSum name i + word4 name (4 * i) * weightOf i
 unfolding wordSum
 word-more name i = rw add-one
 
@@ -186,33 +191,40 @@ tag-first t tags k g j u e = getD-take k tags j 0 u ∙ g j u e
 -- ---- marks
 
 -- no mark for such a tag, so no such name before slot k
-pub no-mark : (t seen : List ℕ) (k : ℕ) → Seen t k seen → (name : List ℕ) → getD seen (tagOf name % 1024) 0 ≡ 0 → findSlot t name k ≡ Nothing
-no-mark t seen k g name e = go (findSlot t name k) refl
+pub no-mark : (t seen : List ℕ) (k x : ℕ) → Seen t k seen → (name : List ℕ) → x ≡ tagOf name → isFree seen (x % 4096) ≡ false → findSlot t name k ≡ Nothing
+no-mark t seen k x g name q e = go (findSlot t name k) refl
   where
     go : (f : Found) → findSlot t name k ≡ f → f ≡ Nothing
-    go Nothing q = refl
-    go (Slot j) q =
-        let a = found-at t name k j q in
+    go Nothing p = refl
+    go (Slot j) p =
+        let a = found-at t name k j p in
         let b = named-label (slotBytes t j) name (a .here) in
         let u = a .high in
-        absurd (g j (omega arith) (b .0) (ap (λ (x : List ℕ). getD seen (tagOf x % 1024) 0) (b .1) ∙ e))
+        let r : tagOf (nameOf (slotBytes t j)) ≡ x = ap tagOf (b .1) ∙ sym q in
+        clash (is-free seen (x % 4096) (ap (λ (y : ℕ). freeBit seen (y % 4096)) (sym r) ∙ g j (omega arith) (b .0))) e
 
-pub mark-next : (t seen : List ℕ) (k x : ℕ) → x ≡ tagOf (nameOf (slotBytes t k)) → x % 1024 < length seen → Seen t k seen → Seen t (k + 1) (set seen (x % 1024) 1)
-mark-next t seen k x q l g j u e z =
-    elim (ℕ-discrete (tagOf (nameOf (slotBytes t j)) % 1024) (x % 1024)) [
-      | yes p ↦ absurd (let w : _≡_ {A = ℕ} 1 0 = sym (getD-set-same seen (x % 1024) 1 0 l) ∙ sym (ap (λ (y : ℕ). getD (set seen (x % 1024) 1) y 0) p) ∙ z in omega arith)
-      | no p ↦
-          elim (ℕ-discrete j k) [
-            | yes r ↦ absurd (p (ap (λ (y : ℕ). tagOf (nameOf (slotBytes t y)) % 1024) r ∙ sym (ap (λ (y : ℕ). y % 1024) q)))
-            | no r ↦ g j (omega arith) e (sym (getD-set-other seen (x % 1024) (tagOf (nameOf (slotBytes t j)) % 1024) 1 0 p) ∙ z)
-          ]
+-- one more mark: the others stay
+mark-kept : (m m′ : List ℕ) (a b : ℕ) → Given m m′ a (a + 1) → freeBit m b ≡ 1 → freeBit m′ b ≡ 1
+mark-kept m m′ a b g e =
+    ⊎-elim
+    (λ u. ⊎-elim (λ v. g .after b v ∙ e) (λ v. g .inside b u v) (le-or-lt (a + 1) b))
+    (λ u. g .before b u ∙ e)
+    (le-or-lt a b)
+
+pub mark-next : (t seen seen′ : List ℕ) (k x : ℕ) → x ≡ tagOf (nameOf (slotBytes t k)) → Given seen seen′ (x % 4096) (x % 4096 + 1) → Seen t k seen → Seen t (k + 1) seen′
+mark-next t seen seen′ k x q m g j u e =
+    elim (ℕ-discrete j k) [
+      | yes r ↦
+          let p : x ≡ tagOf (nameOf (slotBytes t j)) = q ∙ ap (λ (y : ℕ). tagOf (nameOf (slotBytes t y))) (sym r) in
+          ap (λ (y : ℕ). freeBit seen′ (y % 4096)) (sym p) ∙ m .inside (x % 4096) (omega arith) (omega arith)
+      | no r ↦ mark-kept seen seen′ (x % 4096) (tagOf (nameOf (slotBytes t j)) % 4096) m (g j (omega arith) e)
     ]
 
 pub mark-skip : (t seen : List ℕ) (k : ℕ) → isLabel (slotBytes t k) ≡ false → Seen t k seen → Seen t (k + 1) seen
-mark-skip t seen k f g j u e z =
+mark-skip t seen k f g j u e =
     elim (ℕ-discrete j k) [
       | yes q ↦ clash (subst (λ (x : ℕ). isLabel (slotBytes t x) ≡ true) q e) f
-      | no q ↦ g j (omega arith) e z
+      | no q ↦ g j (omega arith) e
     ]
 
 -- ---- what `enter` leaves, by the record r in slot k
@@ -227,17 +239,17 @@ module _ (t tags seen r : List ℕ) (k : ℕ) (e : r ≡ slotBytes t k) (g : Tag
     label : isLabel (slotBytes t k) ≡ true
     label = subst (λ (x : List ℕ). isLabel x ≡ true) e (eq-eqb _ _ m)
 
-    pub enter-new : (x : ℕ) → k < length tags → x % 1024 < length seen → x ≡ tagOf (nameOf r) → isNothing (findSlot t (nameOf r) k) ≡ true
-        → Entered t k tags (set tags k x) seen (set seen (x % 1024) 1) true
-    enter-new x l w q n =
+    pub enter-new : (x : ℕ) (seen′ : List ℕ) → k < length tags → Given seen seen′ (x % 4096) (x % 4096 + 1) → x ≡ tagOf (nameOf r) → isNothing (findSlot t (nameOf r) k) ≡ true
+        → Entered t k tags (set tags k x) seen seen′ true
+    enter-new x seen′ l w q n =
         let a : x ≡ tagOf (nameOf (slotBytes t k)) = q ∙ ap (λ (y : List ℕ). tagOf (nameOf y)) e in
         let b : isNothing (findSlot t (nameOf (slotBytes t k)) k) ≡ true = subst (λ (y : List ℕ). isNothing (findSlot t (nameOf y) k) ≡ true) e n in
         record {
           new = sym (label-at t k label ∙ b);
           long = length-set tags k x;
-          wide = length-set seen (x % 1024) 1;
+          wide = w .long;
           tagged = λ _. subst (λ (y : ℕ). Tagged t (k + 1) (set tags k y)) (sym a) (tag-next t tags k l g);
-          marked = λ _. mark-next t seen k x a w h;
+          marked = λ _. mark-next t seen seen′ k x a w h;
         }
 
     pub enter-old : isNothing (findSlot t (nameOf r) k) ≡ false → Entered t k tags tags seen seen false

@@ -1,14 +1,16 @@
 -- The lookup of a name in a table's slots, and that names differ, as the code goes. Assumes nothing.
 use Prim.Native.Nat.{ℕ, zero, suc, _+_, _*_, _/_, _%_, _<_}
 use mathlib.Core.Bool.{Bool, true, false, cond, _&&_}
-use mathlib.Core.List.{List, [], _∷_}
+use mathlib.Core.List.{List}
 use mathlib.Core.Path.{_≡_}
 use lib.ListN.{getD, length}
 use lib.Dec.{eqb}
-use Rattle.model.specs.Basics.{any, part, same}
-use Rattle.fields.specs.Records.{slotBytes}
 use Rattle.names.specs.declared.Found.{Found}
 use Rattle.names.specs.declared.Found.the-variants.{Slot, Nothing}
+use Rattle.model.specs.Basics.{any, part, same}
+use Rattle.tracks.specs.Map.{freeBit}
+use Rattle.fields.specs.Records.{slotBytes}
+use Rattle.fields.specs.Tests.{word4}
 
 -- the record is a format 1
 abbrev pub isLabel : List ℕ → Bool
@@ -53,17 +55,13 @@ distinct t n = distinctFrom t 0 n
 
 -- ---- a number made of a name: any function of it would do
 
--- four bytes from place i on as a number, the low one first
-abbrev pub wordAt : List ℕ → ℕ → ℕ
-wordAt s i = getD s i 0 + getD s (i + 1) 0 * 256 + getD s (i + 2) 0 * 65536 + getD s (i + 3) 0 * 16777216
-
 abbrev pub weightOf : ℕ → ℕ
 weightOf i = (i + 5) * 2246822519 % 268435456
 
 -- the first n words, each with its weight
 unfoldable pub wordSum : List ℕ → ℕ → ℕ
 wordSum s zero = 0
-wordSum s (suc n) = wordSum s n + wordAt s (4 * n) * weightOf n
+wordSum s (suc n) = wordSum s n + word4 s (4 * n) * weightOf n
 
 unfoldable pub tagOf : List ℕ → ℕ
 tagOf name = wordSum name 11 / 16777216 % 65536
@@ -75,9 +73,9 @@ hasTag tags t = any (λ x. eqb x t) tags
 abbrev pub Tagged : List ℕ → ℕ → List ℕ → Type 0
 Tagged t k tags = (j : ℕ) → j < k → isLabel (slotBytes t j) ≡ true → getD tags j 0 ≡ tagOf (nameOf (slotBytes t j))
 
--- each label among the first k slots has its mark
+-- each label among the first k slots has its mark, at its tag's remainder by 4,096; a mark is a free track of the map `seen`
 abbrev pub Seen : List ℕ → ℕ → List ℕ → Type 0
-Seen t k seen = (j : ℕ) → j < k → isLabel (slotBytes t j) ≡ true → getD seen (tagOf (nameOf (slotBytes t j)) % 1024) 0 ≡ 0 → ⊥
+Seen t k seen = (j : ℕ) → j < k → isLabel (slotBytes t j) ≡ true → freeBit seen (tagOf (nameOf (slotBytes t j)) % 4096) ≡ 1
 
 -- slot k was looked at: whether its name is new, and the tags and marks then
 pub record Entered (t : List ℕ) (k : ℕ) (tags tags′ seen seen′ : List ℕ) (r : Bool) : Type 0 where

@@ -3,7 +3,8 @@ use fields::*;
 ghost use mathlib.Core.Path.{_≡_};
 ghost use Prim.Native.Nat.{_+_, _*_, _%_, _≤_, _<_};
 ghost use lib.ListN.{length};
-ghost use Rattle.names.specs.Find.{isNamed, findSlot, isNothing, distinct, wordAt, weightOf, tagOf, hasTag, Tagged, Seen, Entered};
+ghost use Rattle.fields.specs.Tests.{word4};
+ghost use Rattle.names.specs.Find.{isNamed, findSlot, isNothing, distinct, weightOf, tagOf, hasTag, Tagged, Seen, Entered};
 
 // A lookup's answer.
 pub enum Found {
@@ -37,18 +38,6 @@ pub fn find(table: &[u8], n: usize, name: &[u8]) -> Found
     Found::Nothing
 }
 
-// Four bytes of a name as a number.
-fn word(name: &[u8], i: usize) -> u32
-    requires { ⌜ i + 3 < length (now name) ⌝ }
-    ensures { λ r. ⌜ (r ≡ wordAt (now (name .entry)) i) × (r < 4294967296) ⌝ }
-{
-    let a = fields::wide(name[i]);
-    let b = fields::wide(name[i + 1]);
-    let c = fields::wide(name[i + 2]);
-    let d = fields::wide(name[i + 3]);
-    a + b * 256 + c * 65536 + d * 16777216
-}
-
 // What word number i is multiplied by in a name's tag: 28 bits, so that the sum of 11 products fits.
 fn weight(i: usize) -> u64
     requires { ⌜ i < 11 ⌝ }
@@ -60,9 +49,9 @@ fn weight(i: usize) -> u64
 // A word's share of a tag.
 fn weighed(name: &[u8], i: usize) -> u64
     requires { ⌜ (i < 11) × (length (now name) ≡ 44) ⌝ }
-    ensures { λ r. ⌜ (r ≡ wordAt (now (name .entry)) (4 * i) * weightOf i) × (r ≤ 1152921504606846976) ⌝ }
+    ensures { λ r. ⌜ (r ≡ word4 (now (name .entry)) (4 * i) * weightOf i) × (r ≤ 1152921504606846976) ⌝ }
 {
-    let x = word(name, 4 * i) as u64;
+    let x = fields::word4(name, 4 * i);
     x * weight(i)
 }
 
@@ -97,13 +86,13 @@ fn has_tag(tags: &[u16], t: u16) -> bool
 }
 
 // Whether no slot before k has this name, whose tag is t; the tags of the labels before k are at hand, and a mark for each
-// remainder of them by 1,024.
-fn is_new<'a>(table: &[u8], k: usize, tags: &'a [u16], seen: &'a [u8], t: u16, name: &[u8]) -> bool
-    requires { ⌜ (140 * k ≤ length (now table)) × (length (now tags) ≡ k) × Tagged (now table) k (now tags) × (t ≡ tagOf (now name)) × (length (now seen) ≡ 1024) × Seen (now table) k (now seen) ⌝ }
+// remainder of them by 4,096. The marks are bits, in a map of crate tracks, where what is marked is called free.
+fn is_new<'a>(table: &[u8], k: usize, tags: &'a [u16], seen: &'a [u64], t: u16, name: &[u8]) -> bool
+    requires { ⌜ (140 * k ≤ length (now table)) × (length (now tags) ≡ k) × Tagged (now table) k (now tags) × (t ≡ tagOf (now name)) × (length (now seen) ≡ 64) × Seen (now table) k (now seen) ⌝ }
     ensures { λ r. ⌜ r ≡ isNothing (findSlot (now (table .entry)) (now (name .entry)) k) ⌝ }
 {
-    let at = (t % 1024) as usize;
-    if seen[at] == 0 {
+    let q = (t % 4096) as usize;
+    if tracks::is_free(seen, q) {} else {
         return true;
     }
     if has_tag(tags, t) {
@@ -115,9 +104,9 @@ fn is_new<'a>(table: &[u8], k: usize, tags: &'a [u16], seen: &'a [u8], t: u16, n
     true
 }
 
-// Whether slot k has no label, or one with a new name; its tag joins the others then.
-fn enter(table: &[u8], k: usize, tags: &mut [u16], seen: &mut [u8]) -> bool
-    requires { ⌜ (140 * k + 140 ≤ length (now table)) × (k < length (now tags)) × Tagged (now table) k (now tags) × (length (now seen) ≡ 1024) × Seen (now table) k (now seen) ⌝ }
+// Whether slot k has no label, or one with a new name; its tag joins the others then, and its mark.
+fn enter(table: &[u8], k: usize, tags: &mut [u16], seen: &mut [u64]) -> bool
+    requires { ⌜ (140 * k + 140 ≤ length (now table)) × (k < length (now tags)) × Tagged (now table) k (now tags) × (length (now seen) ≡ 64) × Seen (now table) k (now seen) ⌝ }
     ensures { λ r. ⌜ Entered (now (table .entry)) k (now (tags .entry)) (now (tags .exit)) (now (seen .entry)) (now (seen .exit)) r ⌝ }
 {
     let rec = fields::record_at(table, k);
@@ -128,8 +117,9 @@ fn enter(table: &[u8], k: usize, tags: &mut [u16], seen: &mut [u8]) -> bool
     let t = tag(name);
     if is_new(table, k, &tags[..k], seen, t, name) {
         tags[k] = t;
-        let at = (t % 1024) as usize;
-        seen[at] = 1;
+        let at = (t % 4096) as usize;
+        let end = at + 1;
+        tracks::give_range(seen, at, end);
         return true;
     }
     false
@@ -141,7 +131,7 @@ pub fn names_differ(table: &[u8], n: usize) -> bool
     ensures { λ r. ⌜ r ≡ distinct (now (table .entry)) n ⌝ }
 {
     let mut tags = [0u16; 468];
-    let mut seen = [0u8; 1024];
+    let mut seen = [0u64; 64];
     let mut k: usize = 0;
     while k < n {
         if enter(table, k, &mut tags, &mut seen) {

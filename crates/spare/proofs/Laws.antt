@@ -21,7 +21,7 @@ use Rattle.tracks.proofs.Counting.{bit-of}
 use Rattle.tracks.proofs.Walk.{free-from-end, free-from-zero}
 use Rattle.fields.specs.Records.{slotBytes}
 use Rattle.fields.specs.Tests.{allAre}
-use Rattle.fields.proofs.Rows.{are→, →are}
+use Rattle.fields.proofs.Rows.{are-append, are→, →are}
 use Rattle.fields.proofs.Slots.{length-part}
 use Rattle.names.specs.Find.{isLabel}
 use Rattle.spare.specs.Spare.{Spared, ZeroBelow, highestSlot}
@@ -68,15 +68,6 @@ module _ {m : List ℕ} {n s a b : ℕ} (r : NextRun m n s a b) where
       (le-or-lt n a)
 
 -- ---- records that are zero, and the bytes of a run of them
-
-and-assoc : (a b c : Bool) → (a && b) && c ≡ a && (b && c)
-and-assoc true b c = refl
-and-assoc false b c = refl
-
-are-append : (v : ℕ) (xs ys : List ℕ) → allAre v (xs ++ ys) ≡ allAre v xs && allAre v ys
-unfolding allAre
-are-append v [] ys = refl
-are-append v (x ∷ xs) ys = ap (λ (b : Bool). eqb x v && b) (are-append v xs ys) ∙ sym (and-assoc (eqb x v) (allAre v xs) (allAre v ys))
 
 module _ (t : List ℕ) where
   first-slot : (a c : ℕ) → part (140 * a) (140 * suc c) t ≡ slotBytes t a ++ part (140 * suc a) (140 * c) t

@@ -235,3 +235,15 @@ pub fn count_runs(map: &[u64], n: usize) -> usize
     let s = starts(y, map[w]) >> (64 - k);
     count + u64::count_ones(s) as usize
 }
+
+ghost use Rattle.tracks.specs.Map.{isFree};
+
+// Whether track t is free.
+pub fn is_free(map: &[u64], t: usize) -> bool
+    requires { ⌜ t < 64 * length (now map) ⌝ }
+    ensures { λ r. ⌜ r ≡ isFree (now (map .entry)) t ⌝ }
+{
+    let w = t / 64;
+    let x = map[w];
+    (x >> (63 - t % 64)) % 2 == 1
+}

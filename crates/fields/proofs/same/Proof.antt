@@ -1,54 +1,74 @@
-use mathlib.Core.Path.{_≡_, sym, _∙_}
-use mathlib.Core.Bool.{_&&_}
-use lib.Dec.{eqb}
-use lib.ListN.{length, drop}
-use Prim.Native.Nat.{ℕ, _≤_, _-_}
+use mathlib.Core.Path.{sym}
+use Prim.Native.Nat.{_≤_, _-_}
 use native.Mathlib.Omega.{arith}
-use Rattle.model.specs.Basics.{same}
-use Rattle.fields.proofs.Rows.{same-next, same-end, same-long}
+use lib.ListN.{length}
+use Rattle.fields.proofs.Rows.{same-long}
+use Rattle.fields.proofs.Eights.{Compared, compare-last, compare-next, compared}
 use borrow.Author.Needs.{needs}
 use Rattle.fields.proofs.same.Statement.{statement}
 use Rattle.fields.proofs.same.Tie as tie
 use Rattle.fields.proofs.same.Reads as reads
 use Rattle.fields.proofs.same.Lts as lts
+use Rattle.fields.proofs.few_same.Reads as few-same-reads
+use Rattle.fields.proofs.word8.Reads as word8-reads
 
 abbrev Inv-loop : tie.InvT-loop
-Inv-loop a b unlike₀ i₀ unlike i = (i ≤ length a) × (same a b ≡ eqb unlike 0 && same (drop i a) (drop i b))
+Inv-loop a b n unlike₀ i₀ unlike i = (i ≤ length a) × Compared a b unlike i
 
 abbrev μ-loop : tie.MeasureT-loop
-μ-loop a b unlike₀ i₀ unlike i = length a - i
+μ-loop a b n unlike₀ i₀ unlike i = length a - i
 
--- src/lib.rt:80:9
+-- src/lib.rt:136:9
 returns : tie.Need-returns Inv-loop μ-loop
-returns c = sym (same-long (c .before .args .a .now) (c .before .args .b .now) (c .if1 .taken))
+returns c = sym (same-long (c .before .before .before .args .a .now) (c .before .before .before .args .b .now) (c .if1 .taken))
 
--- src/lib.rt:84:5
+-- src/lib.rt:139:9
+few-same-requires : tie.Need-few-same-requires Inv-loop μ-loop
+few-same-requires c κs = search needs
+
+-- src/lib.rt:139:9
+returns-2 : tie.Need-returns-2 Inv-loop μ-loop
+returns-2 c = search needs
+
+-- src/lib.rt:141:27
+word8-requires : tie.Need-word8-requires Inv-loop μ-loop
+word8-requires c κs = search needs
+
+-- src/lib.rt:141:45
+word8-requires-2 : tie.Need-word8-requires-2 Inv-loop μ-loop
+word8-requires-2 c κs = search needs
+
+-- src/lib.rt:143:5
 loop-holds : tie.Need-loop-holds Inv-loop μ-loop
-loop-holds c = search needs
+loop-holds c = (omega arith, compare-last (c .before .before .before .before .before .before .args .a .now) (c .before .before .before .before .before .before .args .b .now) (λ j. c .before .before .before .before .before .shared-slice-known .given j .fits) (λ j. c .before .before .before .before .shared-slice-known2 .given j .fits) (sym (c .before .before .before .if1 .left)) (c .before .word8 .result) (c .word82 .result) (omega arith) (c .before .word8 .ensures) (c .word82 .ensures))
 
--- src/lib.rt:85:28
-shared-slice-read-unlike : tie.Need-shared-slice-read-unlike Inv-loop μ-loop
-shared-slice-read-unlike c = search needs
+-- src/lib.rt:143:11
+add-loop : tie.Need-add-loop Inv-loop μ-loop
+add-loop c = search needs
 
--- src/lib.rt:85:35
-shared-slice-read-unlike-2 : tie.Need-shared-slice-read-unlike-2 Inv-loop μ-loop
-shared-slice-read-unlike-2 c = search needs
+-- src/lib.rt:144:28
+word8-requires-3 : tie.Need-word8-requires-3 Inv-loop μ-loop
+word8-requires-3 c κs = search needs
 
--- src/lib.rt:86:9
+-- src/lib.rt:144:42
+word8-requires-4 : tie.Need-word8-requires-4 Inv-loop μ-loop
+word8-requires-4 c κs = search needs
+
+-- src/lib.rt:145:9
 add-i : tie.Need-add-i Inv-loop μ-loop
 add-i c = search needs
 
--- src/lib.rt:84:5
+-- src/lib.rt:143:5
 loop-less : tie.Need-loop-less Inv-loop μ-loop
 loop-less c = search needs
 
--- src/lib.rt:84:5
+-- src/lib.rt:143:5
 loop-again : tie.Need-loop-again Inv-loop μ-loop
-loop-again c = (search needs, c .before .before .before .loop .inv .1 ∙ same-next (c .before .before .before .loop .unlike) (c .before .before .before .before .before .args .a .now) (c .before .before .before .before .before .args .b .now) (c .before .before .before .loop .i) (omega arith) (omega arith))
+loop-again c = (search needs, compare-next (c .before .before .before .before .before .before .before .before .before .before .args .a .now) (c .before .before .before .before .before .before .before .before .before .before .args .b .now) (λ j. c .before .before .before .before .before .before .before .before .before .shared-slice-known .given j .fits) (λ j. c .before .before .before .before .before .before .before .before .shared-slice-known2 .given j .fits) (sym (c .before .before .before .before .before .before .before .if1 .left)) (c .before .word83 .result) (c .word84 .result) (c .before .before .before .loop .unlike) (c .before .before .before .loop .i) (omega arith) (c .before .word83 .ensures) (c .word84 .ensures) (c .before .before .before .loop .inv .1))
 
--- src/lib.rt:76:1
-returns-2 : tie.Need-returns-2 Inv-loop μ-loop
-returns-2 c = sym (c .before .loop .inv .1 ∙ same-end (c .before .loop .unlike) (c .before .before .before .args .a .now) (c .before .before .before .args .b .now) (c .before .loop .i) (omega arith) (omega arith))
+-- src/lib.rt:131:1
+returns-3 : tie.Need-returns-3 Inv-loop μ-loop
+returns-3 c = sym (compared (c .before .before .before .before .before .before .before .before .args .a .now) (c .before .before .before .before .before .before .before .before .args .b .now) (c .before .loop .unlike) (c .before .loop .i) (omega arith) (c .before .loop .inv .1))
 
 pub same-spec : {M : Type 1} → statement M
 same-spec =
@@ -57,10 +77,15 @@ same-spec =
     Inv-loop
     μ-loop
     returns
+    few-same-requires
+    returns-2
+    word8-requires
+    word8-requires-2
     loop-holds
-    shared-slice-read-unlike
-    shared-slice-read-unlike-2
+    add-loop
+    word8-requires-3
+    word8-requires-4
     add-i
     loop-less
     loop-again
-    returns-2)
+    returns-3)

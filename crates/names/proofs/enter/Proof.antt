@@ -1,7 +1,7 @@
-use mathlib.Core.Path.{_≡_, sym, _∙_}
-use native.Mathlib.Omega.{arith}
-use lib.ListN.{length-take}
 use Rattle.names.proofs.Laws.{enter-skip, enter-new, enter-old, tag-first}
+use lib.ListN.{length-take}
+use native.Mathlib.Omega.{arith}
+use mathlib.Core.Path.{sym, _∙_}
 use borrow.Author.Needs.{needs}
 use Rattle.names.proofs.enter.Statement.{statement}
 use Rattle.names.proofs.enter.Tie as tie
@@ -10,6 +10,7 @@ use Rattle.names.proofs.enter.Lts as lts
 use Rattle.fields.proofs.record_at.Reads as record-at-reads
 use Rattle.names.proofs.is_new.Reads as is-new-reads
 use Rattle.names.proofs.tag.Reads as tag-reads
+use Rattle.tracks.proofs.give_range.Reads as give-range-reads
 
 -- src/lib.rt:123:9
 record-at-requires : tie.Need-record-at-requires
@@ -55,22 +56,26 @@ slice-write-tags c = search needs
 cast-at : tie.Need-cast-at
 cast-at c = search needs
 
--- src/lib.rt:132:9
-slice-write-seen : tie.Need-slice-write-seen
-slice-write-seen c = search needs
+-- src/lib.rt:132:19
+add-end : tie.Need-add-end
+add-end c = search needs
 
 -- src/lib.rt:133:9
+give-range-requires : tie.Need-give-range-requires
+give-range-requires c κs = search needs
+
+-- src/lib.rt:134:9
 same-length : tie.Need-same-length
 same-length c = search needs
 
--- src/lib.rt:133:9
+-- src/lib.rt:134:9
 same-length-2 : tie.Need-same-length-2
 same-length-2 c = search needs
 
--- src/lib.rt:133:9
+-- src/lib.rt:134:9
 returns-2 : tie.Need-returns-2
 returns-2 c =
-    enter-new (c .before .before .before .before .before .before .before .before .before .before .before .before .args .table .now) (c .before .before .before .before .before .before .before .before .before .before .before .before .args .tags .now) (c .before .before .before .before .before .before .before .before .before .before .before .before .args .seen .now) (c .before .before .before .before .before .before .before .before .record-at .result .now) (c .before .before .before .before .before .before .before .before .before .before .before .before .args .k) (c .before .before .before .before .before .before .before .before .record-at .ensures .0) (c .before .before .before .before .before .before .before .before .before .before .before .before .pre .2) (c .before .before .before .before .before .before .before .before .before .before .before .before .pre .4) (c .before .before .before .before .before .before .if1 .left) (c .before .before .before .before .tag .result) (c .before .before .before .before .before .before .before .before .before .before .before .before .pre .1) (omega (arith, c .before .before .before .before .before .before .before .before .before .before .before .before .pre .3)) (c .before .before .before .before .tag .ensures) (sym (c .before .is-new .ensures) ∙ c .if2 .taken)
+    enter-new (c .before .before .before .before .before .before .before .before .before .before .before .before .before .before .before .before .args .table .now) (c .before .before .before .before .before .before .before .before .before .before .before .before .before .before .before .before .args .tags .now) (c .before .before .before .before .before .before .before .before .before .before .before .before .before .before .before .before .args .seen .now) (c .before .before .before .before .before .before .before .before .before .before .before .before .record-at .result .now) (c .before .before .before .before .before .before .before .before .before .before .before .before .before .before .before .before .args .k) (c .before .before .before .before .before .before .before .before .before .before .before .before .record-at .ensures .0) (c .before .before .before .before .before .before .before .before .before .before .before .before .before .before .before .before .pre .2) (c .before .before .before .before .before .before .before .before .before .before .before .before .before .before .before .before .pre .4) (c .before .before .before .before .before .before .before .before .before .before .if1 .left) (c .before .before .before .before .before .before .before .before .tag .result) _ (c .before .before .before .before .before .before .before .before .before .before .before .before .before .before .before .before .pre .1) (c .before .before .give-range .ensures) (c .before .before .before .before .before .before .before .before .tag .ensures) (sym (c .before .before .before .before .before .is-new .ensures) ∙ c .before .before .before .before .if2 .taken)
 
 -- src/lib.rt:119:1
 same-length-3 : tie.Need-same-length-3
@@ -100,7 +105,8 @@ enter-spec =
     mul-tags
     slice-write-tags
     cast-at
-    slice-write-seen
+    add-end
+    give-range-requires
     same-length
     same-length-2
     returns-2

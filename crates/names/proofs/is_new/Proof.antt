@@ -1,8 +1,6 @@
-use mathlib.Core.Path.{_≡_, sym, ap, _∙_}
-use lib.ListN.{getD}
-use Prim.Native.Nat.{ℕ, _%_}
-use Rattle.names.specs.Find.{hasTag, isNothing}
 use Rattle.names.proofs.Laws.{no-mark, no-tag}
+use Rattle.names.specs.Find.{hasTag}
+use mathlib.Core.Path.{sym, ap, _∙_}
 use borrow.Author.Needs.{needs}
 use Rattle.names.proofs.is_new.Statement.{statement}
 use Rattle.names.proofs.is_new.Tie as tie
@@ -10,19 +8,20 @@ use Rattle.names.proofs.is_new.Reads as reads
 use Rattle.names.proofs.is_new.Lts as lts
 use Rattle.names.proofs.find.Reads as find-reads
 use Rattle.names.proofs.has_tag.Reads as has-tag-reads
+use Rattle.tracks.proofs.is_free.Reads as is-free-reads
 
--- src/lib.rt:105:14
-cast-at : tie.Need-cast-at
-cast-at c = search needs
+-- src/lib.rt:105:13
+cast-q : tie.Need-cast-q
+cast-q c = search needs
 
 -- src/lib.rt:106:8
-shared-slice-read-if1 : tie.Need-shared-slice-read-if1
-shared-slice-read-if1 c = search needs
+is-free-requires : tie.Need-is-free-requires
+is-free-requires c κs = search needs
 
 -- src/lib.rt:107:9
 returns : tie.Need-returns
 returns c =
-    rw (no-mark (c .before .before .before .before .before .before .args .table .now) (c .before .before .before .before .before .before .args .seen .now) (c .before .before .before .before .before .before .args .k) (c .before .before .before .before .before .before .pre .5) (c .before .before .before .before .before .before .args .name .now) (ap (λ (x : ℕ). getD (c .before .before .before .before .before .before .args .seen .now) (x % 1024) 0) (sym (c .before .before .before .before .before .before .pre .3)) ∙ c .if1 .taken))
+    rw (no-mark (c .before .before .before .before .before .before .args .table .now) (c .before .before .before .before .before .before .args .seen .now) (c .before .before .before .before .before .before .args .k) (c .before .before .before .before .before .before .args .t) (c .before .before .before .before .before .before .pre .5) (c .before .before .before .before .before .before .args .name .now) (c .before .before .before .before .before .before .pre .3) (sym (c .before .is-free .ensures) ∙ c .if1 .left))
 
 -- src/lib.rt:109:8
 has-tag-requires : tie.Need-has-tag-requires
@@ -57,8 +56,8 @@ pub is-new-spec : {M : Type 1} → statement M
 is-new-spec =
     tie.close
     (tie.spec
-    cast-at
-    shared-slice-read-if1
+    cast-q
+    is-free-requires
     returns
     has-tag-requires
     find-requires

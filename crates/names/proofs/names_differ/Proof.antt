@@ -14,7 +14,7 @@ use Rattle.names.proofs.enter.Reads as enter-reads
 
 abbrev Inv-loop : tie.InvT-loop
 Inv-loop table n tags₀ seen₀ k₀ tags seen k =
-    (distinct table n ≡ distinctFrom table k (n - k)) × (k ≤ n) × (length tags ≡ 468) × Tagged table k tags × (length seen ≡ 1024) × Seen table k seen
+    (distinct table n ≡ distinctFrom table k (n - k)) × (k ≤ n) × (length tags ≡ 468) × Tagged table k tags × (length seen ≡ 64) × Seen table k seen
 
 abbrev μ-loop : tie.MeasureT-loop
 μ-loop table n tags₀ seen₀ k₀ tags seen k = n - k
