@@ -33,6 +33,7 @@ pub record Passed (m : List ℕ) (b : Bool) (s n r : ℕ) : Type 0 where
   pub from : s ≤ r
   pub to : r ≤ n
   pub before : (t : ℕ) → s ≤ t → t < r → freeBit m t ≡ 1 - bit b
+
 -- the word of the 64 tracks from track t on
 abbrev pub Window : List ℕ → ℕ → ℕ → Type 0
 Window m t r = (j : ℕ) → j < 64 → bitAt r (63 - j) ≡ freeBit m (t + j)
