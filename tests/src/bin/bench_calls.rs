@@ -9,7 +9,9 @@ use vtoc_tests::desk::attributes;
 use vtoc_tests::generate::glance::glance;
 use vtoc_tests::library::Library;
 use vtoc_tests::timing::time_both_on_copies;
-use vtoc_tests::volumes::{many_extents, many_names, medium, name, place, set_name, small};
+use vtoc_tests::volumes::{
+    many_extents, many_names, medium, name, place, scattered, set_name, small,
+};
 
 const HEAD: &str = "# Performance
 
@@ -108,6 +110,30 @@ fn processor() -> String {
     line.map_or("an unknown processor", |line| line.trim_start_matches([' ', '\t', ':'])).into()
 }
 
+/// The same call on volumes of growing size: one grows in records and data sets, the other in tracks.
+fn growth(batches: usize) {
+    println!("\n## Growth\n\nObtain (the check and a lookup) and an allocate of one track, by records N and tracks T.\n");
+    println!("| N | T | Data sets | Obtain | Unrelated | Allocate | Unrelated |\n|---:|---:|---:|---:|---:|---:|---:|");
+    // N = V x D records with a data set in nearly each; T = C x 15 tracks.
+    let by_records = [(2, 10, 8), (4, 20, 64), (4, 50, 168), (9, 52, 440)]
+        .map(|(v, d, sets)| (1000, v, d, sets));
+    let by_tracks = [67, 500, 2000, 4369].map(|c| (c, 4, 20, 64));
+    for (c, v, d, sets) in by_records.into_iter().chain(by_tracks) {
+        let grown = volume("", scattered(c, 15, d, 1, v, sets));
+        let obtain = Call::Obtain { name: name("BENCH.SET").to_vec() };
+        let times = [obtain, grown.allocation(0, 1)].map(|call| {
+            time_both_on_copies(
+                &grown.table,
+                batches,
+                |table| make(&Library, &call, table, 0),
+                |table| make(&Reference, &call, table, 0),
+            )
+        });
+        let [[a, b], [e, f]] = times;
+        println!("| {} | {} | {} | {a:.2} | {b:.2} | {e:.2} | {f:.2} |", v * d, c * 15, sets + 1);
+    }
+}
+
 fn main() {
     let short = std::env::args().nth(1).is_some_and(|word| word == "--short");
     let batches = if short { 30 } else { 400 };
@@ -139,4 +165,7 @@ fn main() {
     }
     let mean = f64::exp(logs / rows);
     println!("\nHighest ratio {worst:.2}, geometric mean of all rows {mean:.2}.");
+    if !short {
+        growth(batches);
+    }
 }
