@@ -97,7 +97,7 @@ fn release_set(
     requires { ⌜ At (geometryOf g) (now table) (now map) (now empty) k ⌝ }
     ensures { λ r. ⌜ ((d : At (geometryOf g) (now (table .entry)) (now (map .entry)) (now (empty .entry)) k) → result r (lent (now (table .exit)) (now (answer .exit)) []) ≡ written (lent (now (table .entry)) (now (answer .entry)) []) (release₁ (d .volume) (d .name) ttr (some (d .it .label)))) ⌝ }
 {
-    let x = giving::measure(table, g, k, map);
+    let x = giving::measure(table, g, k);
     if good_ttr(ttr, x.tracks) {} else {
         return 12;
     }

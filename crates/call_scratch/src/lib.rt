@@ -27,7 +27,7 @@ fn scratch_set(
     requires { ⌜ At (geometryOf g) (now table) (now map) (now empty) k ⌝ }
     ensures { λ r. ⌜ ((d : At (geometryOf g) (now (table .entry)) (now (map .entry)) (now (empty .entry)) k) → result r (lent (now (table .exit)) (now (answer .exit)) []) ≡ written (lent (now (table .entry)) (now (answer .entry)) []) (scratch₁ (d .volume) (d .name) (some (d .it .label)))) ⌝ }
 {
-    let x = giving::measure(table, g, k, map);
+    let x = giving::measure(table, g, k);
     let one = x.one;
     let three = x.three;
     set_change::give_tail(&one, &three, x.count, g, 0, map);

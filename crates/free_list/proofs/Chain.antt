@@ -103,6 +103,13 @@ lists-none g t n f x = go (x .members) (x .many) (x .head) (x .inside) f (x .eno
     go [] m h i (r ∷ f) e = absurd (omega arith)
     go (k ∷ ks) m h i f e = absurd (omega (arith, i .0 .0))
 
+pub lists-zero : (g : Geometry) (t : List ℕ) (n : ℕ) (f : List Run) → Lists g t n 0 f → n ≡ 0
+lists-zero g t n f x = go (x .members) (x .many) (x .head) (x .inside)
+  where
+    go : (ks : List ℕ) → length ks ≡ n → headOr0 ks ≡ 0 → All (λ j. (1 ≤ j) × (j < slots g)) ks → n ≡ 0
+    go [] m h i = sym m
+    go (k ∷ ks) m h i = absurd (omega (arith, i .0 .0))
+
 pub lists-end : (g : Geometry) (t : List ℕ) (k : ℕ) (f : List Run) → Lists g t 0 k f → f ≡ []
 lists-end g t k f x = go f (x .enough)
   where

@@ -4,7 +4,7 @@ use mathlib.Core.List.{List, _∷_}
 use Prim.Native.Nat.{ℕ, zero, suc, _+_, _*_, _≤_, _<_}
 use native.Mathlib.Omega.{arith}
 use lib.ListN.{length}
-use Rattle.model.specs.Model.{Extent, Geometry, Label, Run, Volume, fivesFor, overs, runsOf, slots, total, tracks}
+use Rattle.model.specs.Model.{Extent, Geometry, Label, Run, Volume, free, overs, runsOf, slots, total, tracks}
 use Rattle.rules.proofs.Labels.{without-sum}
 use Rattle.rules.proofs.Valid.{Limits, free-balance, held-total}
 use Rattle.tracks.specs.Map.{Given, freeFrom}
@@ -12,7 +12,8 @@ use Rattle.tracks.proofs.Held.{shows-give}
 use Rattle.label_check.specs.Marks.{units}
 use Rattle.table_check.proofs.Free.{free-shown}
 use Rattle.set_change.specs.Change.{SetIn, extentsIn}
-use Rattle.free_list.proofs.Chain.{chain-short}
+use Rattle.free_list.specs.FreeList.{Lists}
+use Rattle.free_list.proofs.Chain.{chain-short, lists-all}
 use Rattle.set_at.specs.Held.{SetAt}
 use Rattle.set_at.proofs.Laws.{Known, known}
 use Rattle.giving.specs.Giving.{At, FreedSlot, Measures}
@@ -43,13 +44,15 @@ module _ (g : Geometry) (t m s : List ℕ) (k : ℕ) (d : At g t m s k) where
     pub set-of : SetIn g one three count
     set-of = known-at .set
 
-    pub measured : (all was : ℕ) → all ≡ total (overs (extentsIn g one three count)) → was ≡ fivesFor (length (freeFrom m (tracks g) 0)) → Measures g v l one three count third all was
+    pub measured : (all was : ℕ) → all ≡ total (overs (extentsIn g one three count)) → ((n : ℕ) (f : List Run) → n ≤ slots g → Lists g t n 1 f → was ≡ n) → Measures g v l one three count third all was
     measured all was e f =
         let y = known-at in
         record {
           known = y;
           sum = e ∙ ap (λ (es : List Extent). total (overs es)) (y .extents);
-          members = f ∙ ap (λ (rs : List Run). fivesFor (length rs)) (ap (λ (x : Geometry). freeFrom m (tracks x) 0) (d .geometryIs) ∙ free-shown v m s (d .shown)) ∙ sym (d .ready .valid .long);
+          members = f (length (v .chain)) (free g (v .labels))
+              (subst (λ (y : Geometry). length (v .chain) ≤ slots y) (sym (d .geometryIs)) (chain-short _ v (d .ready .sound)))
+              (subst (λ (y : Geometry). Lists y t (length (v .chain)) 1 (free y (v .labels))) (sym (d .geometryIs)) (lists-all t v (d .ready .sound)));
         }
 
   -- ---- bounds

@@ -21,16 +21,16 @@ pub struct Measured {
 }
 
 // The data set whose format 1 is in slot k.
-pub fn measure(table: &[u8], g: Geometry, k: usize, map: &[u64]) -> Measured
-    requires { ⌜ Limits (geometryOf g) × (length (now table) ≡ 140 * slots (geometryOf g)) × (k < slots (geometryOf g)) × (tracks (geometryOf g) ≤ 64 * length (now map)) ⌝ }
-    requires { ⌜ ((s : List ℕ) × At (geometryOf g) (now table) (now map) s k) ⌝ }
-    ensures { λ r. ⌜ ((s : List ℕ) (d : At (geometryOf g) (now (table .entry)) (now (map .entry)) s k) → Measures (geometryOf g) (d .volume) (d .it .label) (r .one) (r .three) (r .count) (r .third) (r .tracks) (r .was)) ⌝ }
+pub fn measure(table: &[u8], g: Geometry, k: usize) -> Measured
+    requires { ⌜ Limits (geometryOf g) × (length (now table) ≡ 140 * slots (geometryOf g)) × (k < slots (geometryOf g)) ⌝ }
+    requires { ⌜ ((m : List ℕ) × (s : List ℕ) × At (geometryOf g) (now table) m s k) ⌝ }
+    ensures { λ r. ⌜ ((m s : List ℕ) (d : At (geometryOf g) (now (table .entry)) m s k) → Measures (geometryOf g) (d .volume) (d .it .label) (r .one) (r .three) (r .count) (r .third) (r .tracks) (r .was)) ⌝ }
 {
     let x = set_at::set_at(table, g, k);
     let one = x.one;
     let three = x.three;
     let all = set_change::set_tracks(&one, &three, x.count, g);
-    let was = settling::members(map, g);
+    let was = free_list::members(table, g);
     Measured {
         one,
         three,

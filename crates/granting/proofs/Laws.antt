@@ -24,7 +24,8 @@ use Rattle.request.proofs.Laws.{Good, pieces-room}
 use Rattle.set_change.specs.Change.{InRecords, Piece, TookPieces}
 use Rattle.set_change.specs.Change.{granted as more}
 use Rattle.set_change.proofs.Laws.{pieces-good}
-use Rattle.free_list.proofs.Chain.{chain-short}
+use Rattle.free_list.specs.FreeList.{Lists}
+use Rattle.free_list.proofs.Chain.{chain-short, lists-all}
 use Rattle.commit.specs.Commit.{Becomes, Committed, Draft}
 use Rattle.commit.proofs.Put.{free-of}
 use Rattle.commit.proofs.Sets.{slots-shown}
@@ -60,11 +61,15 @@ module _ {g : Geometry} {t m s : List ℕ} {slot third n kind : ℕ} {one three 
 
   -- ---- the chain
 
-  module _ (was : ℕ) (w : was ≡ fivesFor (length (freeFrom m (tracks g) 0))) where
+  lists : Lists g t (length (v .chain)) 1 (free g (v .labels))
+  lists = subst (λ (y : Geometry). Lists y t (length (v .chain)) 1 (free y (v .labels))) (d .geometryIs) (lists-all t v (d .ready .sound))
+
+  short : length (v .chain) ≤ slots g
+  short = subst (λ (y : Geometry). length (v .chain) ≤ slots y) (d .geometryIs) (chain-short _ v (d .ready .sound))
+
+  module _ (was : ℕ) (w : (n : ℕ) (f : List Run) → n ≤ slots g → Lists g t n 1 f → was ≡ n) where
     pub members-are : was ≡ length (v .chain)
-    members-are =
-        w ∙ ap (λ (f : List Run). fivesFor (length f)) (free-of g m (v .labels) tracks-shown)
-        ∙ sym (d .ready .valid .long ∙ ap (λ (y : Geometry). fivesFor (length (free y (v .labels)))) (d .geometryIs))
+    members-are = w (length (v .chain)) (free g (v .labels)) short lists
 
     pub members-fit : was ≤ 468
     members-fit =
@@ -124,7 +129,7 @@ module _ {g : Geometry} {t m s : List ℕ} {slot third n kind : ℕ} {one three 
 
   -- ---- ready to be committed
 
-  module _ (m′ : List ℕ) (took : TookPieces rows m m′) (was : ℕ) (w : was ≡ fivesFor (length (freeFrom m (tracks g) 0)))
+  module _ (m′ : List ℕ) (took : TookPieces rows m m′) (was : ℕ) (w : (n : ℕ) (f : List Run) → n ≤ slots g → Lists g t n 1 f → was ≡ n)
       (few : Bool) (f : few ≡ leb (n + count) 3) (one′ three′ : List ℕ) (recs : InRecords g L one′ three′) where
     pub draft : Draft g t m′ s was slot third few one′ three′
     draft =

@@ -44,7 +44,7 @@ pub fn put_grant(
     requires { ⌜ Grants (geometryOf g) (now table) (now map) (now empty) (set .slot) (set .third) (set .extents) kind (recs .one) (recs .three) (take (chosen .count) pieces) (chosen .count) (chosen .tracks) ⌝ }
     ensures { λ r. ⌜ ((d : Grants (geometryOf g) (now (table .entry)) (now (map .entry)) (now (empty .entry)) (set .slot) (set .third) (set .extents) kind (recs .one) (recs .three) (take (chosen .count) pieces) (chosen .count) (chosen .tracks)) → Granted d (now (answer .entry)) (now (table .exit)) (now (answer .exit)) r) ⌝ }
 {
-    let was = settling::members(map, g);
+    let was = free_list::members(table, g);
     set_change::take_pieces(map, pieces, chosen.count);
     let more = set_change::add_pieces(recs, g, set.extents, kind, pieces, chosen.count);
     let small = few(set.extents, chosen.count);

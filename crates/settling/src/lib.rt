@@ -91,14 +91,6 @@ pub fn fives_for(f: usize) -> usize
     (f + 25) / 26
 }
 
-// The number of format 5s for the free extents that the map shows.
-pub fn members(map: &[u64], g: Geometry) -> usize
-    requires { ⌜ Limits (geometryOf g) × (tracks (geometryOf g) ≤ 64 * length (now map)) ⌝ }
-    ensures { λ r. ⌜ r ≡ fivesFor (length (freeFrom (now (map .entry)) (tracks (geometryOf g)) 0)) ⌝ }
-{
-    fives_for(tracks::count_runs(map, (g.cylinders * g.heads) as usize))
-}
-
 // Reads the slots of the first `count` members of a table's chain. In a table that is not sound they are some slots of it.
 pub fn read_chain(table: &[u8], g: Geometry, count: usize, chain: &mut [u16])
     requires { ⌜ Limits (geometryOf g) × (length (now table) ≡ 140 * slots (geometryOf g)) × (count ≤ length (now chain)) ⌝ }

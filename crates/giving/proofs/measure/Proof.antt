@@ -5,7 +5,7 @@ use Rattle.giving.proofs.measure.Statement.{statement}
 use Rattle.giving.proofs.measure.Tie as tie
 use Rattle.giving.proofs.measure.Reads as reads
 use Rattle.giving.proofs.measure.Lts as lts
-use Rattle.settling.proofs.members.Reads as members-reads
+use Rattle.free_list.proofs.members.Reads as members-reads
 use Rattle.set_at.proofs.set_at.Reads as set-at-reads
 use Rattle.set_change.proofs.set_tracks.Reads as set-tracks-reads
 
@@ -23,7 +23,10 @@ slice-aggregate-set-tracks-2 c = search needs
 
 -- src/lib.rt:41:9
 set-tracks-requires : tie.Need-set-tracks-requires
-set-tracks-requires c κs = set-of (geometryOf (c .before .before .before .before .before .before .before .args .g)) (c .before .before .before .before .before .before .before .args .table .now) (c .before .before .before .before .before .before .before .args .map .now) (c .before .before .before .before .before .before .before .pre .1 .0) (c .before .before .before .before .before .before .before .args .k) (c .before .before .before .before .before .before .before .pre .1 .1) _ _ _ _ (c .before .before .before .before .set-at .ensures)
+set-tracks-requires c κs =
+    let top = c .before .before .before .before .before .before in
+    let x = top .pre .1 in
+    set-of (geometryOf (top .args .g)) (top .args .table .now) (x .0) (x .1) (top .args .k) (x .2) _ _ _ _ (c .before .before .before .before .set-at .ensures)
 
 -- src/lib.rt:42:9
 members-requires : tie.Need-members-requires
@@ -31,7 +34,9 @@ members-requires c κs = search needs
 
 -- src/lib.rt:33:1
 returns : tie.Need-returns
-returns c = λ s d. measured (geometryOf (c .before .before .before .before .before .before .before .before .before .args .g)) (c .before .before .before .before .before .before .before .before .before .args .table .now) (c .before .before .before .before .before .before .before .before .before .args .map .now) s (c .before .before .before .before .before .before .before .before .before .args .k) d _ _ _ _ (c .before .before .before .before .before .before .set-at .ensures) _ _ (c .before .set-tracks .ensures) (c .members .ensures)
+returns c =
+    let a = c .before .before .before .before .before .before .before .before .args in
+    λ m s d. measured (geometryOf (a .g)) (a .table .now) m s (a .k) d _ _ _ _ (c .before .before .before .before .before .before .set-at .ensures) _ _ (c .before .set-tracks .ensures) (c .members .ensures .1)
 
 pub measure-spec : {M : Type 1} → statement M
 measure-spec =

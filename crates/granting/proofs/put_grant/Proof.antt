@@ -10,7 +10,7 @@ use Rattle.granting.proofs.put_grant.Lts as lts
 use Rattle.answers.proofs.put_granted.Reads as put-granted-reads
 use Rattle.commit.proofs.put_set.Reads as put-set-reads
 use Rattle.granting.proofs.few.Reads as few-reads
-use Rattle.settling.proofs.members.Reads as members-reads
+use Rattle.free_list.proofs.members.Reads as members-reads
 use Rattle.set_change.proofs.add_pieces.Reads as add-pieces-reads
 use Rattle.set_change.proofs.take_pieces.Reads as take-pieces-reads
 
@@ -29,8 +29,8 @@ few-requires c κs = search needs
 put-set-requires : tie.Need-put-set-requires
 put-set-requires c κs =
     let d = c .before .before .before .before .before .before .before .before .before .before .before .before .before .before .before .before .before .pre .1 in (
-      (c .before .before .before .before .before .before .before .before .before .before .before .before .before .before .before .before .before .pre .0 .0, c .before .before .before .before .before .before .before .before .before .before .before .before .before .before .before .before .before .pre .0 .1, omega (arith, c .before .before .before .before .before .before .before .before .before .before .before .before .before .before .before .before .before .pre .0 .2, c .before .before .before .before .before .before .before .before .before .before .before .before .before .before .before .before .before .pre .0 .0 .tracksMost, c .before .before .before .before .before .before .before .before .before .take-pieces .ensures .long), c .before .before .before .before .before .before .before .before .before .before .before .before .before .before .before .before .before .pre .0 .3, members-fit d _ (c .before .before .before .before .before .before .before .before .before .before .before .members .ensures), c .before .before .before .before .before .before .before .before .before .before .before .before .before .before .before .before .before .pre .0 .5, c .before .before .before .before .before .before .before .before .before .before .before .before .before .before .before .before .before .pre .0 .6),
-      draft d _ (c .before .before .before .before .before .before .before .before .before .take-pieces .ensures) _ (c .before .before .before .before .before .before .before .before .before .before .before .members .ensures) _ (c .before .before .before .before .before .few .ensures) _ _ (c .before .before .before .before .before .before .add-pieces .ensures (d .label) (d .pieces) (d .extentsAre) (d .rowsAre) (d .records)),
+      (c .before .before .before .before .before .before .before .before .before .before .before .before .before .before .before .before .before .pre .0 .0, c .before .before .before .before .before .before .before .before .before .before .before .before .before .before .before .before .before .pre .0 .1, omega (arith, c .before .before .before .before .before .before .before .before .before .before .before .before .before .before .before .before .before .pre .0 .2, c .before .before .before .before .before .before .before .before .before .before .before .before .before .before .before .before .before .pre .0 .0 .tracksMost, c .before .before .before .before .before .before .before .before .before .take-pieces .ensures .long), c .before .before .before .before .before .before .before .before .before .before .before .before .before .before .before .before .before .pre .0 .3, members-fit d _ (c .before .before .before .before .before .before .before .before .before .before .before .members .ensures .1), c .before .before .before .before .before .before .before .before .before .before .before .before .before .before .before .before .before .pre .0 .5, c .before .before .before .before .before .before .before .before .before .before .before .before .before .before .before .before .before .pre .0 .6),
+      draft d _ (c .before .before .before .before .before .before .before .before .before .take-pieces .ensures) _ (c .before .before .before .before .before .before .before .before .before .before .before .members .ensures .1) _ (c .before .before .before .before .before .few .ensures) _ _ (c .before .before .before .before .before .before .add-pieces .ensures (d .label) (d .pieces) (d .extentsAre) (d .rowsAre) (d .records)),
     )
 
 same-length : tie.Need-same-length
@@ -45,7 +45,7 @@ same-length-3 c = search needs
 returns : tie.Need-returns
 returns c = λ d.
     let x = c .before .before .before .before .before .before .before .before .before .before .before .before .add-pieces .ensures (d .label) (d .pieces) (d .extentsAre) (d .rowsAre) (d .records) in
-    full d _ (c .before .before .before .before .before .before .before .before .before .before .before .before .before .before .before .take-pieces .ensures) _ (c .before .before .before .before .before .before .before .before .before .before .before .before .before .before .before .before .before .members .ensures) _ (c .before .before .before .before .before .before .before .before .before .before .before .few .ensures) _ _ x _ _ (c .before .before .before .before .before .put-set .ensures (draft d _ (c .before .before .before .before .before .before .before .before .before .before .before .before .before .before .before .take-pieces .ensures) _ (c .before .before .before .before .before .before .before .before .before .before .before .before .before .before .before .before .before .members .ensures) _ (c .before .before .before .before .before .before .before .before .before .before .before .few .ensures) _ _ x)) _ (c .if1 .left)
+    full d _ (c .before .before .before .before .before .before .before .before .before .before .before .before .before .before .before .take-pieces .ensures) _ (c .before .before .before .before .before .before .before .before .before .before .before .before .before .before .before .before .before .members .ensures .1) _ (c .before .before .before .before .before .before .before .before .before .before .before .few .ensures) _ _ x _ _ (c .before .before .before .before .before .put-set .ensures (draft d _ (c .before .before .before .before .before .before .before .before .before .before .before .before .before .before .before .take-pieces .ensures) _ (c .before .before .before .before .before .before .before .before .before .before .before .before .before .before .before .before .before .members .ensures .1) _ (c .before .before .before .before .before .before .before .before .before .before .before .few .ensures) _ _ x)) _ (c .if1 .left)
 
 put-granted-requires : tie.Need-put-granted-requires
 put-granted-requires c κs = (c .before .before .before .before .before .before .before .before .before .before .before .before .before .before .before .before .before .before .before .before .before .before .before .before .pre .0 .4, c .before .before .before .before .before .before .before .before .before .before .before .before .before .before .before .before .before .before .before .before .before .before .before .before .pre .0 .7, omega (arith, c .before .before .before .before .before .before .before .before .before .before .before .before .before .before .before .before .before .before .before .before .before .before .before .before .pre .0 .9))
@@ -65,7 +65,7 @@ same-length-7 c = search needs
 returns-2 : tie.Need-returns-2
 returns-2 c = λ d.
     let x = c .before .before .before .before .before .before .before .before .before .before .before .before .before .before .before .before .add-pieces .ensures (d .label) (d .pieces) (d .extentsAre) (d .rowsAre) (d .records) in
-    done d _ (c .before .before .before .before .before .before .before .before .before .before .before .before .before .before .before .before .before .before .before .take-pieces .ensures) _ (c .before .before .before .before .before .before .before .before .before .before .before .before .before .before .before .before .before .before .before .before .before .members .ensures) _ (c .before .before .before .before .before .before .before .before .before .before .before .before .before .before .before .few .ensures) _ _ x _ _ (c .before .before .before .before .before .before .before .before .before .put-set .ensures (draft d _ (c .before .before .before .before .before .before .before .before .before .before .before .before .before .before .before .before .before .before .before .take-pieces .ensures) _ (c .before .before .before .before .before .before .before .before .before .before .before .before .before .before .before .before .before .before .before .before .before .members .ensures) _ (c .before .before .before .before .before .before .before .before .before .before .before .before .before .before .before .few .ensures) _ _ x)) _ (c .before .before .before .before .if1 .taken) _ (c .before .before .put-granted .ensures)
+    done d _ (c .before .before .before .before .before .before .before .before .before .before .before .before .before .before .before .before .before .before .before .take-pieces .ensures) _ (c .before .before .before .before .before .before .before .before .before .before .before .before .before .before .before .before .before .before .before .before .before .members .ensures .1) _ (c .before .before .before .before .before .before .before .before .before .before .before .before .before .before .before .few .ensures) _ _ x _ _ (c .before .before .before .before .before .before .before .before .before .put-set .ensures (draft d _ (c .before .before .before .before .before .before .before .before .before .before .before .before .before .before .before .before .before .before .before .take-pieces .ensures) _ (c .before .before .before .before .before .before .before .before .before .before .before .before .before .before .before .before .before .before .before .before .before .members .ensures .1) _ (c .before .before .before .before .before .before .before .before .before .before .before .before .before .before .before .few .ensures) _ _ x)) _ (c .before .before .before .before .if1 .taken) _ (c .before .before .put-granted .ensures)
 
 pub put-grant-spec : {M : Type 1} → statement M
 put-grant-spec =
