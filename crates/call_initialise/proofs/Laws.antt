@@ -1,7 +1,7 @@
 -- A fresh table, slot by slot, and initialise as a whole. Assumes nothing.
 use mathlib.Core.Path.{_≡_, refl, sym, ap, ap₂, _∙_}
 use mathlib.Core.Bool.{true, false}
-use mathlib.Core.List.{List, [], _∷_, _++_, append-nil}
+use mathlib.Core.List.{List, [], _∷_, append-nil}
 use Prim.Native.Nat.{ℕ, zero, suc, _+_, _-_, _*_, _≤_, _<_}
 use native.Mathlib.Omega.{arith}
 use borrow.Author.Tests.{eq-eqb, ne-eqb}
@@ -19,7 +19,6 @@ use Rattle.rules.proofs.Fresh.{fresh-valid}
 use Rattle.rules.proofs.Valid.{Limits, Valid, →limits}
 use Rattle.sound.proofs.Meaning.{is-sound}
 use Rattle.fields.specs.Records.{putRecord}
-use Rattle.fields.proofs.Slots.{put-length}
 use Rattle.forms.proofs.Cutting.{zeros-part}
 use Rattle.records.specs.Blank.{blank}
 use Rattle.records.specs.Put.{putAt}
@@ -100,14 +99,6 @@ module _ (g : Geometry) (lim : Limits g) where
         long = length-replicate (length t) 0 ∙ l;
         right = λ k u z. zeros-part (140 * k) 140 (length t) (omega arith) ∙ zeros-of (fresh g) valid k u (others-none k z);
       }
-
-  -- the table keeps its length
-  pub still-long : (t t₁ t₂ five : List ℕ) → length t ≡ 140 * slots g → t₁ ≡ zeros (length t) → length five ≡ 140 → t₂ ≡ putRecord t₁ 1 five → 140 ≤ length t₂
-  still-long t t₁ t₂ five l e₁ l5 e₂ =
-      let least = lim .least in
-      let z : length t₁ ≡ length t = ap length e₁ ∙ length-replicate (length t) 0 in
-      let n = ap length e₂ ∙ put-length t₁ 1 five l5 (omega arith) in
-      omega arith
 
   -- at most 26 free extents, and so one format 5
   five-is : format5 g (free g []) 0 ≡ recordOf (fresh g) 1

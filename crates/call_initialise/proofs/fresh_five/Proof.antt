@@ -4,10 +4,6 @@ use native.Mathlib.Omega.{arith}
 use borrow.Author.Needs.{needs}
 use Rattle.call_initialise.proofs.fresh_five.Statement.{statement}
 use Rattle.call_initialise.proofs.fresh_five.Tie as tie
-use Rattle.call_initialise.proofs.fresh_five.Reads as reads
-use Rattle.call_initialise.proofs.fresh_five.Lts as lts
-use Rattle.call_initialise.proofs.put_some.Reads as put-some-reads
-use Rattle.records.proofs.blank.Reads as blank-reads
 
 -- src/lib.rt:44:19
 blank-requires : tie.Need-blank-requires
@@ -39,7 +35,7 @@ put-some-requires-2 c κs =
     let lim = c .before .before .before .before .before .before .before .pre in
     let i = lim .ends in
     let j = lim .tracksMost in
-    let e = room (geometryOf (c .before .before .before .before .before .before .before .args .g)) (c .before .before .before .before .before .before .blank .result) _ (c .before .before .put-some .result) 1 _ (c .before .before .before .before .before .before .blank .ensures) (c .before .before .put-some .ensures) in
+    let e = room (geometryOf (c .before .before .before .before .before .before .before .args .g)) (c .before .before .before .before .before .before .blank .result) _ (c .before .before .put-some .result) _ _ (c .before .before .before .before .before .before .blank .ensures) (c .before .before .put-some .ensures) in
     (e .0, e .1, omega arith, lim)
 
 -- src/lib.rt:40:1

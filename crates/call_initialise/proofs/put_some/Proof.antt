@@ -3,10 +3,6 @@ use Rattle.forms.specs.Forms.{geometryOf}
 use borrow.Author.Needs.{needs}
 use Rattle.call_initialise.proofs.put_some.Statement.{statement}
 use Rattle.call_initialise.proofs.put_some.Tie as tie
-use Rattle.call_initialise.proofs.put_some.Reads as reads
-use Rattle.call_initialise.proofs.put_some.Lts as lts
-use Rattle.records.proofs.entry_place.Reads as entry-place-reads
-use Rattle.records.proofs.put_entry.Reads as put-entry-reads
 
 -- src/lib.rt:33:9
 returns : tie.Need-returns

@@ -5,12 +5,6 @@ use mathlib.Core.Path.{_≡_, refl}
 use borrow.Author.Needs.{needs}
 use Rattle.call_initialise.proofs.write_fresh.Statement.{statement}
 use Rattle.call_initialise.proofs.write_fresh.Tie as tie
-use Rattle.call_initialise.proofs.write_fresh.Reads as reads
-use Rattle.call_initialise.proofs.write_fresh.Lts as lts
-use Rattle.call_initialise.proofs.erase.Reads as erase-reads
-use Rattle.call_initialise.proofs.fresh_five.Reads as fresh-five-reads
-use Rattle.fields.proofs.put_record.Reads as put-record-reads
-use Rattle.records.proofs.four.Reads as four-reads
 
 -- src/lib.rt:56:5
 erase-requires : tie.Need-erase-requires
