@@ -15,7 +15,7 @@ use Rattle.rules.specs.Demand3.{entryPlace}
 use Rattle.rules.specs.Entries.{fresh, initialise, lent, result}
 use Rattle.rules.specs.Layout.{encode, entry, format4, format5}
 use Rattle.rules.specs.Table.{limits}
-use Rattle.rules.proofs.Fresh.{fresh-valid}
+use Rattle.rules.proofs.Fresh.{fresh-free, fresh-valid, some-length, someRun}
 use Rattle.rules.proofs.Valid.{Limits, Valid, →limits}
 use Rattle.sound.proofs.Meaning.{is-sound}
 use Rattle.fields.specs.Records.{putRecord}
@@ -26,8 +26,7 @@ use Rattle.records.proofs.Format5.{five-long, five-more, five-none}
 use Rattle.records.proofs.Putting.{put-all}
 use Rattle.change.specs.Pending.{Pending, recordOf}
 use Rattle.change.proofs.Laws.{put-slot, zeros-of}
-use Rattle.call_initialise.specs.More.{More, someRun}
-use Rattle.call_initialise.proofs.FreeTracks.{free-two, some-length}
+use Rattle.call_initialise.specs.More.{More}
 
 -- ---- zeros everywhere
 
@@ -81,7 +80,7 @@ pub both : (g : Geometry) → Limits g → (r r₁ r₂ : List ℕ) (j₁ j₂ :
     → r₂ ≡ format5 g (free g []) 0
 both g lim r r₁ r₂ j₁ j₂ is one two =
     two .bytes (someRun 1 (g .vtocStart - 1)) (first-number g r r₁ j₁ 1 (g .vtocStart - 1) is one) (first g r r₁ j₁ 1 (g .vtocStart - 1) is one)
-    ∙ ap (λ (f : List Run). format5 g f 0) (free-two g lim)
+    ∙ ap (λ (f : List Run). format5 g f 0) (fresh-free g (→limits g lim))
 
 -- ---- slot 1, slot 0, and zeros
 

@@ -1,15 +1,10 @@
 -- A format 5 with entries put behind those that it has. Assumes nothing.
-use Prim.Native.Nat.{ℕ, zero, suc, _+_}
+use Prim.Native.Nat.{ℕ, _+_}
 use mathlib.Core.Path.{_≡_}
-use mathlib.Core.List.{List, [], _∷_, _++_}
+use mathlib.Core.List.{List, _++_}
 use lib.ListN.{length}
-use Rattle.model.specs.Model.{Geometry, Run, run}
+use Rattle.model.specs.Model.{Geometry, Run}
 use Rattle.rules.specs.Layout.{format5}
-
--- n tracks from s on: no run where n is 0
-unfoldable pub someRun : ℕ → ℕ → List Run
-someRun s zero = []
-someRun s (suc n) = run s (suc n) ∷ []
 
 -- the record r with j entries becomes r′ with j′, by those for the runs rs
 pub record More (g : Geometry) (rs : List Run) (r : List ℕ) (j : ℕ) (r′ : List ℕ) (j′ : ℕ) : Type 0 where

@@ -9,9 +9,10 @@ ghost use Rattle.model.specs.Model.{free, slots};
 ghost use Rattle.rules.specs.Contracts.{Initialises};
 ghost use Rattle.rules.specs.Entries.{fresh};
 ghost use Rattle.rules.specs.Layout.{encode, format5};
+ghost use Rattle.rules.proofs.Fresh.{someRun};
 ghost use Rattle.rules.proofs.Valid.{Limits};
 ghost use Rattle.forms.specs.Forms.{geometryOf};
-ghost use Rattle.call_initialise.specs.More.{More, someRun};
+ghost use Rattle.call_initialise.specs.More.{More};
 
 // Puts zeros everywhere.
 fn erase(table: &mut [u8])
