@@ -25,7 +25,7 @@ fn erase(table: &mut [u8])
     }
 }
 
-// A format 5 with j entries gets one for `count` tracks from `start` on, none where there are none. How many it has then.
+// Puts an entry for `count` tracks from `start` on, if there are any, behind j others, and says how many there are then.
 fn put_some(rec: &mut [u8; 140], j: usize, g: Geometry, start: u32, count: u32) -> usize
     requires { ⌜ (length (now rec) ≡ 140) × (j < 26) × (start + count ≤ 65535) × Limits (geometryOf g) ⌝ }
     ensures { λ r. ⌜ More (geometryOf g) (someRun start count) (now (rec .entry)) j (now (rec .exit)) r ⌝ }
@@ -37,7 +37,7 @@ fn put_some(rec: &mut [u8; 140], j: usize, g: Geometry, start: u32, count: u32) 
     j + 1
 }
 
-// The format 5 with all tracks but the label track and the VTOC. They are known from the geometry, so that no map is made.
+// The format 5 with the tracks before the VTOC and those behind it: the geometry tells them, so that no map is made.
 fn fresh_five(g: Geometry) -> [u8; 140]
     requires { ⌜ Limits (geometryOf g) ⌝ }
     ensures { λ r. ⌜ r ≡ format5 (geometryOf g) (free (geometryOf g) []) 0 ⌝ }
