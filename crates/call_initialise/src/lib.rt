@@ -1,15 +1,18 @@
 // Initialise: a table with no data set.
 use forms::Geometry;
 ghost use mathlib.Core.Path.{_≡_};
-ghost use Prim.Native.Nat.{_*_};
+ghost use mathlib.Core.List.{[]};
+ghost use Prim.Native.Nat.{_+_, _*_, _≤_, _<_};
 ghost use lib.ListN.{length};
 ghost use Rattle.model.specs.Basics.{zeros};
-ghost use Rattle.model.specs.Model.{slots};
+ghost use Rattle.model.specs.Model.{free, slots};
 ghost use Rattle.rules.specs.Contracts.{Initialises};
 ghost use Rattle.rules.specs.Entries.{fresh};
-ghost use Rattle.rules.specs.Layout.{encode};
+ghost use Rattle.rules.specs.Layout.{encode, format5};
+ghost use Rattle.rules.proofs.Fresh.{someRun};
 ghost use Rattle.rules.proofs.Valid.{Limits};
 ghost use Rattle.forms.specs.Forms.{geometryOf};
+ghost use Rattle.call_initialise.specs.More.{More};
 
 // Puts zeros everywhere.
 fn erase(table: &mut [u8])
@@ -22,17 +25,37 @@ fn erase(table: &mut [u8])
     }
 }
 
-// Writes the format 5 in slot 1, with all tracks but the label track and the VTOC, and the format 4 in slot 0.
+// Puts an entry for `count` tracks from `start` on, if there are any, behind j others, and says how many there are then.
+fn put_some(rec: &mut [u8; 140], j: usize, g: Geometry, start: u32, count: u32) -> usize
+    requires { ⌜ (length (now rec) ≡ 140) × (j < 26) × (start + count ≤ 65535) × Limits (geometryOf g) ⌝ }
+    ensures { λ r. ⌜ More (geometryOf g) (someRun start count) (now (rec .entry)) j (now (rec .exit)) r ⌝ }
+{
+    if count == 0 {
+        return j;
+    }
+    records::put_entry(rec, records::entry_place(j), g, start, count);
+    j + 1
+}
+
+// The format 5 with the tracks before the VTOC and those behind it: the geometry tells them, so that no map is made.
+fn fresh_five(g: Geometry) -> [u8; 140]
+    requires { ⌜ Limits (geometryOf g) ⌝ }
+    ensures { λ r. ⌜ r ≡ format5 (geometryOf g) (free (geometryOf g) []) 0 ⌝ }
+{
+    let mut rec = records::blank(4, 0x05, 0xF5);
+    let behind = g.start + g.tracks;
+    let j = put_some(&mut rec, 0, g, 1, g.start - 1);
+    put_some(&mut rec, j, g, behind, g.cylinders * g.heads - behind);
+    rec
+}
+
+// Writes the format 5 in slot 1 and the format 4 in slot 0.
 fn write_fresh(table: &mut [u8], g: Geometry)
     requires { ⌜ Limits (geometryOf g) × (length (now table) ≡ 140 * slots (geometryOf g)) ⌝ }
     ensures { λ _. ⌜ now (table .exit) ≡ encode (fresh (geometryOf g)) ⌝ }
 {
-    let mut map = [0u64; 1024];
-    let mut empty = [0u64; 8];
-    table_check::begin_maps(g, &mut map, &mut empty);
     erase(table);
-    let filled = records::five(&map, (g.cylinders * g.heads) as usize, 0, g);
-    let five = filled.rec;
+    let five = fresh_five(g);
     fields::put_record(table, 1, &five);
     let four = records::four(g, 0, (g.tracks * g.records) as usize - 2);
     fields::put_record(table, 0, &four);
