@@ -31,8 +31,7 @@ fn write_fresh(table: &mut [u8], g: Geometry)
     let mut empty = [0u64; 8];
     table_check::begin_maps(g, &mut map, &mut empty);
     erase(table);
-    let n = (g.cylinders * g.heads) as usize;
-    let filled = records::five(&map, n, 0, g, fields::record_at(table, 1));
+    let filled = records::five(&map, (g.cylinders * g.heads) as usize, 0, g);
     let five = filled.rec;
     fields::put_record(table, 1, &five);
     let four = records::four(g, 0, (g.tracks * g.records) as usize - 2);

@@ -24,8 +24,70 @@ use Rattle.fields.proofs.Bytes10.{cyl-of, five-of, head-of, two-back}
 use Rattle.fields.proofs.Rows.{are→, →are}
 use Rattle.fields.proofs.Slots.{length-part}
 use Rattle.forms.proofs.Cutting.{bytes-part, whole-cut}
-use Rattle.records.specs.Fives.{Ends}
-use Rattle.chain.specs.Entries.{Listed, Rows, entriesOf}
+use Rattle.chain.specs.Entries.{Ends, Listed, Rows, entriesOf, entryOk}
+
+-- ---- one entry
+
+module _ (g : Geometry) (pos : 1 ≤ g .heads) (s c : ℕ) where
+  abbrev H : ℕ
+  H = g .heads
+
+  five-bytes : (a b d e o : ℕ) → b < 256 → e < 256 → o < H → a * 256 + b ≡ s → (d * 256 + e) * H + o ≡ c → entry g (run s c) ≡ a ∷ b ∷ d ∷ e ∷ o ∷ []
+  five-bytes a b d e o u v w p q =
+      let y : c / H ≡ d * 256 + e = ap (λ (z : ℕ). z / H) (sym q) ∙ cyl-of (d * 256 + e) H o w in
+      let z : c % H ≡ o = ap (λ (z : ℕ). z % H) (sym q) ∙ head-of (d * 256 + e) H o w in
+      ap₂ (λ (x y : List ℕ). x ++ y) (ap be2 (sym p) ∙ two-back a b u) (ap₂ (λ (x : List ℕ) (y : ℕ). x ++ (y ∷ [])) (ap be2 y ∙ two-back d e v) z)
+
+  pub entry-yes : (x : List ℕ) → length x ≡ 5 → Bytes x → entryOk H s c x ≡ true → entry g (run s c) ≡ x
+  entry-yes x l bs e =
+      let t = true-is e in
+      let p = is-true (and-l (eqb (get2 x 0) s) _ t) in
+      let u = and-r (eqb (get2 x 0) s) _ t in
+      let q = is-true (and-l (ltb (getD x 4 0) H) _ u) in
+      let r = is-true (and-r (ltb (getD x 4 0) H) _ u) in
+      five-bytes (getD x 0 0) (getD x 1 0) (getD x 2 0) (getD x 3 0) (getD x 4 0) (bs 1) (bs 3) (ltb-true _ _ q) (eqb-true _ _ p) (eqb-true _ _ r) ∙ sym (five-of x l)
+
+  entry-passes : entryOk H s c (entry g (run s c)) ≡ true
+  entry-passes =
+      let p : s / 256 * 256 + s % 256 ≡ s = be2-back s in
+      let q : c / H / 256 * 256 + c / H % 256 ≡ c / H = be2-back (c / H) in
+      let r : (c / H / 256 * 256 + c / H % 256) * H + c % H ≡ c = ap (λ (z : ℕ). z * H + c % H) q ∙ div-add-mod' c H in
+      rw (eq-eqb _ _ p, lt-ltb _ _ (mod-lt c pos), eq-eqb _ _ r)
+
+  pub entry-only : (x : List ℕ) → entry g (run s c) ≡ x → entryOk H s c x ≡ true
+  entry-only x q = ap (entryOk H s c) (sym q) ∙ entry-passes
+
+-- the same test in the code's order: the entry has start s, v whole cylinders and o tracks
+module _ (h : ℕ) (m : List ℕ) (n t : ℕ) (x : List ℕ) (s v o : ℕ) (es : s ≡ get2 x 0) (ev : v ≡ get2 x 2) (eo : o ≡ getD x 4 0) where
+  pub ends-not : ((a b : ℕ) → a < n → NextRun m n t a b → s ≡ a → o < h → v * h + o ≡ b - a → ⊥) → Ends h m n t x 0
+  ends-not f =
+      record {
+        some = λ d. absurd (d refl);
+        none = λ _ a b u r e.
+            let l = true-is e in
+            let p = is-true (and-l (eqb (get2 x 0) a) _ l) in
+            let k = and-r (eqb (get2 x 0) a) _ l in
+            let q : getD x 4 0 < h = ltb-true _ _ (is-true (and-l (ltb (getD x 4 0) h) _ k)) in
+            let c = is-true (and-r (ltb (getD x 4 0) h) _ k) in
+            f a b u r (es ∙ eqb-true _ _ p) (omega arith) (ap₂ (λ (y z : ℕ). y * h + z) ev eo ∙ eqb-true _ _ c);
+      }
+
+  pub ends-else : (i : Bool) → IsRun m n t s (s + (v * h + o)) i → i ≡ false → Ends h m n t x 0
+  ends-else i q e =
+      ends-not
+      (λ a b u r p k c.
+      let w = r .more u .0 in
+      let z : s + (v * h + o) ≡ b = omega arith in
+      q .no e (subst (NextRun m n t s) (sym z) (subst (λ (y : ℕ). NextRun m n t y b) (sym p) r)))
+
+  pub ends-at : o < h → s < n → 0 < v * h + o → (i : Bool) → IsRun m n t s (s + (v * h + o)) i → i ≡ true → Ends h m n t x (s + (v * h + o))
+  ends-at k u d i q e =
+      let r = subst (λ (y : ℕ). NextRun m n t y (s + (v * h + o))) es (q .yes e) in
+      let z : get2 x 2 * h + getD x 4 0 ≡ s + (v * h + o) - get2 x 0 = ap₂ (λ (y z : ℕ). y * h + z) (sym ev) (sym eo) ∙ omega arith in
+      record {
+        some = λ _. (omega arith, r, rw (eq-eqb (get2 x 0) (get2 x 0) refl, lt-ltb (getD x 4 0) h (omega arith), eq-eqb _ _ z));
+        none = λ y. absurd (omega arith);
+      }
 
 -- ---- w entries: j are done, and from track t on the runs are left
 
@@ -91,15 +153,18 @@ module _ (g : Geometry) (m : List ℕ) (n at w : ℕ) (x : List ℕ) where
   handed-is : (j : ℕ) → handed j ≡ part (5 * j) 5 x
   handed-is j = let e : 5 * j + 5 - 5 * j ≡ 5 = omega arith in ap (λ (k : ℕ). take k (drop (5 * j) x)) e
 
-  module _ (j t r : ℕ) (h : j < w) (o : Going g m n at w x j t) (e : Ends g m n t (handed j) r) where
-    at-part : Ends g m n t (part (5 * j) 5 x) r
-    at-part = subst (λ (y : List ℕ). Ends g m n t y r) (handed-is j) e
+  module _ (pos : 1 ≤ g .heads) (j t r : ℕ) (h : j < w) (o : Going g m n at w x j t) (e : Ends (g .heads) m n t (handed j) r) where
+    at-part : Ends (g .heads) m n t (part (5 * j) 5 x) r
+    at-part = subst (λ (y : List ℕ). Ends (g .heads) m n t y r) (handed-is j) e
 
-    pub turn-next : (r ≡ 0 → ⊥) → Going g m n at w x (j + 1) r
-    turn-next d = let z = at-part .some d in going-next j t (get2 (part (5 * j) 5 x) 0) r h o (z .1) (z .0) (z .2)
+    pub turn-next : length x ≡ 5 * w → Bytes x → (r ≡ 0 → ⊥) → Going g m n at w x (j + 1) r
+    turn-next l b d =
+        let y = part (5 * j) 5 x in
+        let z = at-part .some d in
+        going-next j t (get2 y 0) r h o (z .1) (z .0) (entry-yes g pos (get2 y 0) (r - get2 y 0) y (length-part (5 * j) 5 x (omega arith)) (bytes-part (5 * j) 5 x b) (z .2))
 
     pub turn-bad : (a b : ℕ) → r ≡ 0 → NextRun m n t a b → a < n → Rows g m n at w x false n
-    turn-bad a b z q u = rows-bad g m n at w x n (going-bad j t a b h o q u (at-part .none z a b u q))
+    turn-bad a b z q u = rows-bad g m n at w x n (going-bad j t a b h o q u (λ d. at-part .none z a b u q (entry-only g pos a (b - a) (part (5 * j) 5 x) d)))
 
   -- no run is left: zeros to the end
   pub going-ends : (j t a b : ℕ) (ok : Bool) → j ≤ w → length x ≡ 5 * w → Going g m n at w x j t → NextRun m n t a b → n ≤ a → ok ≡ allAre 0 (drop (5 * j) x) → Rows g m n at w x ok n

@@ -10,7 +10,7 @@ ghost use Rattle.rules.proofs.Valid.{Limits};
 ghost use Rattle.tracks.specs.Map.{freeFrom};
 ghost use Rattle.forms.specs.Forms.{geometryOf};
 ghost use Rattle.chain.specs.Chain.{ChainGone, Held};
-ghost use Rattle.chain.specs.Entries.{Listed, Rows, linkOk};
+ghost use Rattle.chain.specs.Entries.{Ends, Listed, Rows, linkOk};
 
 // One format 5: whether it holds what it must, whether it is the last, and where the chain goes on: the slot, and the
 // track whose free extents are the first there.
@@ -39,6 +39,34 @@ pub struct Compared {
     pub next: usize,
 }
 
+// Where the free extent ends whose entry the five bytes are, if it is the first run of free tracks from t on and below n;
+// else 0. It asks whether the map has this run, and multiplies, since to search the map and to divide cost more.
+fn entry_end(x: &[u8], h: u32, map: &[u64], t: usize, n: usize) -> usize
+    requires { ⌜ (length (now x) ≡ 5) × (h ≤ 255) × (t ≤ n) × (n ≤ 64 * length (now map)) × (n ≤ 65535) ⌝ }
+    ensures { λ r. ⌜ Ends h (now (map .entry)) n t (now (x .entry)) r ⌝ }
+{
+    let s = fields::two(x, 0) as usize;
+    let odd = fields::wide(x[4]);
+    let c = (fields::two(x, 2) * h + odd) as usize;
+    if odd >= h {
+        return 0;
+    }
+    if c == 0 {
+        return 0;
+    }
+    if s < t {
+        return 0;
+    }
+    let e = s + c;
+    if e > n {
+        return 0;
+    }
+    if tracks::is_run(map, t, n, s, e) {
+        return e;
+    }
+    0
+}
+
 // Whether the w entries of x are the first runs of free tracks from track `at` on, and zeros where there are fewer.
 fn entries_are(x: &[u8], w: usize, map: &[u64], n: usize, at: usize, g: Geometry) -> Compared
     requires { ⌜ (length (now x) ≡ 5 * w) × (w ≤ 26) × (at ≤ n) × (n ≤ 64 * length (now map)) × (n ≤ 65535) × Limits (geometryOf g) ⌝ }
@@ -49,7 +77,7 @@ fn entries_are(x: &[u8], w: usize, map: &[u64], n: usize, at: usize, g: Geometry
     while j < w {
         let p = 5 * j;
         let q = p + 5;
-        let e = records::entry_end(&x[p..q], g, map, t, n);
+        let e = entry_end(&x[p..q], g.heads, map, t, n);
         if e == 0 {
             let free = tracks::next_run(map, t, n);
             if free.from < n {

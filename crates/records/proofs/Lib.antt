@@ -4,4 +4,3 @@ pub mod Filling
 pub mod Extents
 pub mod Format4
 pub mod Format5
-pub mod OneEntry

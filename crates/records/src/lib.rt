@@ -3,7 +3,7 @@
 use forms::Geometry;
 ghost use mathlib.Core.Path.{_≡_};
 ghost use mathlib.Core.List.{List};
-ghost use Prim.Native.Nat.{ℕ, _+_, _-_, _*_, _/_, _%_, _≤_, _<_};
+ghost use Prim.Native.Nat.{ℕ, _+_, _-_, _*_, _≤_, _<_};
 ghost use lib.ListN.{length, replicate};
 ghost use Rattle.model.specs.Basics.{be2, be3};
 ghost use Rattle.model.specs.Model.{Run, extent, run, slots};
@@ -13,7 +13,7 @@ ghost use Rattle.rules.proofs.Valid.{Limits};
 ghost use Rattle.records.specs.Put.{putAt};
 ghost use Rattle.forms.specs.Forms.{geometryOf};
 ghost use Rattle.records.specs.Blank.{blank};
-ghost use Rattle.records.specs.Fives.{Adds, Ends, Fills};
+ghost use Rattle.records.specs.Fives.{Fills};
 
 // ---- bytes at a place
 
@@ -86,53 +86,18 @@ pub fn put_extent(
     put_track(first, at + 6, g, start + count - 1)
 }
 
-// A number of tracks: whole cylinders, odd tracks.
-struct Cylinders {
-    whole: u32,
-    odd: u32,
-}
-
-// Most free extents are less than a cylinder, and a division costs more than to see that.
-fn split(count: u32, h: u32) -> Cylinders
-    requires { ⌜ 1 ≤ h ⌝ }
-    ensures { λ r. ⌜ (r .whole ≡ count / h) × (r .odd ≡ count % h) ⌝ }
-{
-    if count < h {
-        return Cylinders {
-            whole: 0,
-            odd: count,
-        };
-    }
-    Cylinders {
-        whole: count / h,
-        odd: count % h,
-    }
-}
-
 // Puts an entry of a format 5 where the record stands, since 26 of them make one: start track, whole cylinders, odd tracks.
 pub fn put_entry(rec: &mut [u8; 140], at: usize, g: Geometry, start: u32, count: u32)
     requires { ⌜ (length (now rec) ≡ 140) × (at + 4 < 140) × (start + count ≤ 65535) × Limits (geometryOf g) ⌝ }
     ensures { λ _. ⌜ now (rec .exit) ≡ putAt (now (rec .entry)) at (entry (geometryOf g) (run start count)) ⌝ }
 {
-    let c = split(count, g.heads);
-    let whole = c.whole;
+    let h = g.heads;
+    let whole = count / h;
     rec[at] = (start / 256) as u8;
     rec[at + 1] = (start % 256) as u8;
     rec[at + 2] = (whole / 256) as u8;
     rec[at + 3] = (whole % 256) as u8;
-    rec[at + 4] = c.odd as u8;
-}
-
-// Puts the five bytes of an entry that stands elsewhere.
-fn copy_entry(rec: &mut [u8; 140], at: usize, x: &[u8])
-    requires { ⌜ (length (now rec) ≡ 140) × (at + 4 < 140) × (length (now x) ≡ 5) ⌝ }
-    ensures { λ _. ⌜ now (rec .exit) ≡ putAt (now (rec .entry)) at (now (x .entry)) ⌝ }
-{
-    rec[at] = x[0];
-    rec[at + 1] = x[1];
-    rec[at + 2] = x[2];
-    rec[at + 3] = x[3];
-    rec[at + 4] = x[4];
+    rec[at + 4] = (count % h) as u8;
 }
 
 // ---- rows of bytes
@@ -221,110 +186,23 @@ pub struct Filled {
     pub next: usize,
 }
 
-// Where the free extent ends whose entry the five bytes are, if it is the first run of free tracks from t on and below n;
-// else 0. It asks whether the map has this run, and multiplies, since to search the map and to divide cost more.
-pub fn entry_end(x: &[u8], g: Geometry, map: &[u64], t: usize, n: usize) -> usize
-    requires { ⌜ (length (now x) ≡ 5) × Limits (geometryOf g) × (t ≤ n) × (n ≤ 64 * length (now map)) × (n ≤ 65535) ⌝ }
-    ensures { λ r. ⌜ Ends (geometryOf g) (now (map .entry)) n t (now (x .entry)) r ⌝ }
-{
-    let h = g.heads;
-    let s = fields::two(x, 0) as usize;
-    let odd = fields::wide(x[4]);
-    let c = (fields::two(x, 2) * h + odd) as usize;
-    if odd >= h {
-        return 0;
-    }
-    if c == 0 {
-        return 0;
-    }
-    if s < t {
-        return 0;
-    }
-    let e = s + c;
-    if e > n {
-        return 0;
-    }
-    if tracks::is_run(map, t, n, s, e) {
-        return e;
-    }
-    0
-}
-
-// The first entry of the format 5 from entry i on that does not start before track t, 26 for none.
-fn caught_up(old: &[u8], i: usize, t: usize) -> usize
-    requires { ⌜ (length (now old) ≡ 140) × (i ≤ 26) ⌝ }
-    ensures { λ r. ⌜ r ≤ 26 ⌝ }
-{
-    let mut k = i;
-    while k < 26 {
-        let s = fields::two(old, entry_place(k)) as usize;
-        if s >= t {
-            return k;
-        }
-        k += 1;
-    }
-    k
-}
-
-// An entry put: where its run ends, 0 for none, and from which entry on the old format 5 is still of use.
-struct Step {
-    to: usize,
-    i: usize,
-}
-
-// Puts the first run of free tracks from t on, if there is one, as entry j. Most often the old format 5 has its entry, and
-// to copy it costs less than to search the map.
-fn put_next(
-    rec: &mut [u8; 140],
-    j: usize,
-    map: &[u64],
-    n: usize,
-    t: usize,
-    g: Geometry,
-    old: &[u8],
-    i: usize,
-) -> Step
-    requires { ⌜ (length (now rec) ≡ 140) × (j < 26) × (t ≤ n) × (n ≤ 64 * length (now map)) × (n ≤ 65535) × Limits (geometryOf g) × (length (now old) ≡ 140) × (i ≤ 26) ⌝ }
-    ensures { λ r. ⌜ Adds (geometryOf g) (now (map .entry)) n t j (now (rec .entry)) (now (rec .exit)) (r .to) × (r .i ≤ 26) ⌝ }
-{
-    let p = entry_place(j);
-    let k = caught_up(old, i, t);
-    if k < 26 {
-        let q = entry_place(k);
-        let x = &old[q..q + 5];
-        let e = entry_end(x, g, map, t, n);
-        if e != 0 {
-            copy_entry(rec, p, x);
-            return Step { to: e, i: k + 1 };
-        }
-    }
-    let free = tracks::next_run(map, t, n);
-    let from = free.from;
-    let to = free.to;
-    if from >= n {
-        return Step { to: 0, i: k };
-    }
-    put_entry(rec, p, g, from as u32, (to - from) as u32);
-    Step { to, i: k }
-}
-
-// The format 5 for the first 26 runs of free tracks from track `at` on and below n, with no format 5 after it. Any record
-// may be `old`: it only saves time, most with the format 5 that this one replaces.
-pub fn five(map: &[u64], n: usize, at: usize, g: Geometry, old: &[u8]) -> Filled
-    requires { ⌜ (at ≤ n) × (n ≤ 64 * length (now map)) × (n ≤ 65535) × Limits (geometryOf g) × (length (now old) ≡ 140) ⌝ }
+// The format 5 for the first 26 runs of free tracks from track `at` on and below n, with no format 5 after it.
+pub fn five(map: &[u64], n: usize, at: usize, g: Geometry) -> Filled
+    requires { ⌜ (at ≤ n) × (n ≤ 64 * length (now map)) × (n ≤ 65535) × Limits (geometryOf g) ⌝ }
     ensures { λ r. ⌜ Fills (geometryOf g) (now (map .entry)) n at (r .rec) (r .next) ⌝ }
 {
     let mut rec = blank(4, 0x05, 0xF5);
     let mut t = at;
-    let mut i: usize = 0;
     let mut j: usize = 0;
     while j < 26 {
-        let step = put_next(&mut rec, j, map, n, t, g, old, i);
-        if step.to == 0 {
+        let free = tracks::next_run(map, t, n);
+        let from = free.from;
+        let to = free.to;
+        if from >= n {
             return Filled { rec, next: n };
         }
-        t = step.to;
-        i = step.i;
+        put_entry(&mut rec, entry_place(j), g, from as u32, (to - from) as u32);
+        t = to;
         j += 1;
     }
     Filled { rec, next: t }

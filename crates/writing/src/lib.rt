@@ -85,11 +85,10 @@ pub fn put_chain(table: &mut [u8], g: Geometry, map: &[u64], chain: &[u16], n: u
     let mut at: usize = 0;
     let mut i: usize = 0;
     while i < n {
-        let slot = member(chain, i, n);
-        let filled = records::five(map, t, at, g, fields::record_at(table, slot));
+        let filled = records::five(map, t, at, g);
         let made = filled.rec;
         let linked = records::with_next(made, g, member(chain, i + 1, n));
-        fields::put_record(table, slot, &linked);
+        fields::put_record(table, member(chain, i, n), &linked);
         at = filled.next;
         i += 1;
     }

@@ -2,18 +2,9 @@ use Rattle.call_initialise.proofs.Laws.{fresh-written, still-long}
 use Rattle.forms.specs.Forms.{geometryOf}
 use lib.ListN.{length}
 use mathlib.Core.Path.{_≡_, refl}
-use native.Mathlib.Omega.{arith}
 use borrow.Author.Needs.{needs}
 use Rattle.call_initialise.proofs.write_fresh.Statement.{statement}
 use Rattle.call_initialise.proofs.write_fresh.Tie as tie
-use Rattle.call_initialise.proofs.write_fresh.Reads as reads
-use Rattle.call_initialise.proofs.write_fresh.Lts as lts
-use Rattle.call_initialise.proofs.erase.Reads as erase-reads
-use Rattle.fields.proofs.put_record.Reads as put-record-reads
-use Rattle.fields.proofs.record_at.Reads as record-at-reads
-use Rattle.records.proofs.five.Reads as five-reads
-use Rattle.records.proofs.four.Reads as four-reads
-use Rattle.table_check.proofs.begin_maps.Reads as begin-maps-reads
 
 -- src/lib.rt:32:32
 slice-aggregate-begin-maps : tie.Need-slice-aggregate-begin-maps
@@ -31,51 +22,47 @@ begin-maps-requires c κs = search needs
 erase-requires : tie.Need-erase-requires
 erase-requires c κs = search needs
 
--- src/lib.rt:34:14
-mul-n : tie.Need-mul-n
-mul-n c = search needs
-
--- src/lib.rt:34:13
-cast-n : tie.Need-cast-n
-cast-n c = search needs
-
--- src/lib.rt:35:32
+-- src/lib.rt:34:32
 slice-aggregate-five : tie.Need-slice-aggregate-five
 slice-aggregate-five c = search needs
 
--- src/lib.rt:35:47
-record-at-requires : tie.Need-record-at-requires
-record-at-requires c κs = search needs
+-- src/lib.rt:34:39
+mul-five : tie.Need-mul-five
+mul-five c = search needs
 
--- src/lib.rt:35:9
+-- src/lib.rt:34:38
+cast-five : tie.Need-cast-five
+cast-five c = search needs
+
+-- src/lib.rt:34:9
 five-requires : tie.Need-five-requires
 five-requires c κs = search needs
 
--- src/lib.rt:37:5
+-- src/lib.rt:36:5
 put-record-requires : tie.Need-put-record-requires
 put-record-requires c κs = search needs
 
--- src/lib.rt:38:37
+-- src/lib.rt:37:37
 mul-four : tie.Need-mul-four
-mul-four c = let l = c .before .before .before .before .before .before .before .before .before .before .before .before .before .before .before .before .before .before .before .before .before .before .pre .0 in let a = l .least in let b = l .most in omega arith
+mul-four c = search needs
 
--- src/lib.rt:38:36
+-- src/lib.rt:37:36
 cast-four : tie.Need-cast-four
 cast-four c = search needs
 
--- src/lib.rt:38:36
+-- src/lib.rt:37:36
 sub-four : tie.Need-sub-four
-sub-four c = let l = c .before .before .before .before .before .before .before .before .before .before .before .before .before .before .before .before .before .before .before .before .before .before .pre .0 in let a = l .least in let b = l .most in omega arith
+sub-four c = search needs
 
--- src/lib.rt:38:16
+-- src/lib.rt:37:16
 four-requires : tie.Need-four-requires
-four-requires c κs = let l = c .before .before .before .before .before .before .before .before .before .before .before .before .before .before .before .before .before .before .before .before .before .before .pre .0 in let a = l .least in let b = l .most in (omega arith, omega arith, l)
+four-requires c κs = search needs
 
--- src/lib.rt:39:5
+-- src/lib.rt:38:5
 put-record-requires-2 : tie.Need-put-record-requires-2
 put-record-requires-2 c κs =
     let n : length (c .before .before .before .before .before .before .before .before .before .before .five .result .rec) ≡ 140 = search needs in
-    still-long (geometryOf (c .before .before .before .before .before .before .before .before .before .before .before .before .before .before .before .before .before .before .before .before .before .before .before .before .before .args .g)) (c .before .before .before .before .before .before .before .before .before .before .before .before .before .before .before .before .before .before .before .before .before .before .before .before .before .pre .0) (c .before .before .before .before .before .before .before .before .before .before .before .before .before .before .before .before .before .before .before .before .before .before .before .before .before .args .table .now) _ _ (c .before .before .before .before .before .before .before .before .before .before .five .result .rec) (c .before .before .before .before .before .before .before .before .before .before .before .before .before .before .before .before .before .before .before .before .before .before .before .before .before .pre .1) (c .before .before .before .before .before .before .before .before .before .before .before .before .before .before .before .before .before .erase .ensures) n (c .before .before .before .before .before .before .put-record .ensures)
+    still-long (geometryOf (c .before .before .before .before .before .before .before .before .before .before .before .before .before .before .before .before .before .before .before .before .before .before .before .args .g)) (c .before .before .before .before .before .before .before .before .before .before .before .before .before .before .before .before .before .before .before .before .before .before .before .pre .0) (c .before .before .before .before .before .before .before .before .before .before .before .before .before .before .before .before .before .before .before .before .before .before .before .args .table .now) _ _ (c .before .before .before .before .before .before .before .before .before .before .five .result .rec) (c .before .before .before .before .before .before .before .before .before .before .before .before .before .before .before .before .before .before .before .before .before .before .before .pre .1) (c .before .before .before .before .before .before .before .before .before .before .before .before .before .before .before .erase .ensures) n (c .before .before .before .before .before .before .put-record .ensures)
 
 -- src/lib.rt:26:1
 same-length : tie.Need-same-length
@@ -86,7 +73,7 @@ returns : tie.Need-returns
 returns c =
     let n : length (c .before .before .before .before .before .before .before .before .before .before .before .before .before .five .result .rec) ≡ 140 = search needs in
     let m : length (c .before .before .before .before .before .four .result) ≡ 140 = search needs in
-    fresh-written (geometryOf (c .before .before .before .before .before .before .before .before .before .before .before .before .before .before .before .before .before .before .before .before .before .before .before .before .before .before .before .before .args .g)) (c .before .before .before .before .before .before .before .before .before .before .before .before .before .before .before .before .before .before .before .before .before .before .before .before .before .before .before .before .pre .0) _ _ _ _ (c .before .before .before .before .before .before .before .before .before .before .before .before .before .before .before .before .before .before .before .before .before .before .before .before .begin-maps .ensures) (c .before .before .before .before .before .before .before .before .before .before .before .before .before .before .before .before .before .before .before .before .before .before .before .before .before .before .before .before .args .table .now) _ _ _ (c .before .before .before .before .before .before .before .before .before .before .before .before .before .five .result .rec) (c .before .before .before .before .before .four .result) (c .before .before .before .before .before .before .before .before .before .before .before .before .before .five .result .next) _ (c .before .before .before .before .before .before .before .before .before .before .before .before .before .before .before .before .before .before .before .before .before .before .before .before .before .before .before .before .pre .1) (c .before .before .before .before .before .before .before .before .before .before .before .before .before .before .before .before .before .before .before .before .erase .ensures) (c .before .before .before .before .before .before .before .before .before .before .before .before .before .five .ensures) n (c .before .before .before .before .before .before .before .before .before .put-record .ensures) refl (c .before .before .before .before .before .four .ensures) m (c .before .before .put-record2 .ensures)
+    fresh-written (geometryOf (c .before .before .before .before .before .before .before .before .before .before .before .before .before .before .before .before .before .before .before .before .before .before .before .before .before .before .args .g)) (c .before .before .before .before .before .before .before .before .before .before .before .before .before .before .before .before .before .before .before .before .before .before .before .before .before .before .pre .0) _ _ _ _ (c .before .before .before .before .before .before .before .before .before .before .before .before .before .before .before .before .before .before .before .before .before .before .begin-maps .ensures) (c .before .before .before .before .before .before .before .before .before .before .before .before .before .before .before .before .before .before .before .before .before .before .before .before .before .before .args .table .now) _ _ _ (c .before .before .before .before .before .before .before .before .before .before .before .before .before .five .result .rec) (c .before .before .before .before .before .four .result) (c .before .before .before .before .before .before .before .before .before .before .before .before .before .five .result .next) _ (c .before .before .before .before .before .before .before .before .before .before .before .before .before .before .before .before .before .before .before .before .before .before .before .before .before .before .pre .1) (c .before .before .before .before .before .before .before .before .before .before .before .before .before .before .before .before .before .before .erase .ensures) (c .before .before .before .before .before .before .before .before .before .before .before .before .before .five .ensures) n (c .before .before .before .before .before .before .before .before .before .put-record .ensures) refl (c .before .before .before .before .before .four .ensures) m (c .before .before .put-record2 .ensures)
 
 pub write-fresh-spec : {M : Type 1} → statement M
 write-fresh-spec =
@@ -96,10 +83,9 @@ write-fresh-spec =
     slice-aggregate-begin-maps-2
     begin-maps-requires
     erase-requires
-    mul-n
-    cast-n
     slice-aggregate-five
-    record-at-requires
+    mul-five
+    cast-five
     five-requires
     put-record-requires
     mul-four

@@ -37,7 +37,7 @@ part-entry-end-end c = search needs
 entry-end-requires : tie.Need-entry-end-requires Inv-loop μ-loop
 entry-end-requires c κs =
     let top = c .before .before .before .before .before in
-    (simp (length-take, length-drop) (omega (arith, top .pre .0)), top .pre .5, c .before .before .loop .inv .1 .upTo, top .pre .3, top .pre .4)
+    (simp (length-take, length-drop) (omega (arith, top .pre .0)), top .pre .5 .headsMost, c .before .before .loop .inv .1 .upTo, top .pre .3, top .pre .4)
 
 next-run-requires : tie.Need-next-run-requires Inv-loop μ-loop
 next-run-requires c κs = (c .before .before .before .before .loop .inv .1 .upTo, c .before .before .before .before .before .before .before .pre .3)
@@ -45,7 +45,7 @@ next-run-requires c κs = (c .before .before .before .before .loop .inv .1 .upTo
 returns : tie.Need-returns Inv-loop μ-loop
 returns c =
     let top = c .before .before .before .before .before .before .before .before .before .before in
-    turn-bad (geometryOf (top .args .g)) (top .args .map .now) (top .args .n) (top .args .at) (top .args .w) (top .args .x .now) (c .before .before .before .before .before .before .before .loop .j) (c .before .before .before .before .before .before .before .loop .t) (c .before .before .before .before .entry-end .result) (c .before .before .before .before .before .before .loop-test .taken) (c .before .before .before .before .before .before .before .loop .inv .1) (c .before .before .before .before .entry-end .ensures) _ _ (c .before .before .before .if1 .taken) (c .before .before .next-run .ensures) (c .if2 .taken)
+    turn-bad (geometryOf (top .args .g)) (top .args .map .now) (top .args .n) (top .args .at) (top .args .w) (top .args .x .now) (top .pre .5 .heads) (c .before .before .before .before .before .before .before .loop .j) (c .before .before .before .before .before .before .before .loop .t) (c .before .before .before .before .entry-end .result) (c .before .before .before .before .before .before .loop-test .taken) (c .before .before .before .before .before .before .before .loop .inv .1) (c .before .before .before .before .entry-end .ensures) _ _ (c .before .before .before .if1 .taken) (c .before .before .next-run .ensures) (c .if2 .taken)
 
 sub-all-are : tie.Need-sub-all-are Inv-loop μ-loop
 sub-all-are c = search needs
@@ -74,7 +74,7 @@ loop-less c = search needs
 loop-again : tie.Need-loop-again Inv-loop μ-loop
 loop-again c =
     let top = c .before .before .before .before .before .before .before in
-    (omega arith, turn-next (geometryOf (top .args .g)) (top .args .map .now) (top .args .n) (top .args .at) (top .args .w) (top .args .x .now) (c .before .before .before .before .loop .j) (c .before .before .before .before .loop .t) (c .before .entry-end .result) (c .before .before .before .loop-test .taken) (c .before .before .before .before .loop .inv .1) (c .before .entry-end .ensures) (c .if1 .left))
+    (omega arith, turn-next (geometryOf (top .args .g)) (top .args .map .now) (top .args .n) (top .args .at) (top .args .w) (top .args .x .now) (top .pre .5 .heads) (c .before .before .before .before .loop .j) (c .before .before .before .before .loop .t) (c .before .entry-end .result) (c .before .before .before .loop-test .taken) (c .before .before .before .before .loop .inv .1) (c .before .entry-end .ensures) (top .pre .0) (λ i. c .before .before .before .before .before .before .shared-slice-known .given i .fits) (c .if1 .left))
 
 returns-3 : tie.Need-returns-3 Inv-loop μ-loop
 returns-3 c =
