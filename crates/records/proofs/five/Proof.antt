@@ -87,7 +87,7 @@ loop-again c =
     let top = c .before .before .before .before .before .before .before .before .before .before in
     let l = c .before .before .before .before .before .before .loop in
     let r = c .before .before .before .before .run-ahead in
-    (omega arith, r .ensures .1, rw (c .put-entry .ensures, c .before .entry-place .ensures .0) (filling-next (geometryOf (top .args .g)) (top .args .map .now) (top .args .n) (top .args .at) (l .j) (l .t) (r .result .from) (r .result .to) (l .rec) (c .before .before .before .before .before .loop-test .taken) (l .inv .2) (r .ensures .0) (c .before .before .before .if1 .left)))
+    (omega arith, r .ensures .1, rw (c .put-entry .ensures, c .before .entry-place .ensures .0) (filling-next (geometryOf (top .args .g)) (top .args .map .now) (top .args .n) (top .args .at) (l .j) (l .t) (r .result .from) (r .result .to) (l .rec) (omega arith) (l .inv .2) (r .ensures .0) (c .before .before .before .if1 .left)))
 
 -- src/lib.rt:213:1
 returns-2 : tie.Need-returns-2 Inv-loop μ-loop

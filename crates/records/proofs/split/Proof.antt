@@ -1,4 +1,5 @@
 use Rattle.records.proofs.Numbers.{split-less}
+use native.Mathlib.Omega.{arith}
 use borrow.Author.Needs.{needs}
 use Rattle.records.proofs.split.Statement.{statement}
 use Rattle.records.proofs.split.Tie as tie
@@ -7,7 +8,7 @@ use Rattle.records.proofs.split.Lts as lts
 
 -- src/lib.rt:101:9
 returns : tie.Need-returns
-returns c = split-less (c .before .args .count) (c .before .args .h) (c .if1 .taken)
+returns c = split-less (c .before .args .count) (c .before .args .h) (omega arith)
 
 -- src/lib.rt:107:16
 div-t4 : tie.Need-div-t4
