@@ -1,5 +1,5 @@
 -- The format 5: an entry more, and the next format 5. Assumes nothing.
-use Prim.Native.Nat.{ℕ, _+_, _-_, _*_, _≤_, _<_, zero, suc}
+use Prim.Native.Nat.{ℕ, _+_, _-_, _*_, _/_, _%_, _≤_, _<_, zero, suc}
 use mathlib.Core.Path.{_≡_, _∙_, sym, ap₂, ap, refl}
 use mathlib.Core.List.{List, [], _∷_, _++_}
 use native.Mathlib.Omega.{arith}
@@ -23,7 +23,13 @@ use Rattle.records.specs.Fives.{Fills}
 use Rattle.records.specs.Put.{putAt}
 use Rattle.records.proofs.Extents.{entry-more}
 use Rattle.records.proofs.Filling.{drop-snoc, take-snoc}
-use Rattle.records.proofs.Putting.{put-field, set-field}
+use Rattle.records.proofs.Putting.{put-field, put-five, set-field}
+
+-- an entry stored byte by byte, with w whole cylinders and o tracks
+pub put-made : (r : List ℕ) (i : ℕ) (g : Geometry) (s c w o : ℕ) → (w ≡ c / g .heads) × (o ≡ c % g .heads)
+    → set (set (set (set (set r i (s / 256)) (i + 1) (s % 256)) (i + 2) (w / 256)) (i + 3) (w % 256)) (i + 4) o ≡ putAt r i (entry g (run s c))
+put-made r i g s c w o e =
+    put-five r i (s / 256) (s % 256) (w / 256) (w % 256) o ∙ ap₂ (λ (x y : ℕ). putAt r i (s / 256 ∷ s % 256 ∷ x / 256 ∷ x % 256 ∷ y ∷ [])) (e .0) (e .1)
 
 -- NONE
 pub five-none : (g : Geometry) → blank 4 0x05 0xF5 ≡ format5 g [] 0

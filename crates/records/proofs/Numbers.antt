@@ -1,8 +1,8 @@
 -- Numbers of a geometry within its limits fit their bytes; addresses of slots. Assumes nothing.
-use native.Mathlib.Nat.{div-lt-iff-lt-mul, mod-lt, le-refl, mul-le-mul}
+use native.Mathlib.Nat.{div-eq-of-lt, div-lt-iff-lt-mul, mod-eq-of-lt, mod-lt, le-refl, mul-le-mul}
 use Prim.Native.Nat.{ℕ, _+_, _/_, _%_, _<_, _*_, _≤_, zero, suc, _-_}
 use native.Mathlib.Omega.{arith}
-use mathlib.Core.Path.{_≡_, refl}
+use mathlib.Core.Path.{_≡_, refl, sym}
 use mathlib.Core.List.{[], _∷_, _++_}
 use lib.ListN.{replicate}
 use Rattle.model.specs.Model.{Geometry, slots}
@@ -40,3 +40,7 @@ link-none g k e i = let n : i + 5 - i ≡ 5 = omega arith in rw (e, n)
 pub link-some : (g : Geometry) (k : ℕ) → (k ≡ 0 → ⊥) → cchh g (g .vtocStart + k / g .records) ++ (k % g .records + 1) ∷ [] ≡ link g k
 link-some g zero h = absurd (h refl)
 link-some g (suc k) h = refl
+
+-- fewer tracks than a cylinder has
+pub split-less : (c h : ℕ) → c < h → (0 ≡ c / h) × (c ≡ c % h)
+split-less c h u = (sym (div-eq-of-lt u), sym (mod-eq-of-lt u))

@@ -3,7 +3,7 @@
 use forms::Geometry;
 ghost use mathlib.Core.Path.{_≡_};
 ghost use mathlib.Core.List.{List};
-ghost use Prim.Native.Nat.{ℕ, _+_, _-_, _*_, _≤_, _<_};
+ghost use Prim.Native.Nat.{ℕ, _+_, _-_, _*_, _/_, _%_, _≤_, _<_};
 ghost use lib.ListN.{length, replicate};
 ghost use Rattle.model.specs.Basics.{be2, be3};
 ghost use Rattle.model.specs.Model.{Run, extent, run, slots};
@@ -86,18 +86,41 @@ pub fn put_extent(
     put_track(first, at + 6, g, start + count - 1)
 }
 
+// A number of tracks: whole cylinders, odd tracks.
+struct Cylinders {
+    whole: u32,
+    odd: u32,
+}
+
+// Most free extents are less than a cylinder, and a division costs more than to see that.
+fn split(count: u32, h: u32) -> Cylinders
+    requires { ⌜ 1 ≤ h ⌝ }
+    ensures { λ r. ⌜ (r .whole ≡ count / h) × (r .odd ≡ count % h) ⌝ }
+{
+    if count < h {
+        return Cylinders {
+            whole: 0,
+            odd: count,
+        };
+    }
+    Cylinders {
+        whole: count / h,
+        odd: count % h,
+    }
+}
+
 // Puts an entry of a format 5 where the record stands, since 26 of them make one: start track, whole cylinders, odd tracks.
 pub fn put_entry(rec: &mut [u8; 140], at: usize, g: Geometry, start: u32, count: u32)
     requires { ⌜ (length (now rec) ≡ 140) × (at + 4 < 140) × (start + count ≤ 65535) × Limits (geometryOf g) ⌝ }
     ensures { λ _. ⌜ now (rec .exit) ≡ putAt (now (rec .entry)) at (entry (geometryOf g) (run start count)) ⌝ }
 {
-    let h = g.heads;
-    let whole = count / h;
+    let c = split(count, g.heads);
+    let whole = c.whole;
     rec[at] = (start / 256) as u8;
     rec[at + 1] = (start % 256) as u8;
     rec[at + 2] = (whole / 256) as u8;
     rec[at + 3] = (whole % 256) as u8;
-    rec[at + 4] = (count % h) as u8;
+    rec[at + 4] = c.odd as u8;
 }
 
 // ---- rows of bytes
@@ -193,9 +216,10 @@ pub fn five(map: &[u64], n: usize, at: usize, g: Geometry) -> Filled
 {
     let mut rec = blank(4, 0x05, 0xF5);
     let mut t = at;
+    let mut x = tracks::rest_of(map, at, n);
     let mut j: usize = 0;
     while j < 26 {
-        let free = tracks::next_run(map, t, n);
+        let free = tracks::run_ahead(map, t, n, x);
         let from = free.from;
         let to = free.to;
         if from >= n {
@@ -203,6 +227,7 @@ pub fn five(map: &[u64], n: usize, at: usize, g: Geometry) -> Filled
         }
         put_entry(&mut rec, entry_place(j), g, from as u32, (to - from) as u32);
         t = to;
+        x = free.rest;
         j += 1;
     }
     Filled { rec, next: t }

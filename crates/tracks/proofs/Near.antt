@@ -14,7 +14,7 @@ use lib.Pow.{pow-pos, shr-le}
 use lib.Count.{leadingZeros}
 use Rattle.model.proofs.Lists.{clash}
 use Rattle.tracks.specs.Map.{IsRun, NextRun, bitAt, freeBit}
-use Rattle.tracks.specs.Steps.{First, Window, block}
+use Rattle.tracks.specs.Steps.{First, Rest, Window, block}
 use Rattle.tracks.proofs.Bits.{above-word, block-high, block-in, block-low, block-lt, le-or-lt, leading-one, leading-zero, not-bit, ones-block, or-bit, same-bits, shifted, shl-low, shr-bit, word-bit}
 use Rattle.tracks.proofs.Counting.{free-le}
 use Rattle.tracks.proofs.Walk.{next-run-back, next-run-law}
@@ -68,15 +68,16 @@ module _ (x : ℕ) where
   abbrev pub tail : ℕ
   tail = bitXor (x * 2 ^ lead % 2 ^ 64) 0xffff_ffff_ffff_ffff
 
-module _ (m : List ℕ) (s n x : ℕ) (small : x < 2 ^ 64) (seen : Window m s x) where
+-- x shows k tracks from s on
+module _ (m : List ℕ) (s n x : ℕ) (small : x < 2 ^ 64) (k : ℕ) (most : k ≤ 64) (seen : (j : ℕ) → j < k → bitAt x (63 - j) ≡ freeBit m (s + j)) where
   tail-small : tail x < 2 ^ 64
   tail-small = xor-lt 64 (x * 2 ^ lead x % 2 ^ 64) 0xffff_ffff_ffff_ffff (mod-lt (x * 2 ^ lead x) (pow-pos 64)) (omega arith)
 
-  tail-bit : (i : ℕ) → lead x + i < 64 → bitAt (tail x) (63 - i) ≡ 1 - freeBit m (s + (lead x + i))
-  tail-bit i h = omega (arith, not-bit (x * 2 ^ lead x % 2 ^ 64) (63 - i) (omega arith), shifted x (lead x) i h, seen (lead x + i) h)
+  tail-bit : (i : ℕ) → lead x + i < k → bitAt (tail x) (63 - i) ≡ 1 - freeBit m (s + (lead x + i))
+  tail-bit i h = omega (arith, not-bit (x * 2 ^ lead x % 2 ^ 64) (63 - i) (omega arith), shifted x (lead x) i (omega arith), seen (lead x + i) h)
 
-  pub near-run : 64 < n - s → lead x + leadingZeros 64 (tail x) < 64 → NextRun m n s (s + lead x) (s + (lead x + leadingZeros 64 (tail x)))
-  near-run room h =
+  pub near-run : lead x + leadingZeros 64 (tail x) < k → s + (lead x + leadingZeros 64 (tail x)) < n → NextRun m n s (s + lead x) (s + (lead x + leadingZeros 64 (tail x)))
+  near-run h room =
       let l = leadingZeros 64 (tail x) in
       next-run-law m n s (s + lead x) (s + (lead x + l))
       (record {
@@ -97,6 +98,12 @@ module _ (m : List ℕ) (s n x : ℕ) (small : x < 2 ^ 64) (seen : Window m s x)
             ap (freeBit m) (sym e) ∙ omega (arith, tail-bit i (omega arith), leading-zero (tail x) i tail-small (omega arith), free-le m (s + (lead x + i)));
         here = λ _. omega (arith, tail-bit l h, leading-one (tail x) tail-small (omega arith));
       })
+
+-- what x shows of a word, behind its first run
+pub rest-behind : (m : List ℕ) (n t x a b : ℕ) → Rest m n t x → a + b < 64 - t % 64 → Rest m n (t + (a + b)) (x * 2 ^ a % 2 ^ 64 * 2 ^ b % 2 ^ 64)
+rest-behind m n t x a b seen r j h u =
+    let e : t + (a + (b + j)) ≡ t + (a + b) + j = omega arith in
+    shifted (x * 2 ^ a % 2 ^ 64) b j (omega arith) ∙ shifted x a (b + j) (omega arith) ∙ seen (a + (b + j)) (omega arith) (omega arith) ∙ ap (freeBit m) e
 
 -- ---- a run that is given
 

@@ -1,5 +1,5 @@
 -- What the functions inside the map's loops promise: masks, words and single tracks. Assumes nothing.
-use Prim.Native.Nat.{ℕ, suc, _+_, _-_, _*_, _^_, _≤_, _<_, min}
+use Prim.Native.Nat.{ℕ, suc, _+_, _-_, _*_, _%_, _^_, _≤_, _<_, min}
 use mathlib.Core.Path.{_≡_}
 use mathlib.Core.Bool.{Bool, true, false}
 use mathlib.Core.List.{List}
@@ -33,6 +33,10 @@ pub record Passed (m : List ℕ) (b : Bool) (s n r : ℕ) : Type 0 where
   pub from : s ≤ r
   pub to : r ≤ n
   pub before : (t : ℕ) → s ≤ t → t < r → freeBit m t ≡ 1 - bit b
+
+-- x shows the tracks from t on and below n that lie in its word, the first in the highest bit
+abbrev pub Rest : List ℕ → ℕ → ℕ → ℕ → Type 0
+Rest m n t x = (j : ℕ) → t % 64 + j < 64 → t + j < n → bitAt x (63 - j) ≡ freeBit m (t + j)
 
 -- the word of the 64 tracks from track t on
 abbrev pub Window : List ℕ → ℕ → ℕ → Type 0

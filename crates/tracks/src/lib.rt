@@ -4,7 +4,7 @@ ghost use mathlib.Core.Path.{_≡_};
 ghost use Prim.Native.Nat.{_+_, _-_, _*_, _/_, _%_, _≤_, _<_, min};
 ghost use lib.ListN.{length};
 ghost use Rattle.tracks.specs.Map.{freeFrom, Opened, Taken, Given, NextRun, IsRun};
-ghost use Rattle.tracks.specs.Steps.{block, flipped, First, Passed, Window, Starts};
+ghost use Rattle.tracks.specs.Steps.{First, Passed, Rest, Starts, Window, block, flipped};
 
 const ALL: u64 = 0xffff_ffff_ffff_ffff;
 
@@ -183,6 +183,55 @@ pub fn next_run(map: &[u64], s: usize, n: usize) -> Span
     let from = next_track(map, s, n, true);
     let to = next_track(map, from, n, false);
     Span { from, to }
+}
+
+// The tracks from t on that lie in its word, the first in the highest bit.
+pub fn rest_of(map: &[u64], t: usize, n: usize) -> u64
+    requires { ⌜ n ≤ 64 * length (now map) ⌝ }
+    ensures { λ r. ⌜ Rest (now (map .entry)) n t r ⌝ }
+{
+    if t < n {
+        let w = t / 64;
+        return map[w] << (t % 64);
+    }
+    0
+}
+
+// A run of free tracks, and the tracks behind it that lie in the word of its end.
+pub struct Ahead {
+    pub from: usize,
+    pub to: usize,
+    pub rest: u64,
+}
+
+// The first run of free tracks from t on and below n, as next_run, for runs that are wanted one after the other: x shows the
+// tracks from t on, so that the map is not read again, nor waited for, where the run ends in t's word.
+pub fn run_ahead(map: &[u64], t: usize, n: usize, x: u64) -> Ahead
+    requires { ⌜ (t ≤ n) × (n ≤ 64 * length (now map)) × Rest (now map) n t x ⌝ }
+    ensures { λ r. ⌜ NextRun (now (map .entry)) n t (r .from) (r .to) × Rest (now (map .entry)) n (r .to) (r .rest) ⌝ }
+{
+    let a = u64::leading_zeros(x) as usize;
+    if a < 64 {
+        let y = x << a;
+        let b = u64::leading_zeros(y ^ ALL) as usize;
+        let c = a + b;
+        if c < 64 - t % 64 {
+            if t + c < n {
+                return Ahead {
+                    from: t + a,
+                    to: t + c,
+                    rest: y << b,
+                };
+            }
+        }
+    }
+    let r = next_run(map, t, n);
+    let to = r.to;
+    Ahead {
+        from: r.from,
+        to,
+        rest: rest_of(map, to, n),
+    }
 }
 
 // Whether the first run of free tracks from t on and below n is from s up to e. It searches nothing where the tracks from t
