@@ -35,7 +35,6 @@ pub front-small : (m : List ℕ) (t : ℕ) → front m t < 2 ^ 64
 front-small m t = mod-lt (getD m (t / 64) 0 * 2 ^ (t % 64)) (pow-pos 64)
 
 module _ (m : List ℕ) (t : ℕ) (small : getD m (t / 64 + 1) 0 < 2 ^ 64) where
-
   abbrev rear : ℕ
   rear = getD m (t / 64 + 1) 0 / 2 / 2 ^ (63 - t % 64)
 
