@@ -16,15 +16,15 @@ use Rattle.rules.specs.Layout.{entry, fields5, format5, link, whole}
 use Rattle.rules.proofs.Bytes.{be2-back}
 use Rattle.rules.proofs.Fields.{field-at}
 use Rattle.rules.proofs.TableBack.{lens5, lengths5}
-use Rattle.tracks.specs.Map.{IsRun, NextRun, freeFrom}
+use Rattle.tracks.specs.Map.{NextRun, freeFrom}
 use Rattle.tracks.proofs.Walk.{free-from-end}
 use Rattle.fields.specs.Records.{Bytes}
 use Rattle.fields.specs.Tests.{allAre}
 use Rattle.fields.proofs.Bytes10.{cyl-of, five-of, head-of, two-back}
 use Rattle.fields.proofs.Rows.{are→, →are}
 use Rattle.fields.proofs.Slots.{length-part}
-use Rattle.forms.proofs.Cutting.{bytes-part, whole-cut}
-use Rattle.chain.specs.Entries.{Ends, Listed, Rows, entriesOf, entryOk}
+use Rattle.forms.proofs.Cutting.{cutAt, whole-cut}
+use Rattle.chain.specs.Entries.{Listed, Rows, entriesOf, entryOk}
 
 -- ---- one entry
 
@@ -54,40 +54,8 @@ module _ (g : Geometry) (pos : 1 ≤ g .heads) (s c : ℕ) where
       let r : (c / H / 256 * 256 + c / H % 256) * H + c % H ≡ c = ap (λ (z : ℕ). z * H + c % H) q ∙ div-add-mod' c H in
       rw (eq-eqb _ _ p, lt-ltb _ _ (mod-lt c pos), eq-eqb _ _ r)
 
-  pub entry-only : (x : List ℕ) → entry g (run s c) ≡ x → entryOk H s c x ≡ true
-  entry-only x q = ap (entryOk H s c) (sym q) ∙ entry-passes
-
--- the same test in the code's order: the entry has start s, v whole cylinders and o tracks
-module _ (h : ℕ) (m : List ℕ) (n t : ℕ) (x : List ℕ) (s v o : ℕ) (es : s ≡ get2 x 0) (ev : v ≡ get2 x 2) (eo : o ≡ getD x 4 0) where
-  pub ends-not : ((a b : ℕ) → a < n → NextRun m n t a b → s ≡ a → o < h → v * h + o ≡ b - a → ⊥) → Ends h m n t x 0
-  ends-not f =
-      record {
-        some = λ d. absurd (d refl);
-        none = λ _ a b u r e.
-            let l = true-is e in
-            let p = is-true (and-l (eqb (get2 x 0) a) _ l) in
-            let k = and-r (eqb (get2 x 0) a) _ l in
-            let q : getD x 4 0 < h = ltb-true _ _ (is-true (and-l (ltb (getD x 4 0) h) _ k)) in
-            let c = is-true (and-r (ltb (getD x 4 0) h) _ k) in
-            f a b u r (es ∙ eqb-true _ _ p) (omega arith) (ap₂ (λ (y z : ℕ). y * h + z) ev eo ∙ eqb-true _ _ c);
-      }
-
-  pub ends-else : (i : Bool) → IsRun m n t s (s + (v * h + o)) i → i ≡ false → Ends h m n t x 0
-  ends-else i q e =
-      ends-not
-      (λ a b u r p k c.
-      let w = r .more u .0 in
-      let z : s + (v * h + o) ≡ b = omega arith in
-      q .no e (subst (NextRun m n t s) (sym z) (subst (λ (y : ℕ). NextRun m n t y b) (sym p) r)))
-
-  pub ends-at : o < h → s < n → 0 < v * h + o → (i : Bool) → IsRun m n t s (s + (v * h + o)) i → i ≡ true → Ends h m n t x (s + (v * h + o))
-  ends-at k u d i q e =
-      let r = subst (λ (y : ℕ). NextRun m n t y (s + (v * h + o))) es (q .yes e) in
-      let z : get2 x 2 * h + getD x 4 0 ≡ s + (v * h + o) - get2 x 0 = ap₂ (λ (y z : ℕ). y * h + z) (sym ev) (sym eo) ∙ omega arith in
-      record {
-        some = λ _. (omega arith, r, rw (eq-eqb (get2 x 0) (get2 x 0) refl, lt-ltb (getD x 4 0) h (omega arith), eq-eqb _ _ z));
-        none = λ y. absurd (omega arith);
-      }
+  pub entry-no : (x : List ℕ) → entryOk H s c x ≡ false → entry g (run s c) ≡ x → ⊥
+  entry-no x e q = clash (ap (entryOk H s c) (sym q) ∙ entry-passes) e
 
 -- ---- w entries: j are done, and from track t on the runs are left
 
@@ -98,10 +66,6 @@ module _ (g : Geometry) where
 fill-none : (k : ℕ) → fill k [] ≡ zeros k
 fill-none zero = refl
 fill-none (suc k) = ap (λ (l : List ℕ). 0 ∷ l) (fill-none k)
-
-pub rows-bad : (g : Geometry) (m : List ℕ) (n at w : ℕ) (x : List ℕ) (t : ℕ) → (entriesOf g w (freeFrom m n at) ≡ x → ⊥) → Rows g m n at w x false t
-rows-bad g m n at w x t f =
-    record { upTo = λ q. clash {b = false} q refl; rest = λ q. clash {b = false} q refl; yes = λ q. clash {b = false} q refl; no = λ q. f }
 
 pub record Going (g : Geometry) (m : List ℕ) (n at w : ℕ) (x : List ℕ) (j t : ℕ) : Type 0 where
   pub upTo : t ≤ n
@@ -146,26 +110,6 @@ module _ (g : Geometry) (m : List ℕ) (n at w : ℕ) (x : List ℕ) where
     pub going-bad : (due ≡ part (5 * j) 5 x → ⊥) → entriesOf g w (freeFrom m n at) ≡ x → ⊥
     going-bad d e = d (ap (take 5) (sym split ∙ o .back e))
 
-  -- the five bytes that the code hands over
-  abbrev handed : ℕ → List ℕ
-  handed j = take (5 * j + 5 - 5 * j) (drop (5 * j) x)
-
-  handed-is : (j : ℕ) → handed j ≡ part (5 * j) 5 x
-  handed-is j = let e : 5 * j + 5 - 5 * j ≡ 5 = omega arith in ap (λ (k : ℕ). take k (drop (5 * j) x)) e
-
-  module _ (pos : 1 ≤ g .heads) (j t r : ℕ) (h : j < w) (o : Going g m n at w x j t) (e : Ends (g .heads) m n t (handed j) r) where
-    at-part : Ends (g .heads) m n t (part (5 * j) 5 x) r
-    at-part = subst (λ (y : List ℕ). Ends (g .heads) m n t y r) (handed-is j) e
-
-    pub turn-next : length x ≡ 5 * w → Bytes x → (r ≡ 0 → ⊥) → Going g m n at w x (j + 1) r
-    turn-next l b d =
-        let y = part (5 * j) 5 x in
-        let z = at-part .some d in
-        going-next j t (get2 y 0) r h o (z .1) (z .0) (entry-yes g pos (get2 y 0) (r - get2 y 0) y (length-part (5 * j) 5 x (omega arith)) (bytes-part (5 * j) 5 x b) (z .2))
-
-    pub turn-bad : (a b : ℕ) → r ≡ 0 → NextRun m n t a b → a < n → Rows g m n at w x false n
-    turn-bad a b z q u = rows-bad g m n at w x n (going-bad j t a b h o q u (λ d. at-part .none z a b u q (entry-only g pos a (b - a) (part (5 * j) 5 x) d)))
-
   -- no run is left: zeros to the end
   pub going-ends : (j t a b : ℕ) (ok : Bool) → j ≤ w → length x ≡ 5 * w → Going g m n at w x j t → NextRun m n t a b → n ≤ a → ok ≡ allAre 0 (drop (5 * j) x) → Rows g m n at w x ok n
   going-ends j t a b ok h l o r u q =
@@ -191,6 +135,10 @@ module _ (g : Geometry) (m : List ℕ) (n at w : ℕ) (x : List ℕ) where
         yes = λ q. o .into (ap (λ (i : ℕ). entriesOf g i (freeFrom m n t)) z ∙ sym (lib.ListN.drop-of-length-le x {i = 5 * j} (omega arith)));
         no = λ q. clash {b = true} refl q;
       }
+
+pub rows-bad : (g : Geometry) (m : List ℕ) (n at w : ℕ) (x : List ℕ) (t : ℕ) → (entriesOf g w (freeFrom m n at) ≡ x → ⊥) → Rows g m n at w x false t
+rows-bad g m n at w x t f =
+    record { upTo = λ q. clash {b = false} q refl; rest = λ q. clash {b = false} q refl; yes = λ q. clash {b = false} q refl; no = λ q. f }
 
 -- ---- the record
 

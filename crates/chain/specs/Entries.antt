@@ -1,6 +1,6 @@
 -- The entries of a format 5, held against the runs of the map. Assumes nothing.
 use mathlib.Core.Path.{_≡_}
-use Prim.Native.Nat.{ℕ, _+_, _-_, _*_, _≤_, _<_}
+use Prim.Native.Nat.{ℕ, _+_, _-_, _*_, _≤_}
 use mathlib.Core.Bool.{Bool, true, false, cond, _&&_}
 use mathlib.Core.List.{List}
 use lib.Dec.{eqb, ltb}
@@ -8,18 +8,12 @@ use lib.ListN.{drop, getD, take}
 use Rattle.model.specs.Basics.{fill, flat, get2, part}
 use Rattle.model.specs.Model.{Geometry, Run}
 use Rattle.rules.specs.Layout.{entry, format5, link}
-use Rattle.tracks.specs.Map.{NextRun, freeFrom}
+use Rattle.tracks.specs.Map.{freeFrom}
 use Rattle.fields.specs.Tests.{allAre}
 
 -- five bytes that are the entry of the free extent of c tracks from track s on, h tracks to a cylinder
 abbrev pub entryOk : ℕ → ℕ → ℕ → List ℕ → Bool
 entryOk h s c x = eqb (get2 x 0) s && (ltb (getD x 4 0) h && eqb (get2 x 2 * h + getD x 4 0) c)
-
--- The free extent whose entry the five bytes x are ends at track r and is the first run from track t on and below n; where
--- r is 0, x is not the entry of that run.
-pub record Ends (h : ℕ) (m : List ℕ) (n t : ℕ) (x : List ℕ) (r : ℕ) : Type 0 where
-  pub some : (r ≡ 0 → ⊥) → (get2 x 0 < n) × NextRun m n t (get2 x 0) r × (entryOk h (get2 x 0) (r - get2 x 0) x ≡ true)
-  pub none : r ≡ 0 → (a b : ℕ) → a < n → NextRun m n t a b → entryOk h a (b - a) x ≡ true → ⊥
 
 -- the bytes of w entries: the first free extents, then zeros
 abbrev pub entriesOf : Geometry → ℕ → List Run → List ℕ

@@ -10,7 +10,7 @@ ghost use Rattle.rules.proofs.Valid.{Limits};
 ghost use Rattle.tracks.specs.Map.{freeFrom};
 ghost use Rattle.forms.specs.Forms.{geometryOf};
 ghost use Rattle.chain.specs.Chain.{ChainGone, Held};
-ghost use Rattle.chain.specs.Entries.{Ends, Listed, Rows, linkOk};
+ghost use Rattle.chain.specs.Entries.{Listed, Rows, entryOk, linkOk};
 
 // One format 5: whether it holds what it must, whether it is the last, and where the chain goes on: the slot, and the
 // track whose free extents are the first there.
@@ -39,32 +39,19 @@ pub struct Compared {
     pub next: usize,
 }
 
-// Where the free extent ends whose entry the five bytes are, if it is the first run of free tracks from t on and below n;
-// else 0. It asks whether the map has this run, and multiplies, since to search the map and to divide cost more.
-fn entry_end(x: &[u8], h: u32, map: &[u64], t: usize, n: usize) -> usize
-    requires { ⌜ (length (now x) ≡ 5) × (h ≤ 255) × (t ≤ n) × (n ≤ 64 * length (now map)) × (n ≤ 65535) ⌝ }
-    ensures { λ r. ⌜ Ends h (now (map .entry)) n t (now (x .entry)) r ⌝ }
+// Whether the five bytes are the entry of the free extent of `count` tracks. It multiplies, since a division costs more.
+fn is_entry(x: &[u8], h: u32, start: u32, count: u32) -> bool
+    requires { ⌜ (length (now x) ≡ 5) × (h ≤ 255) ⌝ }
+    ensures { λ r. ⌜ r ≡ entryOk h start count (now (x .entry)) ⌝ }
 {
-    let s = fields::two(x, 0) as usize;
+    if fields::two(x, 0) != start {
+        return false;
+    }
     let odd = fields::wide(x[4]);
-    let c = (fields::two(x, 2) * h + odd) as usize;
     if odd >= h {
-        return 0;
+        return false;
     }
-    if c == 0 {
-        return 0;
-    }
-    if s < t {
-        return 0;
-    }
-    let e = s + c;
-    if e > n {
-        return 0;
-    }
-    if tracks::is_run(map, t, n, s, e) {
-        return e;
-    }
-    0
+    fields::two(x, 2) * h + odd == count
 }
 
 // Whether the w entries of x are the first runs of free tracks from track `at` on, and zeros where there are fewer.
@@ -73,21 +60,25 @@ fn entries_are(x: &[u8], w: usize, map: &[u64], n: usize, at: usize, g: Geometry
     ensures { λ r. ⌜ Rows (geometryOf g) (now (map .entry)) n at w (now (x .entry)) (r .ok) (r .next) ⌝ }
 {
     let mut t = at;
+    let mut seen = tracks::rest_of(map, at, n);
     let mut j: usize = 0;
     while j < w {
+        let free = tracks::run_ahead(map, t, n, seen);
+        let from = free.from;
+        let to = free.to;
         let p = 5 * j;
-        let q = p + 5;
-        let e = entry_end(&x[p..q], g.heads, map, t, n);
-        if e == 0 {
-            let free = tracks::next_run(map, t, n);
-            if free.from < n {
-                return Compared { ok: false, next: n };
-            }
+        if from >= n {
             let ok = fields::all_are(&x[p..], 0);
             return Compared { ok, next: n };
         }
-        t = e;
-        j += 1;
+        let e = p + 5;
+        if is_entry(&x[p..e], g.heads, from as u32, (to - from) as u32) {
+            t = to;
+            seen = free.rest;
+            j += 1;
+        } else {
+            return Compared { ok: false, next: n };
+        }
     }
     Compared { ok: true, next: t }
 }

@@ -3,7 +3,7 @@ use mathlib.Core.Path.{_≡_, refl, sym, ap, _∙_}
 use mathlib.Core.Logic.{_⊎_, inl, inr, ⊎-elim}
 use Prim.Native.Nat.{ℕ, zero, suc, _+_, _-_, _*_, _/_, _%_, _^_, _≤_, _<_, min, max}
 use native.Mathlib.Nat.{mul-one, pow-suc, mul-assoc, zero-div, div-one, div-eq-of-lt, lt-of-lt-of-le, lt-of-le-of-lt, lt-of-not-le}
-use native.Mathlib.Decide.{decLe, ℕ-discrete}
+use native.Mathlib.Decide.{decLe}
 use native.Mathlib.Omega.{arith}
 use lib.Count.{leadingZeros, leading-length, leading-top, leading-of-zero}
 use lib.Bits.{differ, bitAnd, bitOr, bitXor, and-shr, or-shr, xor-shr, and-step, or-step, xor-step, and-le-l, and-le-r, xor-lt, xor-add-and, shifted-even}
@@ -157,14 +157,6 @@ lacks x m f n =
     let a = and-bit x m (r .0) in
     let o = r .2 in
     (r .0, r .1, omega arith, omega arith)
-
--- words with the same bits are the same
-pub same-bits : (a b : ℕ) → a < 2 ^ 64 → b < 2 ^ 64 → ((j : ℕ) → j < 64 → bitAt a j ≡ bitAt b j) → a ≡ b
-same-bits a b f g h =
-    elim (ℕ-discrete (bitXor a b) 0) [
-      | yes z ↦ omega (arith, xor-add-and a b, and-le-l a b, and-le-r a b)
-      | no z ↦ absurd (let r = some-bit 64 (bitXor a b) (xor-lt 64 a b f g) z in omega (arith, r .2, h (r .0) (r .1), xor-bit a b (r .0)))
-    ]
 
 -- no bit is set above a word
 pub above-word : (x j : ℕ) → x < 2 ^ 64 → 64 ≤ j → bitAt x j ≡ 0

@@ -1,23 +1,19 @@
 -- The 64 tracks from a track on as one word, and a run that ends within them. Assumes nothing.
 use mathlib.Core.Path.{_≡_, sym, ap, _∙_}
-use mathlib.Core.Bool.{true, false}
 use mathlib.Core.Logic.{⊎-elim}
 use mathlib.Core.List.{List}
 use Prim.Native.Nat.{ℕ, _+_, _-_, _*_, _/_, _%_, _^_, _≤_, _<_}
-use native.Mathlib.Nat.{mod-lt, lt-of-le-of-lt}
+use native.Mathlib.Nat.{mod-lt}
 use native.Mathlib.Omega.{arith}
-use borrow.Author.Tests.{eqb-true, eq-eqb}
-use lib.Dec.{eqb}
 use lib.ListN.{getD}
 use lib.Bits.{bitOr, bitXor, xor-lt}
-use lib.Pow.{pow-pos, shr-le}
+use lib.Pow.{pow-pos}
 use lib.Count.{leadingZeros}
-use Rattle.model.proofs.Lists.{clash}
-use Rattle.tracks.specs.Map.{IsRun, NextRun, bitAt, freeBit}
-use Rattle.tracks.specs.Steps.{First, Rest, Window, block}
-use Rattle.tracks.proofs.Bits.{above-word, block-high, block-in, block-low, block-lt, le-or-lt, leading-one, leading-zero, not-bit, ones-block, or-bit, same-bits, shifted, shl-low, shr-bit, word-bit}
+use Rattle.tracks.specs.Map.{NextRun, bitAt, freeBit}
+use Rattle.tracks.specs.Steps.{Rest, Window}
+use Rattle.tracks.proofs.Bits.{above-word, le-or-lt, leading-one, leading-zero, not-bit, or-bit, shifted, shl-low, shr-bit, word-bit}
 use Rattle.tracks.proofs.Counting.{free-le}
-use Rattle.tracks.proofs.Walk.{next-run-back, next-run-law}
+use Rattle.tracks.proofs.Walk.{next-run-law}
 use Rattle.tracks.proofs.Words.{in-word}
 
 -- ---- two words that join
@@ -30,9 +26,6 @@ pub front-bit : (m : List ℕ) (t j : ℕ) → t % 64 + j < 64 → bitAt (front 
 front-bit m t j h =
     let p : 63 - (t % 64 + j) ≡ 63 - (t + j) % 64 = omega arith in
     shifted (getD m (t / 64) 0) (t % 64) j h ∙ ap (bitAt (getD m (t / 64) 0)) p ∙ in-word m (t / 64) (t + j) (omega arith)
-
-pub front-small : (m : List ℕ) (t : ℕ) → front m t < 2 ^ 64
-front-small m t = mod-lt (getD m (t / 64) 0 * 2 ^ (t % 64)) (pow-pos 64)
 
 module _ (m : List ℕ) (t : ℕ) (small : getD m (t / 64 + 1) 0 < 2 ^ 64) where
   abbrev rear : ℕ
@@ -104,61 +97,3 @@ pub rest-behind : (m : List ℕ) (n t x a b : ℕ) → Rest m n t x → a + b < 
 rest-behind m n t x a b seen r j h u =
     let e : t + (a + (b + j)) ≡ t + (a + b) + j = omega arith in
     shifted (x * 2 ^ a % 2 ^ 64) b j (omega arith) ∙ shifted x a (b + j) (omega arith) ∙ seen (a + (b + j)) (omega arith) (omega arith) ∙ ap (freeBit m) e
-
--- ---- a run that is given
-
-module _ (m : List ℕ) (t n s e x : ℕ) (small : x < 2 ^ 64) (seen : (j : ℕ) → j ≤ e - t → bitAt x (63 - j) ≡ freeBit m (t + j)) (low : t ≤ s) (some : s < e) (near : e - t < 64) (room : e < n) where
-  -- the tracks from t up to e, e among them
-  abbrev top : ℕ
-  top = x / 2 ^ (63 - (e - t))
-
-  top-bit : (i j : ℕ) → i + j ≡ e → t ≤ j → bitAt top i ≡ freeBit m j
-  top-bit i j q h =
-      let a : 63 - (e - t) + i ≡ 63 - (j - t) = omega arith in
-      let b : t + (j - t) ≡ j = omega arith in
-      shr-bit x (63 - (e - t)) i ∙ ap (bitAt x) a ∙ seen (j - t) (omega arith) ∙ ap (freeBit m) b
-
-  run-if : top ≡ block 1 (e - s) → NextRun m n t s e
-  run-if q =
-      let c = e - s in
-      let bits : (i j : ℕ) → i + j ≡ e → t ≤ j → freeBit m j ≡ bitAt (block 1 c) i = λ i j p h. sym (top-bit i j p h) ∙ ap (λ (y : ℕ). bitAt y i) q in
-      next-run-law m n t s e
-      (record {
-        from = low;
-        to = omega arith;
-        before = λ j u v. bits (e - j) j (omega arith) u ∙ block-high 1 c (e - j) (omega arith);
-        here = λ _. bits c s (omega arith) low ∙ block-in 1 c c (omega arith) (omega arith);
-      })
-      (record {
-        from = omega arith;
-        to = omega arith;
-        before = λ j u v. bits (e - j) j (omega arith) (omega arith) ∙ block-in 1 c (e - j) (omega arith) (omega arith);
-        here = λ _. bits 0 e (omega arith) (omega arith) ∙ block-low 1 c 0 (omega arith);
-      })
-
-  only-if : First m true t n s → First m false s n e → top ≡ block 1 (e - s)
-  only-if f g =
-      let c = e - s in
-      same-bits top (block 1 c) (lt-of-le-of-lt (shr-le x (63 - (e - t))) small) (block-lt 1 c (omega arith))
-      (λ i h.
-      ⊎-elim
-      (λ o. shr-bit x (63 - (e - t)) i ∙ above-word x (63 - (e - t) + i) small (omega arith) ∙ sym (block-high 1 c i (omega arith)))
-      (λ o.
-      top-bit i (e - i) (omega arith) (omega arith)
-      ∙ ⊎-elim
-      (λ p. f .before (e - i) (omega arith) (omega arith) ∙ sym (block-high 1 c i p))
-      (λ p.
-      ⊎-elim
-      (λ z. g .before (e - i) (omega arith) (omega arith) ∙ sym (block-in 1 c i z p))
-      (λ z. let w : e - i ≡ e = omega arith in ap (freeBit m) w ∙ g .here (omega arith) ∙ sym (block-low 1 c i z))
-      (le-or-lt 1 i))
-      (le-or-lt (1 + c) i))
-      (le-or-lt (e - t + 1) i))
-
-  pub near-is : IsRun m n t s e (eqb top ((0xffff_ffff_ffff_ffff / 2 ^ (64 - (e - s)) * 2) % 2 ^ 64))
-  near-is =
-      let o = ones-block 1 (e - s) (omega arith) in
-      record {
-        yes = λ r. run-if (eqb-true _ _ r ∙ o);
-        no = λ r q. let b = next-run-back q (omega arith) in clash (eq-eqb _ _ (only-if (b .0) (b .1) ∙ sym o)) r;
-      }

@@ -1,22 +1,19 @@
 -- The runs of a test over tracks, one after the other. Assumes nothing.
-use mathlib.Core.Path.{_≡_, refl, sym, ap, _∙_, subst}
+use mathlib.Core.Path.{_≡_, sym, ap, _∙_, subst}
 use mathlib.Core.Bool.{Bool, true, false}
 use mathlib.Core.Logic.{⊎-elim}
 use mathlib.Core.List.{List, [], _∷_}
 use Prim.Native.Nat.{ℕ, zero, suc, _+_, _-_, _≤_, _<_}
 use native.Mathlib.Nat.{le-refl}
 use native.Mathlib.Omega.{arith}
-use borrow.Author.Tests.{eq-eqb, eqb-true, ne-eqb}
-use lib.Dec.{eqb}
-use lib.ListN.{length}
+use borrow.Author.Tests.{eq-eqb, ne-eqb}
 use Rattle.model.specs.Basics.{bit}
 use Rattle.model.specs.Model.{Run, run, runs, joinIf, covers, times, Separate}
-use Rattle.model.proofs.Lists.{by, clash}
-use Rattle.model.proofs.Runs.{canonical, runs-separate, runs-times, hit-in, hit-below, hit-above, below}
-use Rattle.tracks.specs.Map.{freeBit, isFree, freeFrom, NextRun, IsRun}
+use Rattle.model.proofs.Lists.{by}
+use Rattle.model.proofs.Runs.{canonical, runs-separate, runs-times, hit-in, hit-above, below}
+use Rattle.tracks.specs.Map.{freeBit, isFree, freeFrom, NextRun}
 use Rattle.tracks.specs.Steps.{First}
 use Rattle.tracks.proofs.Bits.{le-or-lt}
-use Rattle.tracks.proofs.Counting.{bit-of}
 
 module _ (p : ℕ → Bool) where
   -- tracks at the beginning that p passes over
@@ -95,62 +92,6 @@ next-run-law m n s a b f g =
                 ∙ ap (λ (x : ℕ). run a c ∷ runs (isFree m) x (n - b)) q,
           );
       done = λ h. let n4 : n - a ≡ 0 = omega arith in skipped ∙ ap (runs (isFree m) a) n4;
-    }
-
--- what the first run says of the tracks
-pub next-run-back : {m : List ℕ} {n s a b : ℕ} → NextRun m n s a b → a < n → First m true s n a × First m false a n b
-unfolding freeFrom
-next-run-back {m} {n} {s} {a} {b} r h =
-    let c = b - a in
-    let e1 = r .from in
-    let e2 = r .more h .0 in
-    let e3 = r .high in
-    let rest = runs (isFree m) b (n - b) in
-    let q : a + c ≡ b = omega arith in
-    let whole : Separate s (s + (n - s)) (run a c ∷ rest) = subst (Separate s (s + (n - s))) (r .more h .1) (runs-separate (isFree m) s (n - s)) in
-    let seen : (t : ℕ) → s ≤ t → t < n → bit (covers (run a c) t) + times t rest ≡ freeBit m t =
-    λ t u v. sym (ap (times t) (r .more h .1)) ∙ runs-times (isFree m) s (n - s) t u (omega arith) ∙ bit-of m t in
-    let none : (t : ℕ) → t ≤ b → times t rest ≡ 0 = λ t u. below (suc (a + c)) (s + (n - s)) rest t (whole .3) (omega arith) in (
-      record {
-        from = e1;
-        to = omega arith;
-        before = λ t u v. omega (arith, seen t u (omega arith), none t (omega arith), hit-below (run a c) t v);
-        here = λ v. omega (arith, seen a e1 v, none a (omega arith), hit-in (run a c) a (le-refl a) (omega arith));
-      },
-      record {
-        from = omega arith;
-        to = e3;
-        before = λ t u v. omega (arith, seen t (omega arith) (omega arith), none t (omega arith), hit-in (run a c) t u (omega arith));
-        here = λ v. omega (arith, seen b (omega arith) v, none b (le-refl b), hit-above (run a c) b (omega arith));
-      },
-    )
-
-abbrev firstOf : List Run → Run
-firstOf [] = run 0 0
-firstOf (r ∷ rs) = r
-
--- two answers to the same question
-pub next-run-one : {m : List ℕ} {n t a b s e : ℕ} → NextRun m n t a b → NextRun m n t s e → s < n → (a ≡ s) × (b ≡ e)
-next-run-one {n} {a} {b} {s} {e} p q h =
-    let l = p .low in
-    let y = q .more h .0 in
-    ⊎-elim
-    (λ u. absurd (let z = ap length (sym (p .done u) ∙ q .more h .1) in omega arith))
-    (λ u.
-    let z = ap firstOf (sym (p .more u .1) ∙ q .more h .1) in
-    let v : a ≡ s = ap (λ (r : Run). r .start) z in
-    let w : b - a ≡ e - s = ap (λ (r : Run). r .count) z in
-    (v, omega arith))
-    (le-or-lt n a)
-
-pub is-not : {m : List ℕ} {n t a b : ℕ} (s e : ℕ) → NextRun m n t a b → s < n → (a ≡ s → ⊥) → IsRun m n t s e false
-is-not s e p h d = record { yes = λ z. clash {b = false} z refl; no = λ _ q. d (next-run-one p q h .0) }
-
-pub far-is : {m : List ℕ} {n t a b : ℕ} (s e : ℕ) → NextRun m n t a b → s < n → a ≡ s → IsRun m n t s e (eqb b e)
-far-is {m} {n} {t} {a} {b} s e p h d =
-    record {
-      yes = λ z. subst (λ (y : ℕ). NextRun m n t y e) d (subst (NextRun m n t a) (eqb-true b e z) p);
-      no = λ z q. clash (eq-eqb b e (next-run-one p q h .1)) z;
     }
 
 -- ---- for a caller that goes from run to run

@@ -72,8 +72,3 @@ pub record NextRun (m : List ℕ) (n s a b : ℕ) : Type 0 where
   pub high : b ≤ n
   pub more : a < n → (a < b) × (freeFrom m n s ≡ run a (b - a) ∷ freeFrom m n b)
   pub done : n ≤ a → freeFrom m n s ≡ []
-
--- whether that run is from s up to e
-pub record IsRun (m : List ℕ) (n t s e : ℕ) (r : Bool) : Type 0 where
-  pub yes : r ≡ true → NextRun m n t s e
-  pub no : r ≡ false → NextRun m n t s e → ⊥

@@ -3,7 +3,7 @@
 ghost use mathlib.Core.Path.{_≡_};
 ghost use Prim.Native.Nat.{_+_, _-_, _*_, _/_, _%_, _≤_, _<_, min};
 ghost use lib.ListN.{length};
-ghost use Rattle.tracks.specs.Map.{freeFrom, Opened, Taken, Given, NextRun, IsRun};
+ghost use Rattle.tracks.specs.Map.{freeFrom, Opened, Taken, Given, NextRun};
 ghost use Rattle.tracks.specs.Steps.{First, Passed, Rest, Starts, Window, block, flipped};
 
 const ALL: u64 = 0xffff_ffff_ffff_ffff;
@@ -232,27 +232,6 @@ pub fn run_ahead(map: &[u64], t: usize, n: usize, x: u64) -> Ahead
         to,
         rest: rest_of(map, to, n),
     }
-}
-
-// Whether the first run of free tracks from t on and below n is from s up to e. It searches nothing where the tracks from t
-// up to e lie in one word: a loop over runs that are given does not wait for the map to say where to look next.
-pub fn is_run(map: &[u64], t: usize, n: usize, s: usize, e: usize) -> bool
-    requires { ⌜ (t ≤ s) × (s < e) × (e ≤ n) × (n ≤ 64 * length (now map)) ⌝ }
-    ensures { λ r. ⌜ IsRun (now (map .entry)) n t s e r ⌝ }
-{
-    let k = e - t;
-    let o = t % 64;
-    if k < 64 - o {
-        if e < n {
-            let w = t / 64;
-            return (map[w] << o) >> (63 - k) == (ALL >> (64 - (e - s))) << 1;
-        }
-    }
-    let r = next_run(map, t, n);
-    if r.from != s {
-        return false;
-    }
-    r.to == e
 }
 
 // The tracks of the word x that are free behind one that is not; y is the word before x.

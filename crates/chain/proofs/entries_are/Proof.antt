@@ -1,85 +1,135 @@
-use Prim.Native.Nat.{_-_, _*_, _≤_}
-use native.Mathlib.Omega.{arith}
+use mathlib.Core.Path.{_≡_, sym, _∙_}
 use lib.ListN.{length-take, length-drop}
-use Rattle.fields.proofs.Rows.{from-place}
+use native.Mathlib.Omega.{arith}
+use Prim.Native.Nat.{ℕ, _+_, _-_, _*_, _≤_}
+use Rattle.model.specs.Basics.{part}
+use Rattle.fields.proofs.Slots.{length-part}
+use Rattle.forms.proofs.Cutting.{bytes-part}
 use Rattle.forms.specs.Forms.{geometryOf}
-use Rattle.chain.proofs.Entries.{Going, going-none, going-ends, going-done, turn-next, turn-bad}
+use Rattle.fields.proofs.Rows.{from-place}
+use Rattle.chain.specs.Entries.{entryOk}
+use Rattle.chain.proofs.Entries.{Going, entry-no, entry-yes, going-bad, going-done, going-ends, going-next, going-none, rows-bad}
 use borrow.Author.Needs.{needs}
 use Rattle.chain.proofs.entries_are.Statement.{statement}
 use Rattle.chain.proofs.entries_are.Tie as tie
+use Rattle.chain.proofs.entries_are.Reads as reads
+use Rattle.chain.proofs.entries_are.Lts as lts
+use Rattle.chain.proofs.is_entry.Reads as is-entry-reads
+use Rattle.fields.proofs.all_are.Reads as all-are-reads
+use Rattle.tracks.proofs.rest_of.Reads as rest-of-reads
+use Rattle.tracks.proofs.run_ahead.Reads as run-ahead-reads
+use Rattle.tracks.specs.Steps.{Rest}
 
 abbrev Inv-loop : tie.InvT-loop
-Inv-loop x w map n at g t₀ j₀ t j = (j ≤ w) × Going (geometryOf g) map n at w x j t
+Inv-loop x w map n at g t₀ seen₀ j₀ t seen j = (j ≤ w) × Going (geometryOf g) map n at w x j t × Rest map n t seen
 
 abbrev μ-loop : tie.MeasureT-loop
-μ-loop x w map n at g t₀ j₀ t j = w - j
+μ-loop x w map n at g t₀ seen₀ j₀ t seen j = w - j
+
+-- src/lib.rt:64:5
+rest-of-requires : tie.Need-rest-of-requires Inv-loop μ-loop
+rest-of-requires c κs = search needs
 
 loop-holds : tie.Need-loop-holds Inv-loop μ-loop
-loop-holds c =
-    let top = c .before .before in
-    (omega arith, going-none (geometryOf (top .args .g)) (top .args .map .now) (top .args .n) (top .args .at) (top .args .w) (top .args .x .now) (top .pre .2))
+loop-holds c = (omega arith, going-none (geometryOf (c .before .before .before .args .g)) (c .before .before .before .args .map .now) (c .before .before .before .args .n) (c .before .before .before .args .at) (c .before .before .before .args .w) (c .before .before .before .args .x .now) (c .before .before .before .pre .2), c .rest-of .ensures)
 
+-- src/lib.rt:65:13
+run-ahead-requires : tie.Need-run-ahead-requires Inv-loop μ-loop
+run-ahead-requires c κs = (c .before .loop .inv .1 .upTo, c .before .before .before .before .before .pre .3, c .before .loop .inv .2)
+
+-- src/lib.rt:68:17
 mul-p : tie.Need-mul-p Inv-loop μ-loop
 mul-p c = search needs
 
-add-q : tie.Need-add-q Inv-loop μ-loop
-add-q c = search needs
-
-sub-entry-end : tie.Need-sub-entry-end Inv-loop μ-loop
-sub-entry-end c = search needs
-
-part-entry-end-start : tie.Need-part-entry-end-start Inv-loop μ-loop
-part-entry-end-start c = search needs
-
-part-entry-end-end : tie.Need-part-entry-end-end Inv-loop μ-loop
-part-entry-end-end c = search needs
-
-entry-end-requires : tie.Need-entry-end-requires Inv-loop μ-loop
-entry-end-requires c κs =
-    let top = c .before .before .before .before .before in
-    (simp (length-take, length-drop) (omega (arith, top .pre .0)), top .pre .5 .headsMost, c .before .before .loop .inv .1 .upTo, top .pre .3, top .pre .4)
-
-next-run-requires : tie.Need-next-run-requires Inv-loop μ-loop
-next-run-requires c κs = (c .before .before .before .before .loop .inv .1 .upTo, c .before .before .before .before .before .before .before .pre .3)
-
-returns : tie.Need-returns Inv-loop μ-loop
-returns c =
-    let top = c .before .before .before .before .before .before .before .before .before .before in
-    turn-bad (geometryOf (top .args .g)) (top .args .map .now) (top .args .n) (top .args .at) (top .args .w) (top .args .x .now) (top .pre .5 .heads) (c .before .before .before .before .before .before .before .loop .j) (c .before .before .before .before .before .before .before .loop .t) (c .before .before .before .before .entry-end .result) (c .before .before .before .before .before .before .loop-test .taken) (c .before .before .before .before .before .before .before .loop .inv .1) (c .before .before .before .before .entry-end .ensures) _ _ (c .before .before .before .if1 .taken) (c .before .before .next-run .ensures) (c .if2 .taken)
-
+-- src/lib.rt:70:38
 sub-all-are : tie.Need-sub-all-are Inv-loop μ-loop
 sub-all-are c = search needs
 
+-- src/lib.rt:70:38
 part-all-are-start : tie.Need-part-all-are-start Inv-loop μ-loop
 part-all-are-start c = search needs
 
+-- src/lib.rt:70:38
 part-all-are-end : tie.Need-part-all-are-end Inv-loop μ-loop
 part-all-are-end c = search needs
 
+-- src/lib.rt:70:17
 all-are-requires : tie.Need-all-are-requires Inv-loop μ-loop
 all-are-requires c κs = search needs
 
-returns-2 : tie.Need-returns-2 Inv-loop μ-loop
-returns-2 c =
-    let top = c .before .before .before .before .before .before .before .before .before .before .before .before in
-    let j = c .before .before .before .before .before .before .before .before .before .loop .j in
-    going-ends (geometryOf (top .args .g)) (top .args .map .now) (top .args .n) (top .args .at) (top .args .w) (top .args .x .now) j (c .before .before .before .before .before .before .before .before .before .loop .t) _ _ (c .all-are .result) (c .before .before .before .before .before .before .before .before .before .loop .inv .0) (top .pre .0) (c .before .before .before .before .before .before .before .before .before .loop .inv .1) (c .before .before .before .before .next-run .ensures) (c .before .before .if2 .left) (rw (from-place (top .args .x .now) (5 * j)) at (c .all-are .ensures))
+-- src/lib.rt:71:13
+returns : tie.Need-returns Inv-loop μ-loop
+returns c =
+    going-ends (geometryOf (c .before .before .before .before .before .before .before .before .before .args .g)) (c .before .before .before .before .before .before .before .before .before .args .map .now) (c .before .before .before .before .before .before .before .before .before .args .n) (c .before .before .before .before .before .before .before .before .before .args .at) (c .before .before .before .before .before .before .before .before .before .args .w) (c .before .before .before .before .before .before .before .before .before .args .x .now) (c .before .before .before .before .before .loop .j) (c .before .before .before .before .before .loop .t) (c .before .before .before .run-ahead .result .from) (c .before .before .before .run-ahead .result .to) (c .all-are .result) (c .before .before .before .before .before .loop .inv .0) (c .before .before .before .before .before .before .before .before .before .pre .0) (c .before .before .before .before .before .loop .inv .1) (c .before .before .before .run-ahead .ensures .0) (c .before .before .if1 .taken)
+    (rw (from-place (c .before .before .before .before .before .before .before .before .before .args .x .now) (5 * c .before .before .before .before .before .loop .j)) at (c .all-are .ensures))
 
+-- src/lib.rt:73:17
+add-e : tie.Need-add-e Inv-loop μ-loop
+add-e c = search needs
+
+-- src/lib.rt:74:21
+sub-is-entry : tie.Need-sub-is-entry Inv-loop μ-loop
+sub-is-entry c = search needs
+
+-- src/lib.rt:74:21
+part-is-entry-start : tie.Need-part-is-entry-start Inv-loop μ-loop
+part-is-entry-start c = search needs
+
+-- src/lib.rt:74:21
+part-is-entry-end : tie.Need-part-is-entry-end Inv-loop μ-loop
+part-is-entry-end c = search needs
+
+-- src/lib.rt:74:40
+cast-is-entry : tie.Need-cast-is-entry Inv-loop μ-loop
+cast-is-entry c = search needs
+
+-- src/lib.rt:74:54
+sub-is-entry-2 : tie.Need-sub-is-entry-2 Inv-loop μ-loop
+sub-is-entry-2 c = search needs
+
+-- src/lib.rt:74:53
+cast-is-entry-2 : tie.Need-cast-is-entry-2 Inv-loop μ-loop
+cast-is-entry-2 c = search needs
+
+-- src/lib.rt:74:12
+is-entry-requires : tie.Need-is-entry-requires Inv-loop μ-loop
+is-entry-requires c κs = (simp (length-take, length-drop) (omega (arith, c .before .before .before .before .before .before .before .before .pre .0)), c .before .before .before .before .before .before .before .before .pre .5 .headsMost)
+
+-- src/lib.rt:76:13
 add-j : tie.Need-add-j Inv-loop μ-loop
 add-j c = search needs
 
+-- src/lib.rt:64:5
 loop-less : tie.Need-loop-less Inv-loop μ-loop
 loop-less c = search needs
 
+-- src/lib.rt:64:5
 loop-again : tie.Need-loop-again Inv-loop μ-loop
 loop-again c =
-    let top = c .before .before .before .before .before .before .before in
-    (omega arith, turn-next (geometryOf (top .args .g)) (top .args .map .now) (top .args .n) (top .args .at) (top .args .w) (top .args .x .now) (top .pre .5 .heads) (c .before .before .before .before .loop .j) (c .before .before .before .before .loop .t) (c .before .entry-end .result) (c .before .before .before .loop-test .taken) (c .before .before .before .before .loop .inv .1) (c .before .entry-end .ensures) (top .pre .0) (λ i. c .before .before .before .before .before .before .shared-slice-known .given i .fits) (c .if1 .left))
+    let j = c .before .before .before .before .before .before .loop .j in
+    let x = c .before .before .before .before .before .before .before .before .before .before .args .x .now in
+    let e : 5 * j + 5 - 5 * j ≡ 5 = omega arith in
+    let r = rw e at (c .before .is-entry .ensures) in (
+      omega arith,
+      going-next (geometryOf (c .before .before .before .before .before .before .before .before .before .before .args .g)) (c .before .before .before .before .before .before .before .before .before .before .args .map .now) (c .before .before .before .before .before .before .before .before .before .before .args .n) (c .before .before .before .before .before .before .before .before .before .before .args .at) (c .before .before .before .before .before .before .before .before .before .before .args .w) x j (c .before .before .before .before .before .before .loop .t) (c .before .before .before .before .run-ahead .result .from) (c .before .before .before .before .run-ahead .result .to) (c .before .before .before .before .before .loop-test .taken) (c .before .before .before .before .before .before .loop .inv .1) (c .before .before .before .before .run-ahead .ensures .0) (c .before .before .before .if1 .left)
+          (entry-yes (geometryOf (c .before .before .before .before .before .before .before .before .before .before .args .g)) (c .before .before .before .before .before .before .before .before .before .before .pre .5 .heads) (c .before .before .before .before .run-ahead .result .from) (c .before .before .before .before .run-ahead .result .to - c .before .before .before .before .run-ahead .result .from) (part (5 * j) 5 x) (length-part (5 * j) 5 x (omega (arith, c .before .before .before .before .before .before .before .before .before .before .pre .0))) (bytes-part (5 * j) 5 x (λ i. c .before .before .before .before .before .before .before .before .before .shared-slice-known .given i .fits)) (sym r ∙ c .if2 .taken)),
+      c .before .before .before .before .run-ahead .ensures .1,
+    )
 
+-- src/lib.rt:78:13
+returns-2 : tie.Need-returns-2 Inv-loop μ-loop
+returns-2 c =
+    let j = c .before .before .before .before .before .before .loop .j in
+    let x = c .before .before .before .before .before .before .before .before .before .before .args .x .now in
+    let e : 5 * j + 5 - 5 * j ≡ 5 = omega arith in
+    let r = rw e at (c .before .is-entry .ensures) in
+    rows-bad (geometryOf (c .before .before .before .before .before .before .before .before .before .before .args .g)) (c .before .before .before .before .before .before .before .before .before .before .args .map .now) (c .before .before .before .before .before .before .before .before .before .before .args .n) (c .before .before .before .before .before .before .before .before .before .before .args .at) (c .before .before .before .before .before .before .before .before .before .before .args .w) x _
+    (going-bad (geometryOf (c .before .before .before .before .before .before .before .before .before .before .args .g)) (c .before .before .before .before .before .before .before .before .before .before .args .map .now) (c .before .before .before .before .before .before .before .before .before .before .args .n) (c .before .before .before .before .before .before .before .before .before .before .args .at) (c .before .before .before .before .before .before .before .before .before .before .args .w) x j (c .before .before .before .before .before .before .loop .t) (c .before .before .before .before .run-ahead .result .from) (c .before .before .before .before .run-ahead .result .to) (c .before .before .before .before .before .loop-test .taken) (c .before .before .before .before .before .before .loop .inv .1) (c .before .before .before .before .run-ahead .ensures .0) (c .before .before .before .if1 .left)
+    (entry-no (geometryOf (c .before .before .before .before .before .before .before .before .before .before .args .g)) (c .before .before .before .before .before .before .before .before .before .before .pre .5 .heads) (c .before .before .before .before .run-ahead .result .from) (c .before .before .before .before .run-ahead .result .to - c .before .before .before .before .run-ahead .result .from) (part (5 * j) 5 x) (sym r ∙ c .if2 .left)))
+
+-- src/lib.rt:58:1
 returns-3 : tie.Need-returns-3 Inv-loop μ-loop
-returns-3 c =
-    let top = c .before .before .before .before in
-    going-done (geometryOf (top .args .g)) (top .args .map .now) (top .args .n) (top .args .at) (top .args .w) (top .args .x .now) (c .before .loop .j) (c .before .loop .t) (c .loop-test .left) (c .before .loop .inv .0) (top .pre .0) (c .before .loop .inv .1)
+returns-3 c = going-done (geometryOf (c .before .before .before .before .before .args .g)) (c .before .before .before .before .before .args .map .now) (c .before .before .before .before .before .args .n) (c .before .before .before .before .before .args .at) (c .before .before .before .before .before .args .w) (c .before .before .before .before .before .args .x .now) (c .before .loop .j) (c .before .loop .t) (c .loop-test .left) (c .before .loop .inv .0) (c .before .before .before .before .before .pre .0) (c .before .loop .inv .1)
 
 pub entries-are-spec : {M : Type 1} → statement M
 entries-are-spec =
@@ -87,21 +137,25 @@ entries-are-spec =
     (tie.spec
     Inv-loop
     μ-loop
+    rest-of-requires
     loop-holds
+    run-ahead-requires
     mul-p
-    add-q
-    sub-entry-end
-    part-entry-end-start
-    part-entry-end-end
-    entry-end-requires
-    next-run-requires
-    returns
     sub-all-are
     part-all-are-start
     part-all-are-end
     all-are-requires
-    returns-2
+    returns
+    add-e
+    sub-is-entry
+    part-is-entry-start
+    part-is-entry-end
+    cast-is-entry
+    sub-is-entry-2
+    cast-is-entry-2
+    is-entry-requires
     add-j
     loop-less
     loop-again
+    returns-2
     returns-3)
