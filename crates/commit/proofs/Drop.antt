@@ -1,5 +1,5 @@
 -- A data set taken out: slots settled and records written make the volume that `settle` leaves. Assumes nothing.
-use mathlib.Core.Path.{_≡_, refl, sym, ap, _∙_, subst}
+use mathlib.Core.Path.{_≡_, refl, sym, ap, ap₂, _∙_, subst}
 use mathlib.Core.Bool.{Bool, true, false, cond}
 use mathlib.Core.Option.{none, some}
 use mathlib.Core.List.{List, [], _∷_, _++_}
@@ -9,7 +9,7 @@ use lib.ListN.{length, take, drop}
 use lib.Seq.{slice}
 use lib.Dec.{eqb}
 use Rattle.model.specs.Basics.{bit}
-use Rattle.model.specs.Model.{Geometry, Label, Run, Volume, fivesFor, free, oneSlot, slots, slotsOf, tally, total, tracks, used}
+use Rattle.model.specs.Model.{Geometry, Label, Run, Volume, fivesFor, free, held, oneSlot, slots, slotsOf, tally, total, tracks, used}
 use Rattle.model.proofs.Lists.{clash, sum-append}
 use Rattle.rules.specs.Layout.{encode, fives}
 use Rattle.rules.specs.Reading.{chop}
@@ -21,12 +21,13 @@ use Rattle.label_check.specs.Marks.{units}
 use Rattle.change.specs.Pending.{Pending}
 use Rattle.change.proofs.Begin.{Alike}
 use Rattle.settling.specs.Settling.{Chained, Settles}
-use Rattle.writing.specs.Writing.{cleared, fivesPut, fourPut}
+use Rattle.writing.specs.Writing.{Reached, cleared, fivesPut, fourPut}
 use Rattle.commit.specs.Commit.{Becomes, Left}
+use Rattle.commit.proofs.Kept.{Stay, stay}
 use Rattle.commit.proofs.Core.{cleared-both, emptied, finished, settled-chain}
 use Rattle.commit.proofs.Put.{chain-tail, empty-of, free-of, slots-eq}
 
-module _ (g : Geometry) (t m s : List ℕ) (was slot third : ℕ) (d : Left g t m s was slot third)
+module _ (g : Geometry) (t m s : List ℕ) (was lo slot third : ℕ) (d : Left g t m s was lo slot third)
     (c₀ c c′ s′ d₀ d′ : List ℕ) (need : ℕ) (r : Bool)
     (chained : Chained g t c₀ c was) (need-is : need ≡ fivesFor (length (freeFrom m (tracks g) 0)))
     (st : Settles g s s′ c c′ d₀ d′ was need 0 r) where
@@ -67,27 +68,36 @@ module _ (g : Geometry) (t m s : List ℕ) (was slot third : ℕ) (d : Left g t 
         let b = sum-append (λ y. bit (eqb y x)) (oneSlot slot) (oneSlot third) in
         omega arith
 
-    pub drop-done : (t₁ t₂ t₃ t₄ : List ℕ) → t₁ ≡ cleared t (slice need was c′) → t₂ ≡ cleared t₁ (oneSlot slot) → t₃ ≡ cleared t₂ (oneSlot third)
-        → t₄ ≡ fourPut g (fivesPut g t₃ (fives (take need c′) (freeFrom m (tracks g) 0))) (total (freeFrom s′ (slots g) 0))
-        → Becomes (settle g (v .chain) (d .others) 0 (λ ks. d .others)) t t₄ true
-    drop-done t₁ t₂ t₃ t₄ e₁ e₂ e₃ e₄ =
-        let new = settled-chain g (v .chain) (d .others) 0 (λ ks. d .others) w is-w in
-        let p : Pending w (w .chain ++ (0 ∷ [])) (cleared (cleared t (drop need (v .chain))) freed)
-        = emptied v w (d .ready .valid) hw (sym (d .geometryIs)) (d .label) (d .others) (d .stays) (d .slotOnce) (d .slotIn) need (new .0)
-        (new .1 ∙ ap (λ (n : ℕ). take n (v .chain) ++ new .0) (sym need-free)) freed []
-        (λ x. let a = old-slots x in omega arith) (λ x. let a = old-slots x in omega arith) (λ x. omega arith)
-        (λ x p z. record { first = refl; third = refl }) t (d .ready .bytes) in
-        let e : t₃ ≡ cleared (cleared t (drop need (v .chain))) freed
-        = e₃ ∙ ap (λ (y : List ℕ). cleared y (oneSlot third)) (e₂ ∙ ap (λ (y : List ℕ). cleared y (oneSlot slot)) (e₁ ∙ ap (cleared t) (chain-tail c c′ (v .chain) was need (st .tail) read-chain (d .members))))
-        ∙ cleared-both (cleared t (drop need (v .chain))) (oneSlot slot) (oneSlot third) in
-        record {
-          full = λ x. clash refl x;
-          same = λ x. clash refl x;
-          done = λ x. (
-            w,
-            is-w,
-            e₄ ∙ finished w hw (freeFrom m (tracks g) 0) t₃ (total (freeFrom s′ (slots g) 0)) (free-of g m (d .others) (d .shownTracks))
-                (empty-of w s′ (λ k u. let a = st .shown ok (d .others) left-shown k u in omega arith))
-                (subst (Pending w (w .chain ++ (0 ∷ []))) (sym e) p),
-          );
-        }
+    module _ (from at : ℕ) (reached : Reached t (take need c′) lo from at) (when : 1 ≤ from → was ≡ need) where
+      staying : Stay v w m need from at
+      staying =
+          stay v w (d .ready .valid) hw (sym (d .geometryIs)) m lo need (subst (λ (x : Geometry). Shows m lo (held x (v .labels))) (sym (d .geometryIs)) (d .below))
+          (free-of g m (d .others) (d .shownTracks)) from at
+          (subst (λ (x : List ℕ). Reached x (take need c′) lo from at) (d .ready .bytes) reached)
+          (λ p. sym read-chain ∙ ap₂ (λ (n : ℕ) (x : List ℕ). take n x) (when p) (sym (st .tail (let e = when p in omega arith))))
+          (λ p. sym (d .members) ∙ when p)
+
+      pub drop-done : (t₁ t₂ t₃ t₄ : List ℕ) → t₁ ≡ cleared t (slice need was c′) → t₂ ≡ cleared t₁ (oneSlot slot) → t₃ ≡ cleared t₂ (oneSlot third)
+          → t₄ ≡ fourPut g (fivesPut g t₃ (fives (drop from (take need c′)) (freeFrom m (tracks g) at))) (total (freeFrom s′ (slots g) 0))
+          → Becomes (settle g (v .chain) (d .others) 0 (λ ks. d .others)) t t₄ true
+      drop-done t₁ t₂ t₃ t₄ e₁ e₂ e₃ e₄ =
+          let new = settled-chain g (v .chain) (d .others) 0 (λ ks. d .others) w is-w in
+          let p : Pending w (drop from (w .chain) ++ (0 ∷ [])) (cleared (cleared t (drop need (v .chain))) freed)
+          = emptied v w (d .ready .valid) hw (sym (d .geometryIs)) (d .label) (d .others) (d .stays) (d .slotOnce) (d .slotIn) need (new .0)
+          (new .1 ∙ ap (λ (n : ℕ). take n (v .chain) ++ new .0) (sym need-free)) freed []
+          (λ x. let a = old-slots x in omega arith) (λ x. let a = old-slots x in omega arith) (λ x. omega arith)
+          (λ x p z. record { first = refl; third = refl }) m from at staying t (d .ready .bytes) in
+          let e : t₃ ≡ cleared (cleared t (drop need (v .chain))) freed
+          = e₃ ∙ ap (λ (y : List ℕ). cleared y (oneSlot third)) (e₂ ∙ ap (λ (y : List ℕ). cleared y (oneSlot slot)) (e₁ ∙ ap (cleared t) (chain-tail c c′ (v .chain) was need (st .tail) read-chain (d .members))))
+          ∙ cleared-both (cleared t (drop need (v .chain))) (oneSlot slot) (oneSlot third) in
+          record {
+            full = λ x. clash refl x;
+            same = λ x. clash refl x;
+            done = λ x. (
+              w,
+              is-w,
+              e₄ ∙ finished w hw from (freeFrom m (tracks g) at) t₃ (total (freeFrom s′ (slots g) 0)) (staying .rest)
+                  (empty-of w s′ (λ k u. let a = st .shown ok (d .others) left-shown k u in omega arith))
+                  (subst (Pending w (drop from (w .chain) ++ (0 ∷ []))) (sym e) p),
+            );
+          }

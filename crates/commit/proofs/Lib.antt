@@ -1,3 +1,4 @@
+pub mod Kept
 pub mod Core
 pub mod Put
 pub mod Drop

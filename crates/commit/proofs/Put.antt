@@ -28,9 +28,10 @@ use Rattle.label_check.specs.Marks.{units}
 use Rattle.spare.proofs.Laws.{count-unused}
 use Rattle.change.proofs.Begin.{alike-come}
 use Rattle.settling.specs.Settling.{Chained, Settles}
-use Rattle.writing.specs.Writing.{cleared, fivesPut, fourPut, labelPut}
+use Rattle.writing.specs.Writing.{Reached, cleared, fivesPut, fourPut, labelPut}
 use Rattle.writing.proofs.Changed.{label-pending}
 use Rattle.commit.specs.Commit.{Becomes, Draft}
+use Rattle.commit.proofs.Kept.{Stay, stay}
 use Rattle.commit.proofs.Core.{emptied, finished, settled-chain}
 
 pub free-of : (g : Geometry) (m : List ℕ) (ls : List Label) → Shows m (tracks g) (held g ls) → freeFrom m (tracks g) 0 ≡ free g ls
@@ -120,7 +121,7 @@ third-eq few few′ slot slot′ third third′ ds a b c = rw (a, b, c) (third-g
 pub slots-eq : (slot slot′ third third′ x : ℕ) → slot ≡ slot′ → third ≡ third′ → tally x (oneSlot slot′ ++ oneSlot third′) ≡ tally x (oneSlot slot) + tally x (oneSlot third)
 slots-eq slot slot′ third third′ x a b = rw (a, b) (sum-append (λ y. bit (eqb y x)) (oneSlot slot′) (oneSlot third′))
 
-module _ (g : Geometry) (t m s : List ℕ) (was slot third : ℕ) (few : Bool) (one three : List ℕ) (d : Draft g t m s was slot third few one three)
+module _ (g : Geometry) (t m s : List ℕ) (was lo slot third : ℕ) (few : Bool) (one three : List ℕ) (d : Draft g t m s was lo slot third few one three)
     (c₀ c c′ s′ d₀ d′ : List ℕ) (need asked : ℕ) (r : Bool)
     (chained : Chained g t c₀ c was) (need-is : need ≡ fivesFor (length (freeFrom m (tracks g) 0))) (asked-is : asked ≡ asks slot + cond few 0 (asks third))
     (two : length d₀ ≡ 2) (st : Settles g s s′ c c′ d₀ d′ was need asked r) where
@@ -284,31 +285,39 @@ module _ (g : Geometry) (t m s : List ℕ) (was slot third : ℕ) (few : Bool) (
         go true h = let z : q ≡ 0 = rw h in absurd (omega arith)
         go false h = d .writtenThird h
 
-    written : (t₃ : List ℕ) → t₃ ≡ labelPut g (cleared (cleared t (drop need (v .chain))) (oneSlot (cond few third 0))) k q l₀ three
-        → fourPut g (fivesPut g t₃ (fives (take need c′) (freeFrom m (tracks g) 0))) (total (freeFrom s′ (slots g) 0)) ≡ encode w
-    written t₃ e =
-        let new = settled-chain g (v .chain) draft asked (λ js. insertLabel (placed js l) (d .others)) w start in
-        finished w hw (freeFrom m (tracks g) 0) t₃ (total (freeFrom s′ (slots g) 0)) free-w
-        (empty-of w s′ (λ x u. let a = given x u in let b = used-w x in omega arith))
-        (subst (Rattle.change.specs.Pending.Pending w (w .chain ++ (0 ∷ []))) (sym e)
-        (label-pending w hw l₀ k q (d .others) labels-are first-inside third-inside (w .chain ++ (0 ∷ [])) _ three (λ u. three-is q refl u)
-        (emptied v w (d .ready .valid) hw (sym (d .geometryIs)) l₀ (d .others) (d .stays) (d .slotOnce) (d .slotIn) need (new .0)
-        (new .1 ∙ ap (λ (n : ℕ). take n (v .chain) ++ new .0) (sym need-free))
-        (oneSlot (cond few third 0)) (k ∷ oneSlot q)
-        (λ x. let a = old-slots x in let b = freed-in few third x in omega arith)
-        (λ x. let a = old-slots x in let b = first-in slot (getD d′ 0 0) x in let f = third-in few third (getD d′ (asks slot) 0) x in omega arith)
-        (λ x. let a = slots-w x in let b = two-slots x in let f = one-le x k in omega arith)
-        (λ x p z. subst (λ (y : Label). Rattle.change.proofs.Begin.Alike x (d .others) (insertLabel y (d .others))) (sym placed-is)
-        (alike-come x p (withSlots k q l₀) (let b = two-slots x in let f = one-le x k in omega arith) (d .others)))
-        t (d .ready .bytes))))
+    module _ (from at : ℕ) (reached : Reached t (take need c′) lo from at) (when : 1 ≤ from → was ≡ need) where
+      staying : Stay v w m need from at
+      staying =
+          stay v w (d .ready .valid) hw (sym (d .geometryIs)) m lo need (subst (λ (x : Geometry). Shows m lo (held x (v .labels))) (sym (d .geometryIs)) (d .below)) free-w from at
+          (subst (λ (x : List ℕ). Reached x (take need c′) lo from at) (d .ready .bytes) reached)
+          (λ p. sym read-chain ∙ ap₂ (λ (n : ℕ) (x : List ℕ). take n x) (when p) (sym (st .tail (let e = when p in omega arith))))
+          (λ p. sym (d .members) ∙ when p)
 
-    pub put-done : (freed first other : ℕ) (t₁ t₂ t₃ t₄ : List ℕ) → freed ≡ cond few third 0 → first ≡ k → other ≡ q
-        → t₁ ≡ cleared t (slice need was c′) → t₂ ≡ cleared t₁ (oneSlot freed) → t₃ ≡ labelPut g t₂ first other l₀ three
-        → t₄ ≡ fourPut g (fivesPut g t₃ (fives (take need c′) (freeFrom m (tracks g) 0))) (total (freeFrom s′ (slots g) 0))
-        → Becomes (settleWith v (d .others) l₀) t t₄ true
-    put-done freed first other t₁ t₂ t₃ t₄ f a b e₁ e₂ e₃ e₄ =
-        let two : t₂ ≡ cleared (cleared t (drop need (v .chain))) (oneSlot (cond few third 0))
-        = e₂ ∙ ap₂ (λ (y : List ℕ) (x : ℕ). cleared y (oneSlot x)) (e₁ ∙ ap (cleared t) (chain-tail c c′ (v .chain) was need (st .tail) read-chain (d .members))) f in
-        let three-done : t₃ ≡ labelPut g (cleared (cleared t (drop need (v .chain))) (oneSlot (cond few third 0))) k q l₀ three
-        = e₃ ∙ ap₂ (λ (x y : ℕ). labelPut g t₂ x y l₀ three) a b ∙ ap (λ (y : List ℕ). labelPut g y k q l₀ three) two in
-        record { full = λ x. clash refl x; same = λ x. clash refl x; done = λ x. (w, is-w, e₄ ∙ written t₃ three-done) }
+      written : (t₃ : List ℕ) → t₃ ≡ labelPut g (cleared (cleared t (drop need (v .chain))) (oneSlot (cond few third 0))) k q l₀ three
+          → fourPut g (fivesPut g t₃ (fives (drop from (take need c′)) (freeFrom m (tracks g) at))) (total (freeFrom s′ (slots g) 0)) ≡ encode w
+      written t₃ e =
+          let new = settled-chain g (v .chain) draft asked (λ js. insertLabel (placed js l) (d .others)) w start in
+          finished w hw from (freeFrom m (tracks g) at) t₃ (total (freeFrom s′ (slots g) 0)) (staying .rest)
+          (empty-of w s′ (λ x u. let a = given x u in let b = used-w x in omega arith))
+          (subst (Rattle.change.specs.Pending.Pending w (drop from (w .chain) ++ (0 ∷ []))) (sym e)
+          (label-pending w hw l₀ k q (d .others) labels-are first-inside third-inside (drop from (w .chain) ++ (0 ∷ [])) _ three (λ u. three-is q refl u)
+          (emptied v w (d .ready .valid) hw (sym (d .geometryIs)) l₀ (d .others) (d .stays) (d .slotOnce) (d .slotIn) need (new .0)
+          (new .1 ∙ ap (λ (n : ℕ). take n (v .chain) ++ new .0) (sym need-free))
+          (oneSlot (cond few third 0)) (k ∷ oneSlot q)
+          (λ x. let a = old-slots x in let b = freed-in few third x in omega arith)
+          (λ x. let a = old-slots x in let b = first-in slot (getD d′ 0 0) x in let f = third-in few third (getD d′ (asks slot) 0) x in omega arith)
+          (λ x. let a = slots-w x in let b = two-slots x in let f = one-le x k in omega arith)
+          (λ x p z. subst (λ (y : Label). Rattle.change.proofs.Begin.Alike x (d .others) (insertLabel y (d .others))) (sym placed-is)
+          (alike-come x p (withSlots k q l₀) (let b = two-slots x in let f = one-le x k in omega arith) (d .others)))
+          m from at staying t (d .ready .bytes))))
+
+      pub put-done : (freed first other : ℕ) (t₁ t₂ t₃ t₄ : List ℕ) → freed ≡ cond few third 0 → first ≡ k → other ≡ q
+          → t₁ ≡ cleared t (slice need was c′) → t₂ ≡ cleared t₁ (oneSlot freed) → t₃ ≡ labelPut g t₂ first other l₀ three
+          → t₄ ≡ fourPut g (fivesPut g t₃ (fives (drop from (take need c′)) (freeFrom m (tracks g) at))) (total (freeFrom s′ (slots g) 0))
+          → Becomes (settleWith v (d .others) l₀) t t₄ true
+      put-done freed first other t₁ t₂ t₃ t₄ f a b e₁ e₂ e₃ e₄ =
+          let two : t₂ ≡ cleared (cleared t (drop need (v .chain))) (oneSlot (cond few third 0))
+          = e₂ ∙ ap₂ (λ (y : List ℕ) (x : ℕ). cleared y (oneSlot x)) (e₁ ∙ ap (cleared t) (chain-tail c c′ (v .chain) was need (st .tail) read-chain (d .members))) f in
+          let three-done : t₃ ≡ labelPut g (cleared (cleared t (drop need (v .chain))) (oneSlot (cond few third 0))) k q l₀ three
+          = e₃ ∙ ap₂ (λ (x y : ℕ). labelPut g t₂ x y l₀ three) a b ∙ ap (λ (y : List ℕ). labelPut g y k q l₀ three) two in
+          record { full = λ x. clash refl x; same = λ x. clash refl x; done = λ x. (w, is-w, e₄ ∙ written t₃ three-done) }

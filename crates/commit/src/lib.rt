@@ -1,10 +1,11 @@
 // A data set put into a table, changed or taken out: the slots that this needs, and all records written. Nothing is written
 // where the slots are too few.
 use forms::Geometry;
+use writing::Place;
 ghost use mathlib.Core.Path.{_≡_};
 ghost use mathlib.Core.Bool.{cond};
 ghost use Prim.Native.Nat.{_+_, _*_, _≤_, _<_};
-ghost use lib.ListN.{length, take, getD};
+ghost use lib.ListN.{drop, length, take, getD};
 ghost use Rattle.model.specs.Model.{slots, total, tracks};
 ghost use Rattle.model.proofs.Lists.{All};
 ghost use Rattle.rules.specs.Layout.{fives};
@@ -12,7 +13,7 @@ ghost use Rattle.rules.specs.Slots.{asks, slotOr};
 ghost use Rattle.rules.proofs.Valid.{Limits};
 ghost use Rattle.tracks.specs.Map.{freeFrom};
 ghost use Rattle.forms.specs.Forms.{geometryOf};
-ghost use Rattle.writing.specs.Writing.{fivesPut, fourPut};
+ghost use Rattle.writing.specs.Writing.{Reached, fivesPut, fourPut};
 ghost use Rattle.commit.specs.Commit.{Committed, Draft, Gone, Left};
 
 // How many slots a record asks for: one where it has none.
@@ -69,34 +70,62 @@ fn third_slot(slot: usize, third: usize, few: bool, given: [u16; 2]) -> usize
     slot_or(third, given[0])
 }
 
-// Writes the chain of format 5s, and the format 4 last.
-fn finish(table: &mut [u8], g: Geometry, map: &[u64], empty: &[u64], chain: &[u16], need: usize)
-    requires { ⌜ Limits (geometryOf g) × (length (now table) ≡ 140 * slots (geometryOf g)) × (tracks (geometryOf g) ≤ 64 * length (now map)) × (length (now empty) ≡ 8) ⌝ }
-    requires { ⌜ (need ≤ length (now chain)) × All (λ k. k < slots (geometryOf g)) (take need (now chain)) ⌝ }
-    ensures { λ _. ⌜ now (table .exit) ≡ fourPut (geometryOf g) (fivesPut (geometryOf g) (now (table .entry)) (fives (take need (now (chain .entry))) (freeFrom (now (map .entry)) (tracks (geometryOf g)) 0))) (total (freeFrom (now (empty .entry)) (slots (geometryOf g)) 0)) ⌝ }
+// Where the chain begins to be written, if the tracks below `lo` stay as they are: behind the members that tell of these only;
+// with its first member where it gets longer or shorter.
+fn chain_from(
+    table: &[u8],
+    g: Geometry,
+    chain: &[u16],
+    was: usize,
+    need: usize,
+    lo: usize,
+) -> Place
+    requires { ⌜ Limits (geometryOf g) × (length (now table) ≡ 140 * slots (geometryOf g)) × (need ≤ length (now chain)) × All (λ k. k < slots (geometryOf g)) (take need (now chain)) ⌝ }
+    ensures { λ r. ⌜ Reached (now (table .entry)) (take need (now (chain .entry))) lo (r .from) (r .at) × (1 ≤ r .from → was ≡ need) ⌝ }
 {
-    writing::put_chain(table, g, map, chain, need);
+    if was != need {
+        return Place { from: 0, at: 0 };
+    }
+    writing::begin(table, g, chain, need, lo)
+}
+
+// Writes the chain of format 5s from that place on, and the format 4 last.
+fn finish(
+    table: &mut [u8],
+    g: Geometry,
+    map: &[u64],
+    empty: &[u64],
+    chain: &[u16],
+    need: usize,
+    place: Place,
+)
+    requires { ⌜ Limits (geometryOf g) × (length (now table) ≡ 140 * slots (geometryOf g)) × (tracks (geometryOf g) ≤ 64 * length (now map)) × (length (now empty) ≡ 8) ⌝ }
+    requires { ⌜ (need ≤ length (now chain)) × All (λ k. k < slots (geometryOf g)) (take need (now chain)) × (place .from ≤ need) × (place .at ≤ tracks (geometryOf g)) ⌝ }
+    ensures { λ _. ⌜ now (table .exit) ≡ fourPut (geometryOf g) (fivesPut (geometryOf g) (now (table .entry)) (fives (drop (place .from) (take need (now (chain .entry)))) (freeFrom (now (map .entry)) (tracks (geometryOf g)) (place .at)))) (total (freeFrom (now (empty .entry)) (slots (geometryOf g)) 0)) ⌝ }
+{
+    writing::put_chain(table, g, map, chain, need, place.from, place.at);
     let count = settling::count_free(empty, (g.tracks * g.records) as usize);
     writing::put_four(table, g, count);
 }
 
 // Puts a data set that is new or changed. It has the slots `slot` and `third`, 0 for none, and few extents, three or fewer, or
-// more; the maps show what is free beside it. False: VTOC full.
+// more; the maps show what is free beside it, and the tracks below `lo` are as they were. False: VTOC full.
 pub fn put_set(
     table: &mut [u8],
     g: Geometry,
     map: &[u64],
     empty: &mut [u64],
     was: usize,
+    lo: usize,
     slot: usize,
     third: usize,
     few: bool,
     one: [u8; 140],
     three: [u8; 140],
 ) -> bool
-    requires { ⌜ Limits (geometryOf g) × (length (now table) ≡ 140 * slots (geometryOf g)) × (tracks (geometryOf g) ≤ 64 * length (now map)) × (length (now empty) ≡ 8) × (was ≤ 468) × (slot < slots (geometryOf g)) × (third < slots (geometryOf g)) ⌝ }
-    requires { ⌜ Draft (geometryOf g) (now table) (now map) (now empty) was slot third few one three ⌝ }
-    ensures { λ r. ⌜ ((d : Draft (geometryOf g) (now (table .entry)) (now (map .entry)) (now (empty .entry)) was slot third few one three) → Committed d (now (table .exit)) r) ⌝ }
+    requires { ⌜ Limits (geometryOf g) × (length (now table) ≡ 140 * slots (geometryOf g)) × (tracks (geometryOf g) ≤ 64 * length (now map)) × (length (now empty) ≡ 8) × (was ≤ 468) × (lo ≤ tracks (geometryOf g)) × (slot < slots (geometryOf g)) × (third < slots (geometryOf g)) ⌝ }
+    requires { ⌜ Draft (geometryOf g) (now table) (now map) (now empty) was lo slot third few one three ⌝ }
+    ensures { λ r. ⌜ ((d : Draft (geometryOf g) (now (table .entry)) (now (map .entry)) (now (empty .entry)) was lo slot third few one three) → Committed d (now (table .exit)) r) ⌝ }
 {
     let n = (g.tracks * g.records) as usize;
     let mut chain = [0u16; 468];
@@ -108,28 +137,31 @@ pub fn put_set(
     if settling::settle(empty, n, &mut chain, was, need, &mut given, asked) {} else {
         return false;
     }
+    let place = chain_from(table, g, &chain, was, need, lo);
     writing::clear(table, &chain, need, was);
     writing::clear_slot(table, if_few(few, third));
     let first = slot_or(slot, given[0]);
     let other = third_slot(slot, third, few, given);
     writing::put_label(table, g, first, other, one, three);
-    finish(table, g, map, empty, &chain, need);
+    finish(table, g, map, empty, &chain, need, place);
     true
 }
 
-// Takes a data set out: its slots are zeros then. The maps show what is free without it.
+// Takes a data set out: its slots are zeros then. The maps show what is free without it; the tracks below `lo` are as they
+// were.
 pub fn drop_set(
     table: &mut [u8],
     g: Geometry,
     map: &[u64],
     empty: &mut [u64],
     was: usize,
+    lo: usize,
     slot: usize,
     third: usize,
 ) -> bool
-    requires { ⌜ Limits (geometryOf g) × (length (now table) ≡ 140 * slots (geometryOf g)) × (tracks (geometryOf g) ≤ 64 * length (now map)) × (length (now empty) ≡ 8) × (was ≤ 468) × (slot < slots (geometryOf g)) × (third < slots (geometryOf g)) ⌝ }
-    requires { ⌜ Left (geometryOf g) (now table) (now map) (now empty) was slot third ⌝ }
-    ensures { λ r. ⌜ ((d : Left (geometryOf g) (now (table .entry)) (now (map .entry)) (now (empty .entry)) was slot third) → Gone d (now (table .exit)) r) ⌝ }
+    requires { ⌜ Limits (geometryOf g) × (length (now table) ≡ 140 * slots (geometryOf g)) × (tracks (geometryOf g) ≤ 64 * length (now map)) × (length (now empty) ≡ 8) × (was ≤ 468) × (lo ≤ tracks (geometryOf g)) × (slot < slots (geometryOf g)) × (third < slots (geometryOf g)) ⌝ }
+    requires { ⌜ Left (geometryOf g) (now table) (now map) (now empty) was lo slot third ⌝ }
+    ensures { λ r. ⌜ ((d : Left (geometryOf g) (now (table .entry)) (now (map .entry)) (now (empty .entry)) was lo slot third) → Gone d (now (table .exit)) r) ⌝ }
 {
     let n = (g.tracks * g.records) as usize;
     let mut chain = [0u16; 468];
@@ -140,9 +172,10 @@ pub fn drop_set(
     if settling::settle(empty, n, &mut chain, was, need, &mut given, 0) {} else {
         return false;
     }
+    let place = chain_from(table, g, &chain, was, need, lo);
     writing::clear(table, &chain, need, was);
     writing::clear_slot(table, slot);
     writing::clear_slot(table, third);
-    finish(table, g, map, empty, &chain, need);
+    finish(table, g, map, empty, &chain, need, place);
     true
 }

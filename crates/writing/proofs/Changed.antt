@@ -2,7 +2,7 @@
 use mathlib.Core.Path.{_≡_, refl, sym, ap, ap₂, _∙_, subst}
 use mathlib.Core.Bool.{cond}
 use mathlib.Core.List.{List, [], _∷_, _++_}
-use Prim.Native.Nat.{ℕ, zero, suc, _≤_, _<_}
+use Prim.Native.Nat.{ℕ, zero, suc, _*_, _≤_, _<_}
 use native.Mathlib.Nat.{lt-of-not-le}
 use native.Mathlib.Decide.{decLe}
 use native.Mathlib.Omega.{arith}
@@ -11,7 +11,7 @@ use lib.Dec.{eqb}
 use borrow.Author.Tests.{eq-eqb, ne-eqb}
 use Rattle.model.specs.Basics.{bit, zeros}
 use Rattle.model.specs.Model.{Geometry, Label, Run, Volume, format0s, free, oneSlot, slots, tally, used}
-use Rattle.model.proofs.Lists.{All, by, sum-append}
+use Rattle.model.proofs.Lists.{All, All-drop, by, sum-append}
 use Rattle.rules.specs.Layout.{encode, fives, format1, format3, format4, format5, headOr0, highest, records}
 use Rattle.rules.specs.Reading.{read, readGeometry}
 use Rattle.rules.specs.Slots.{insertLabel, withSlots}
@@ -27,6 +27,7 @@ use Rattle.spare.specs.Spare.{highestSlot}
 use Rattle.table_check.specs.Check.{volumeAt}
 use Rattle.table_check.proofs.Read.{highest-is, volume-is}
 use Rattle.change.specs.Pending.{Pending, recordOf}
+use Rattle.change.proofs.Kept.{fives-drop}
 use Rattle.change.proofs.Laws.{fives-of, label-of, length-of, put-all, put-slot, slot-of, zeros-of}
 use Rattle.writing.specs.Writing.{cleared, fivesPut, fourPut, labelPut, putThird}
 
@@ -87,10 +88,15 @@ module _ (w : Volume) (v : Valid w) where
     all-below n ks (λ j u. let z = h j u in omega arith),
   )
 
-  pub chain-pending : (f : List Run) (ps t : List ℕ) → f ≡ free g (w .labels) → Pending w (w .chain ++ ps) t → Pending w ps (fivesPut g t (fives (w .chain) f))
-  chain-pending f ps t e p =
-      chain-go (w .chain) f ps t (subst (λ (x : List Run). All (FiveOk g (records w)) (fives (w .chain) x)) (sym e) (fives-of w v))
-      (all-below (slots g) (w .chain) (λ k u. let a = v .slotIn k u in let b = used-tally (w .labels) (w .chain) k in omega arith)) p
+  -- from member number i on
+  pub chain-pending : (i : ℕ) (f : List Run) (ps t : List ℕ) → f ≡ drop (26 * i) (free g (w .labels)) → Pending w (drop i (w .chain) ++ ps) t
+      → Pending w ps (fivesPut g t (fives (drop i (w .chain)) f))
+  chain-pending i f ps t e p =
+      chain-go (drop i (w .chain)) f ps t
+      (subst (All (FiveOk g (records w))) (sym (ap (fives (drop i (w .chain))) e ∙ fives-drop i (w .chain) (free g (w .labels))))
+      (All-drop (FiveOk g (records w)) i (fives (w .chain) (free g (w .labels))) (fives-of w v)))
+      (All-drop (λ k. k < slots g) i (w .chain)
+      (all-below (slots g) (w .chain) (λ k u. let a = v .slotIn k u in let b = used-tally (w .labels) (w .chain) k in omega arith))) p
 
   -- ---- the format 4
 

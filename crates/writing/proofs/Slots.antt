@@ -6,19 +6,19 @@ use native.Mathlib.Numerals.{add-one}
 use native.Mathlib.Omega.{arith}
 use lib.ListN.{length, take, drop, getD, length-take, drop-of-length-le, List·getD-eq-default}
 use lib.Seq.{drop-cons, getD-take, slice, slice-cons}
-use Rattle.model.specs.Basics.{zeros}
+use Rattle.model.specs.Basics.{get2, zeros}
 use Rattle.model.specs.Model.{Geometry, Label, Run, oneSlot, tracks}
 use Rattle.model.proofs.Lists.{All}
 use Rattle.rules.specs.Layout.{fives, format5, headOr0}
 use Rattle.rules.specs.Slots.{withSlots}
 use Rattle.tracks.specs.Map.{freeFrom}
-use Rattle.fields.specs.Records.{putRecord}
+use Rattle.fields.specs.Records.{putRecord, slotBytes}
 use Rattle.fields.proofs.Rows.{rest}
 use Rattle.fields.proofs.Slots.{put-length}
 use Rattle.records.specs.Fives.{Fills}
 use Rattle.records.proofs.Format5.{five-long}
 use Rattle.labels.specs.Labels.{Format1}
-use Rattle.writing.specs.Writing.{chainEntry, cleared, fivesPut, labelPut}
+use Rattle.writing.specs.Writing.{Reached, chainEntry, cleared, fivesPut, labelPut}
 
 -- ---- zeros
 
@@ -84,14 +84,14 @@ pub entry-past : (c : List ℕ) (i n : ℕ) → n ≤ i → 0 ≡ chainEntry (ta
 unfolding chainEntry
 entry-past c i n u = sym (List·getD-eq-default (take n c) 0 {n = i} (let e = length-take n c in omega arith))
 
-pub record Chaining (g : Geometry) (m ks t₀ t : List ℕ) (at i : ℕ) : Type 0 where
+pub record Chaining (g : Geometry) (m ks t₀ t : List ℕ) (from start at i : ℕ) : Type 0 where
   pub upTo : i ≤ length ks
   pub atUp : at ≤ tracks g
   pub long : length t ≡ length t₀
-  pub rest : fivesPut g t (fives (drop i ks) (freeFrom m (tracks g) at)) ≡ fivesPut g t₀ (fives ks (freeFrom m (tracks g) 0))
+  pub rest : fivesPut g t (fives (drop i ks) (freeFrom m (tracks g) at)) ≡ fivesPut g t₀ (fives (drop from ks) (freeFrom m (tracks g) start))
 
-pub chain-begin : (g : Geometry) (m ks t : List ℕ) → Chaining g m ks t t 0 0
-chain-begin g m ks t = record { upTo = omega arith; atUp = omega arith; long = refl; rest = refl }
+pub chain-begin : (g : Geometry) (m ks t : List ℕ) (from start : ℕ) → from ≤ length ks → start ≤ tracks g → Chaining g m ks t t from start start from
+chain-begin g m ks t from start u v = record { upTo = u; atUp = v; long = refl; rest = refl }
 
 entry-is : (ks : List ℕ) (i : ℕ) → getD ks i 0 ≡ chainEntry ks i
 unfolding chainEntry
@@ -115,7 +115,7 @@ one-more : (g : Geometry) (t : List ℕ) (k : ℕ) (ks : List ℕ) (f : List Run
 unfolding fivesPut
 one-more g t k ks f = refl
 
-module _ (g : Geometry) (m ks t₀ t : List ℕ) (at i : ℕ) (s : Chaining g m ks t₀ t at i) (u : i < length ks)
+module _ (g : Geometry) (m ks t₀ t : List ℕ) (from start at i : ℕ) (s : Chaining g m ks t₀ t from start at i) (u : i < length ks)
     (made linked : List ℕ) (next : ℕ) (f : Fills g m (tracks g) at made next)
     (l : (f : List Run) (old : ℕ) → made ≡ format5 g f old → linked ≡ format5 g f (chainEntry ks (i + 1))) where
   abbrev free : List Run
@@ -124,7 +124,7 @@ module _ (g : Geometry) (m ks t₀ t : List ℕ) (at i : ℕ) (s : Chaining g m 
   is-linked : linked ≡ format5 g (take 26 free) (chainEntry ks (i + 1))
   is-linked = l (take 26 free) 0 (f .bytes)
 
-  pub chain-next : 140 * chainEntry ks i + 140 ≤ length t → Chaining g m ks t₀ (putRecord t (chainEntry ks i) linked) next (i + 1)
+  pub chain-next : 140 * chainEntry ks i + 140 ≤ length t → Chaining g m ks t₀ (putRecord t (chainEntry ks i) linked) from start next (i + 1)
   chain-next fits =
       record {
         upTo = omega arith;
@@ -136,7 +136,7 @@ module _ (g : Geometry) (m ks t₀ t : List ℕ) (at i : ℕ) (s : Chaining g m 
       first : drop i ks ≡ chainEntry ks i ∷ drop (i + 1) ks
       first = drop-cons ks i 0 u ∙ ap (λ (k : ℕ). k ∷ drop (suc i) ks) (entry-is ks i) ∙ ap (λ (j : ℕ). chainEntry ks i ∷ drop j ks) (sym (add-one i))
 
-      rest-law : fivesPut g (putRecord t (chainEntry ks i) linked) (fives (drop (i + 1) ks) (freeFrom m (tracks g) next)) ≡ fivesPut g t₀ (fives ks (freeFrom m (tracks g) 0))
+      rest-law : fivesPut g (putRecord t (chainEntry ks i) linked) (fives (drop (i + 1) ks) (freeFrom m (tracks g) next)) ≡ fivesPut g t₀ (fives (drop from ks) (freeFrom m (tracks g) start))
       rest-law =
           ap (λ (r : List ℕ). fivesPut g (putRecord t (chainEntry ks i) r) (fives (drop (i + 1) ks) (freeFrom m (tracks g) next)))
           (is-linked ∙ ap (format5 g (take 26 free)) (sym (head-is ks (i + 1))))
@@ -145,6 +145,22 @@ module _ (g : Geometry) (m ks t₀ t : List ℕ) (at i : ℕ) (s : Chaining g m 
           ∙ ap (λ (x : List ℕ). fivesPut g t (fives x free)) (sym first)
           ∙ s .rest
 
-pub chain-end : (g : Geometry) (m ks t₀ t : List ℕ) (at i : ℕ) → Chaining g m ks t₀ t at i → length ks ≤ i → t ≡ fivesPut g t₀ (fives ks (freeFrom m (tracks g) 0))
+pub chain-end : (g : Geometry) (m ks t₀ t : List ℕ) (from start at i : ℕ) → Chaining g m ks t₀ t from start at i → length ks ≤ i
+    → t ≡ fivesPut g t₀ (fives (drop from ks) (freeFrom m (tracks g) start))
 unfolding fivesPut
-chain-end g m ks t₀ t at i s u = ap (λ (x : List ℕ). fivesPut g t (fives x (freeFrom m (tracks g) at))) (sym (drop-of-length-le ks {i = i} u)) ∙ s .rest
+chain-end g m ks t₀ t from start at i s u = ap (λ (x : List ℕ). fivesPut g t (fives x (freeFrom m (tracks g) at))) (sym (drop-of-length-le ks {i = i} u)) ∙ s .rest
+
+-- ---- where it begins to be written
+
+pub reached-first : (t ks : List ℕ) (lo : ℕ) → Reached t ks lo 0 0
+reached-first t ks lo = record { none = λ _. refl; inside = λ u. absurd (omega arith); start = λ u. absurd (omega arith); low = λ u. absurd (omega arith) }
+
+pub reached-next : (t c rec : List ℕ) (n lo i k start : ℕ) → n ≤ length c → i + 1 < n → k ≡ chainEntry (take n c) (i + 1) → rec ≡ slotBytes t k → start ≡ get2 rec 4 → start ≤ lo
+    → Reached t (take n c) lo (i + 1) start
+reached-next t c rec n lo i k start l u ek er es v =
+    record {
+      none = λ z. absurd (omega arith);
+      inside = λ _. let q = length-take n c in omega arith;
+      start = λ _. es ∙ ap (λ (r : List ℕ). get2 r 4) (er ∙ ap (slotBytes t) ek);
+      low = λ _. v;
+    }

@@ -1,12 +1,13 @@
 -- A table with slots written one after the other. Assumes nothing.
-use Prim.Native.Nat.{ℕ, zero, suc}
+use Prim.Native.Nat.{ℕ, zero, suc, _≤_, _<_}
+use mathlib.Core.Path.{_≡_}
 use mathlib.Core.List.{List, [], _∷_}
-use lib.ListN.{getD}
-use Rattle.model.specs.Basics.{zeros}
+use lib.ListN.{getD, length}
+use Rattle.model.specs.Basics.{get2, zeros}
 use Rattle.model.specs.Model.{Geometry, Label, slots}
 use Rattle.rules.specs.Layout.{Five, format1, format4, format5}
 use Rattle.rules.specs.Slots.{withSlots}
-use Rattle.fields.specs.Records.{putRecord}
+use Rattle.fields.specs.Records.{putRecord, slotBytes}
 use Rattle.spare.specs.Spare.{highestSlot}
 
 -- zeros in the slots ks
@@ -26,6 +27,13 @@ labelPut g t k q l three = putThird (putRecord t k (format1 g (withSlots k q l))
 -- member number i of a chain, 0 behind its end
 unfoldable pub chainEntry : List ℕ → ℕ → ℕ
 chainEntry ks i = getD ks i 0
+
+-- member number `from` of the chain ks in table t, whose first free extent starts at track `at`, lo or before; or the first
+pub record Reached (t ks : List ℕ) (lo from at : ℕ) : Type 0 where
+  pub none : from ≡ 0 → at ≡ 0
+  pub inside : 1 ≤ from → from < length ks
+  pub start : 1 ≤ from → at ≡ get2 (slotBytes t (chainEntry ks from)) 4
+  pub low : 1 ≤ from → at ≤ lo
 
 -- the format 5s in their slots
 unfoldable pub fivesPut : Geometry → List ℕ → List Five → List ℕ

@@ -2,7 +2,7 @@
 use forms::Geometry;
 ghost use mathlib.Core.Path.{_≡_};
 ghost use Prim.Native.Nat.{_+_, _*_, _≤_, _<_};
-ghost use lib.ListN.{length, take};
+ghost use lib.ListN.{drop, length, take};
 ghost use lib.Seq.{slice};
 ghost use Rattle.model.specs.Model.{Label, oneSlot, slots, tracks};
 ghost use Rattle.model.proofs.Lists.{All};
@@ -11,7 +11,7 @@ ghost use Rattle.rules.proofs.Valid.{Limits};
 ghost use Rattle.tracks.specs.Map.{freeFrom};
 ghost use Rattle.forms.specs.Forms.{geometryOf};
 ghost use Rattle.labels.specs.Labels.{Format1};
-ghost use Rattle.writing.specs.Writing.{chainEntry, cleared, fivesPut, fourPut, labelPut};
+ghost use Rattle.writing.specs.Writing.{Reached, chainEntry, cleared, fivesPut, fourPut, labelPut};
 
 // A slot's number as an index.
 fn wide(k: u16) -> usize
@@ -75,15 +75,50 @@ fn member(chain: &[u16], i: usize, n: usize) -> usize
     0
 }
 
-// Puts the format 5s: the free extents that the map shows, into the first n slots of the chain.
-pub fn put_chain(table: &mut [u8], g: Geometry, map: &[u64], chain: &[u16], n: usize)
-    requires { ⌜ Limits (geometryOf g) × (length (now table) ≡ 140 * slots (geometryOf g)) × (tracks (geometryOf g) ≤ 64 * length (now map)) ⌝ }
-    requires { ⌜ (n ≤ length (now chain)) × All (λ k. k < slots (geometryOf g)) (take n (now chain)) ⌝ }
-    ensures { λ _. ⌜ now (table .exit) ≡ fivesPut (geometryOf g) (now (table .entry)) (fives (take n (now (chain .entry))) (freeFrom (now (map .entry)) (tracks (geometryOf g)) 0)) ⌝ }
+// Where a chain begins to be written: the number of the member, and the track whose free extents are the first there.
+pub struct Place {
+    pub from: usize,
+    pub at: usize,
+}
+
+// The last of the n members of a chain whose first free extent starts at track `lo` or before: those before it tell of tracks
+// below `lo` only. It reads two bytes of a member.
+pub fn begin(table: &[u8], g: Geometry, chain: &[u16], n: usize, lo: usize) -> Place
+    requires { ⌜ Limits (geometryOf g) × (length (now table) ≡ 140 * slots (geometryOf g)) × (n ≤ length (now chain)) × All (λ k. k < slots (geometryOf g)) (take n (now chain)) ⌝ }
+    ensures { λ r. ⌜ Reached (now (table .entry)) (take n (now (chain .entry))) lo (r .from) (r .at) ⌝ }
 {
-    let t = (g.cylinders * g.heads) as usize;
     let mut at: usize = 0;
     let mut i: usize = 0;
+    while i + 1 < n {
+        let rec = fields::record_at(table, member(chain, i + 1, n));
+        let start = fields::two(rec, 4) as usize;
+        if start > lo {
+            return Place { from: i, at };
+        }
+        at = start;
+        i += 1;
+    }
+    Place { from: i, at }
+}
+
+// Puts the format 5s: the free extents that the map shows from track `start` on, into the first n slots of the chain, from
+// member number `from` on.
+pub fn put_chain(
+    table: &mut [u8],
+    g: Geometry,
+    map: &[u64],
+    chain: &[u16],
+    n: usize,
+    from: usize,
+    start: usize,
+)
+    requires { ⌜ Limits (geometryOf g) × (length (now table) ≡ 140 * slots (geometryOf g)) × (tracks (geometryOf g) ≤ 64 * length (now map)) ⌝ }
+    requires { ⌜ (n ≤ length (now chain)) × All (λ k. k < slots (geometryOf g)) (take n (now chain)) × (from ≤ n) × (start ≤ tracks (geometryOf g)) ⌝ }
+    ensures { λ _. ⌜ now (table .exit) ≡ fivesPut (geometryOf g) (now (table .entry)) (fives (drop from (take n (now (chain .entry)))) (freeFrom (now (map .entry)) (tracks (geometryOf g)) start)) ⌝ }
+{
+    let t = (g.cylinders * g.heads) as usize;
+    let mut at = start;
+    let mut i = from;
     while i < n {
         let filled = records::five(map, t, at, g);
         let made = filled.rec;

@@ -18,10 +18,10 @@ use Rattle.forms.specs.Forms.{geometryOf}
 use Rattle.writing.proofs.Slots.{Chaining, chain-begin, chain-end, chain-next, entry-below}
 
 abbrev Inv-loop : tie.InvT-loop
-Inv-loop table₀ g map chain n t at₀ i₀ table at i = Chaining (geometryOf g) map (take n chain) table₀ table at i
+Inv-loop table₀ g map chain n from start t at₀ i₀ table at i = Chaining (geometryOf g) map (take n chain) table₀ table from start at i
 
 abbrev μ-loop : tie.MeasureT-loop
-μ-loop table₀ g map chain n t at₀ i₀ table at i = n - i
+μ-loop table₀ g map chain n from start t at₀ i₀ table at i = n - i
 
 -- src/lib.rt:72:14
 mul-t : tie.Need-mul-t Inv-loop μ-loop
@@ -33,7 +33,7 @@ cast-t c = search needs
 
 -- src/lib.rt:75:5
 loop-holds : tie.Need-loop-holds Inv-loop μ-loop
-loop-holds c = chain-begin (geometryOf (c .before .before .before .before .args .g)) (c .before .before .before .before .args .map .now) (take (c .before .before .before .before .args .n) (c .before .before .before .before .args .chain .now)) (c .before .before .before .before .args .table .now)
+loop-holds c = chain-begin (geometryOf (c .before .before .before .before .args .g)) (c .before .before .before .before .args .map .now) (take (c .before .before .before .before .args .n) (c .before .before .before .before .args .chain .now)) (c .before .before .before .before .args .table .now) (c .before .before .before .before .args .from) (c .before .before .before .before .args .start) (let l = length-take (c .before .before .before .before .args .n) (c .before .before .before .before .args .chain .now) in let q = c .before .before .before .before .pre .1 .0 in omega (arith, c .before .before .before .before .pre .1 .2)) (c .before .before .before .before .pre .1 .3)
 
 -- src/lib.rt:76:13
 five-requires : tie.Need-five-requires Inv-loop μ-loop
@@ -69,7 +69,7 @@ loop-less c = let l = length-take (c .before .before .before .before .before .be
 
 -- src/lib.rt:75:5
 loop-again : tie.Need-loop-again Inv-loop μ-loop
-loop-again c = let b = entry-below (slots (geometryOf (c .before .before .before .before .before .before .before .before .before .before .before .before .before .before .before .before .args .g))) (take (c .before .before .before .before .before .before .before .before .before .before .before .before .before .before .before .before .args .n) (c .before .before .before .before .before .before .before .before .before .before .before .before .before .before .before .before .args .chain .now)) (c .before .before .before .before .before .before .before .before .before .before .before .loop .i) (omega (arith, c .before .before .before .before .before .before .before .before .before .before .before .before .before .before .before .before .pre .0 .0 .least)) (c .before .before .before .before .before .before .before .before .before .before .before .before .before .before .before .before .pre .1 .1) in let v = c .before .before .before .before .before .before .before .before .before .before .before .loop .inv .long in let m = c .before .before .before .before .before .before .before .before .before .before .before .before .before .before .before .before .pre .0 .1 in rw (c .before .before .put-record .ensures, c .before .before .before .before .member2 .ensures) (chain-next (geometryOf (c .before .before .before .before .before .before .before .before .before .before .before .before .before .before .before .before .args .g)) (c .before .before .before .before .before .before .before .before .before .before .before .before .before .before .before .before .args .map .now) (take (c .before .before .before .before .before .before .before .before .before .before .before .before .before .before .before .before .args .n) (c .before .before .before .before .before .before .before .before .before .before .before .before .before .before .before .before .args .chain .now)) (c .before .before .before .before .before .before .before .before .before .before .before .before .before .before .before .before .args .table .now) (c .before .before .before .before .before .before .before .before .before .before .before .loop .table) (c .before .before .before .before .before .before .before .before .before .before .before .loop .at) (c .before .before .before .before .before .before .before .before .before .before .before .loop .i) (c .before .before .before .before .before .before .before .before .before .before .before .loop .inv) (let l = length-take (c .before .before .before .before .before .before .before .before .before .before .before .before .before .before .before .before .args .n) (c .before .before .before .before .before .before .before .before .before .before .before .before .before .before .before .before .args .chain .now) in let q = c .before .before .before .before .before .before .before .before .before .before .before .before .before .before .before .before .pre .1 .0 in omega arith) (c .before .before .before .before .before .before .before .before .before .five .result .rec) (c .before .before .before .before .before .before .with-next .result) (c .before .before .before .before .before .before .before .before .before .five .result .next) (c .before .before .before .before .before .before .before .before .before .five .ensures) (λ f old e. c .before .before .before .before .before .before .with-next .ensures f old e ∙ ap (format5 (geometryOf (c .before .before .before .before .before .before .before .before .before .before .before .before .before .before .before .before .args .g)) f) (c .before .before .before .before .before .before .before .member .ensures)) (omega arith))
+loop-again c = let b = entry-below (slots (geometryOf (c .before .before .before .before .before .before .before .before .before .before .before .before .before .before .before .before .args .g))) (take (c .before .before .before .before .before .before .before .before .before .before .before .before .before .before .before .before .args .n) (c .before .before .before .before .before .before .before .before .before .before .before .before .before .before .before .before .args .chain .now)) (c .before .before .before .before .before .before .before .before .before .before .before .loop .i) (omega (arith, c .before .before .before .before .before .before .before .before .before .before .before .before .before .before .before .before .pre .0 .0 .least)) (c .before .before .before .before .before .before .before .before .before .before .before .before .before .before .before .before .pre .1 .1) in let v = c .before .before .before .before .before .before .before .before .before .before .before .loop .inv .long in let m = c .before .before .before .before .before .before .before .before .before .before .before .before .before .before .before .before .pre .0 .1 in rw (c .before .before .put-record .ensures, c .before .before .before .before .member2 .ensures) (chain-next (geometryOf (c .before .before .before .before .before .before .before .before .before .before .before .before .before .before .before .before .args .g)) (c .before .before .before .before .before .before .before .before .before .before .before .before .before .before .before .before .args .map .now) (take (c .before .before .before .before .before .before .before .before .before .before .before .before .before .before .before .before .args .n) (c .before .before .before .before .before .before .before .before .before .before .before .before .before .before .before .before .args .chain .now)) (c .before .before .before .before .before .before .before .before .before .before .before .before .before .before .before .before .args .table .now) (c .before .before .before .before .before .before .before .before .before .before .before .loop .table) (c .before .before .before .before .before .before .before .before .before .before .before .before .before .before .before .before .args .from) (c .before .before .before .before .before .before .before .before .before .before .before .before .before .before .before .before .args .start) (c .before .before .before .before .before .before .before .before .before .before .before .loop .at) (c .before .before .before .before .before .before .before .before .before .before .before .loop .i) (c .before .before .before .before .before .before .before .before .before .before .before .loop .inv) (let l = length-take (c .before .before .before .before .before .before .before .before .before .before .before .before .before .before .before .before .args .n) (c .before .before .before .before .before .before .before .before .before .before .before .before .before .before .before .before .args .chain .now) in let q = c .before .before .before .before .before .before .before .before .before .before .before .before .before .before .before .before .pre .1 .0 in omega arith) (c .before .before .before .before .before .before .before .before .before .five .result .rec) (c .before .before .before .before .before .before .with-next .result) (c .before .before .before .before .before .before .before .before .before .five .result .next) (c .before .before .before .before .before .before .before .before .before .five .ensures) (λ f old e. c .before .before .before .before .before .before .with-next .ensures f old e ∙ ap (format5 (geometryOf (c .before .before .before .before .before .before .before .before .before .before .before .before .before .before .before .before .args .g)) f) (c .before .before .before .before .before .before .before .member .ensures)) (omega arith))
 
 -- src/lib.rt:67:1
 same-length : tie.Need-same-length Inv-loop μ-loop
@@ -77,7 +77,7 @@ same-length c = c .before .loop .inv .long
 
 -- src/lib.rt:67:1
 returns : tie.Need-returns Inv-loop μ-loop
-returns c = chain-end (geometryOf (c .before .before .before .before .before .before .args .g)) (c .before .before .before .before .before .before .args .map .now) (take (c .before .before .before .before .before .before .args .n) (c .before .before .before .before .before .before .args .chain .now)) (c .before .before .before .before .before .before .args .table .now) (c .before .loop .table) (c .before .loop .at) (c .before .loop .i) (c .before .loop .inv) (let l = length-take (c .before .before .before .before .before .before .args .n) (c .before .before .before .before .before .before .args .chain .now) in omega arith)
+returns c = chain-end (geometryOf (c .before .before .before .before .before .before .args .g)) (c .before .before .before .before .before .before .args .map .now) (take (c .before .before .before .before .before .before .args .n) (c .before .before .before .before .before .before .args .chain .now)) (c .before .before .before .before .before .before .args .table .now) (c .before .loop .table) (c .before .before .before .before .before .before .args .from) (c .before .before .before .before .before .before .args .start) (c .before .loop .at) (c .before .loop .i) (c .before .loop .inv) (let l = length-take (c .before .before .before .before .before .before .args .n) (c .before .before .before .before .before .before .args .chain .now) in omega arith)
 
 pub put-chain-spec : {M : Type 1} → statement M
 put-chain-spec =
