@@ -8,11 +8,12 @@ use native.Mathlib.Omega.{arith}
 use lib.Dec.{T, eqb, leb, leb→le, ltb, ltb→lt}
 use lib.ListN.{length}
 use Rattle.model.specs.Basics.{bit}
-use Rattle.model.specs.Model.{Geometry, Label, Volume, held, oneSlot, runsOf, slots, slotsOf, tally, total, tracks, used}
+use Rattle.model.specs.Model.{Geometry, Label, Volume, held, oneSlot, runsOf, slots, slotsOf, tally, times, total, tracks, used}
 use Rattle.model.proofs.Lists.{and-l, and-r, sum-append, true-is}
 use Rattle.rules.specs.Calls.{accept, answer, givenBack, goodTtr, release, release₁, rule, settled, unless}
 use Rattle.rules.specs.Entries.{lent, result, written}
 use Rattle.rules.specs.Slots.{kept3, settleWith, without}
+use Rattle.rules.proofs.Cut.{keep-times}
 use Rattle.rules.proofs.Grants.{release-keeps}
 use Rattle.rules.proofs.Kept.{Keeps}
 use Rattle.rules.proofs.Settle.{used-tally}
@@ -21,7 +22,7 @@ use Rattle.tracks.specs.Map.{Shows}
 use Rattle.tracks.proofs.Held.{shows-same}
 use Rattle.label_check.specs.Marks.{units}
 use Rattle.commit.specs.Commit.{Committed, Draft}
-use Rattle.commit.proofs.Sets.{held-apart, held-front, others-stay, slots-inside, slots-once, slots-shown, used-apart}
+use Rattle.commit.proofs.Sets.{held-apart, held-front, others-stay, shows-below, slots-inside, slots-once, slots-shown, used-apart}
 use Rattle.set_change.specs.Change.{extentsIn}
 use Rattle.set_at.proofs.Laws.{Known}
 use Rattle.giving.specs.Giving.{At, FreedSlot, Measures}
@@ -70,7 +71,7 @@ module _ (g : Geometry) (t m s : List ℕ) (k : ℕ) (d : At g t m s k) (ttr : �
   abbrev l₀ : Label
   l₀ = shorter ttr l
 
-  module _ (one three : List ℕ) (count third all was : ℕ) (x : Measures g v l one three count third all was) where
+  module _ (one three : List ℕ) (count third all low was : ℕ) (x : Measures g v l one three count third all low was) where
     pub bad-ttr : (a : List ℕ) → goodTtr ttr all ≡ false → result 12 (lent t a []) ≡ written (lent t a []) (release₁ v (d .name) ttr (some l))
     bad-ttr a h =
         let q : goodTtr ttr (total (runsOf l)) ≡ false = ap (goodTtr ttr) (sym (x .sum)) ∙ h in
@@ -83,11 +84,14 @@ module _ (g : Geometry) (t m s : List ℕ) (k : ℕ) (d : At g t m s k) (ttr : �
       rule-is : release₁ v (d .name) ttr (some l) ≡ settled (givenBack (total (runsOf l) - (ttr / 256 + 1))) (settleWith v others l₀)
       rule-is = ap (λ (b : Bool). unless b 12 (settled (givenBack (total (runsOf l) - (ttr / 256 + 1))) (settleWith v others l₀))) good
 
-      pub tracks-shown : Shows m′ (tracks g) (held g (kept3 l₀ ∷ others))
-      tracks-shown =
+      pub all-shown : Shows m′ (tracks g) (runsOf l₀ ++ held g others)
+      all-shown =
           let a : Shows m (tracks (v .geometry)) (runsOf l ++ held (v .geometry) others) = shows-same m (tracks (v .geometry)) (held (v .geometry) (v .labels)) (runsOf l ++ held (v .geometry) others) (λ t u. held-apart v (d .ready .valid) (d .name) l (d .it .same) t) (d .shown .freeTracks) in
           let b : Shows m (tracks g) (runsOf l ++ held g others) = subst (λ (y : Geometry). Shows m (tracks y) (runsOf l ++ held y others)) (sym (d .geometryIs)) a in
-          shows-same m′ (tracks g) (runsOf l₀ ++ held g others) (held g (kept3 l₀ ∷ others)) (λ t u. held-front g (kept3 l₀) others t) (y .held (tracks g) (held g others) b)
+          y .held (tracks g) (held g others) b
+
+      pub tracks-shown : Shows m′ (tracks g) (held g (kept3 l₀ ∷ others))
+      tracks-shown = shows-same m′ (tracks g) (runsOf l₀ ++ held g others) (held g (kept3 l₀ ∷ others)) (λ t u. held-front g (kept3 l₀) others t) all-shown
 
       tallies : (i : ℕ) → tally i (used (v .labels) (v .chain)) ≡ tally i (oneSlot q ++ used (kept3 l₀ ∷ others) (v .chain))
       tallies i =
@@ -116,7 +120,7 @@ module _ (g : Geometry) (t m s : List ℕ) (k : ℕ) (d : At g t m s k) (ttr : �
           z .valid
 
       -- what `put_set` asks
-      abbrev pub draft : Draft g t m′ s′ was k third few one₂ three₂
+      abbrev pub draft : Draft g t m′ s′ was low k third few one₂ three₂
       draft =
           record {
             volume = v;
@@ -129,6 +133,10 @@ module _ (g : Geometry) (t m s : List ℕ) (k : ℕ) (d : At g t m s k) (ttr : �
             thirdIs = x .known .slot3;
             fewIs = y .fewIs;
             shownTracks = tracks-shown;
+            below =
+                shows-below g m′ (tracks g) low (v .labels) (held g others) (runsOf l) (runsOf l₀) (x .lowIn)
+                (λ i. subst (λ (y : Geometry). times i (held y (v .labels)) ≡ times i (runsOf l ++ held y others)) (sym (d .geometryIs)) (held-apart v (d .ready .valid) (d .name) l (d .it .same) i))
+                (λ i u. let a = x .lowest i u in let b = keep-times (ttr / 256 + 1) i (l .extents) in omega arith) all-shown;
             shownSlots = slots-free;
             written = y .records .one;
             writtenThird = λ _. y .records .three;
@@ -138,7 +146,7 @@ module _ (g : Geometry) (t m s : List ℕ) (k : ℕ) (d : At g t m s k) (ttr : �
             valid = stays-valid;
           }
 
-      module _ (a t′ : List ℕ) (b : Bool) (put : (z : Draft g t m′ s′ was k third few one₂ three₂) → Committed z t′ b) where
+      module _ (a t′ : List ℕ) (b : Bool) (put : (z : Draft g t m′ s′ was low k third few one₂ three₂) → Committed z t′ b) where
         pub full : b ≡ false → result 11 (lent t′ a []) ≡ written (lent t a []) (release₁ v (d .name) ttr (some l))
         full h =
             let z = put draft in

@@ -105,7 +105,19 @@ fn release_set(
     let one = c.one;
     let three = c.three;
     giving::free_slot(empty, freed(c.few, x.third));
-    if commit::put_set(table, g, map, empty, x.was, k, x.third, c.few, one, three) {} else {
+    if commit::put_set(
+        table,
+        g,
+        map,
+        empty,
+        x.was,
+        x.lowest as usize,
+        k,
+        x.third,
+        c.few,
+        one,
+        three,
+    ) {} else {
         return 11;
     }
     answers::put_back(answer, x.tracks - (ttr / 256 + 1));

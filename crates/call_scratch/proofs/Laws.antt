@@ -4,7 +4,7 @@ use mathlib.Core.Bool.{Bool, true, false}
 use mathlib.Core.Option.{Option, none, some}
 use mathlib.Core.List.{List, [], _∷_, _++_, append-assoc}
 use Prim.Native.Nat.{ℕ, _≤_}
-use Rattle.model.specs.Model.{Extent, Geometry, Label, Volume, held, oneSlot, overs, runsOf, slots, slotsOf, tally, total, tracks, used}
+use Rattle.model.specs.Model.{Extent, Geometry, Label, Volume, held, oneSlot, overs, runsOf, slots, slotsOf, tally, times, total, tracks, used}
 use Rattle.rules.specs.Calls.{accept, answer, givenBack, rule, scratch, scratch₁, settled}
 use Rattle.rules.specs.Entries.{lent, result, written}
 use Rattle.rules.specs.Slots.{settle, without}
@@ -17,7 +17,7 @@ use Rattle.label_check.specs.Marks.{units}
 use Rattle.set_change.specs.Change.{GaveTail, extentsIn}
 use Rattle.set_change.proofs.Laws.{none-kept}
 use Rattle.commit.specs.Commit.{Gone, Left}
-use Rattle.commit.proofs.Sets.{held-apart, others-stay, slots-inside, slots-once, slots-shown, used-apart}
+use Rattle.commit.proofs.Sets.{held-apart, others-stay, shows-below, slots-inside, slots-once, slots-shown, used-apart}
 use Rattle.giving.specs.Giving.{At, FreedSlot, Measures}
 use Rattle.giving.proofs.Calls.{Names}
 
@@ -38,7 +38,7 @@ module _ (g : Geometry) (t m s : List ℕ) (k : ℕ) (d : At g t m s k) where
   abbrev after : Option Volume
   after = settle g (v .chain) others 0 (λ ks. others)
 
-  module _ (one three : List ℕ) (count third all was : ℕ) (x : Measures g v l one three count third all was) (m′ s₁ s₂ : List ℕ) (tail : GaveTail 0 (extentsIn g one three count) m m′) (f₁ : FreedSlot k s s₁) (f₂ : FreedSlot third s₁ s₂) where
+  module _ (one three : List ℕ) (count third all low was : ℕ) (x : Measures g v l one three count third all low was) (m′ s₁ s₂ : List ℕ) (tail : GaveTail 0 (extentsIn g one three count) m m′) (f₁ : FreedSlot k s s₁) (f₂ : FreedSlot third s₁ s₂) where
     pub tracks-shown : Shows m′ (tracks g) (held g others)
     tracks-shown =
         let a : Shows m (tracks (v .geometry)) (runsOf l ++ held (v .geometry) others) = shows-same m (tracks (v .geometry)) (held (v .geometry) (v .labels)) (runsOf l ++ held (v .geometry) others) (λ t u. held-apart v (d .ready .valid) (d .name) l (d .it .same) t) (d .shown .freeTracks) in
@@ -64,7 +64,7 @@ module _ (g : Geometry) (t m s : List ℕ) (k : ℕ) (d : At g t m s k) where
         y .valid
 
     -- what `drop_set` asks
-    abbrev pub left : Left g t m′ s₂ was k third
+    abbrev pub left : Left g t m′ s₂ was low k third
     left =
         record {
           volume = v;
@@ -76,6 +76,10 @@ module _ (g : Geometry) (t m s : List ℕ) (k : ℕ) (d : At g t m s k) where
           slotIs = sym (d .it .slot);
           thirdIs = x .known .slot3;
           shownTracks = tracks-shown;
+          below =
+              shows-below g m′ (tracks g) low (v .labels) (held g others) (runsOf l) [] (x .lowIn)
+              (λ i. subst (λ (y : Geometry). times i (held y (v .labels)) ≡ times i (runsOf l ++ held y others)) (sym (d .geometryIs)) (held-apart v (d .ready .valid) (d .name) l (d .it .same) i))
+              (x .lowest) tracks-shown;
           shownSlots = slots-free;
           stays = others-stay v (d .ready .valid) (d .name) l (d .it .same) l refl refl;
           slotOnce = slots-once v (d .ready .valid) (d .name) l (d .it .same) l refl refl;
@@ -83,7 +87,7 @@ module _ (g : Geometry) (t m s : List ℕ) (k : ℕ) (d : At g t m s k) where
           valid = stays-valid;
         }
 
-    module _ (a t′ : List ℕ) (b : Bool) (put : (y : Left g t m′ s₂ was k third) → Gone y t′ b) where
+    module _ (a t′ : List ℕ) (b : Bool) (put : (y : Left g t m′ s₂ was low k third) → Gone y t′ b) where
       pub full : b ≡ false → result 11 (lent t′ a []) ≡ written (lent t a []) (scratch₁ v (d .name) (some l))
       full h =
           let y = put left in

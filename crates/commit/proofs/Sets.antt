@@ -80,3 +80,14 @@ module _ (v : Volume) (h : Valid v) (n : List ℕ) (l : Label) (f : found v n �
 
     pub others-stay : (k : ℕ) → 1 ≤ k → tally k (slotsOf l₀) ≡ 0 → Alike k (v .labels) others
     others-stay k p z = alike-gone k p l (sym (slots-are k) ∙ z) n (v .labels) (h .differ) f
+
+-- below the tracks of the label, old and new, the map shows what the volume held before
+pub shows-below : (g : Geometry) (m : List ℕ) (n lo : ℕ) (ls : List Label) (hs old new : List Run) → lo ≤ n
+    → ((t : ℕ) → times t (held g ls) ≡ times t (old ++ hs)) → ((t : ℕ) → t < lo → times t old ≡ times t new) → Shows m n (new ++ hs) → Shows m lo (held g ls)
+shows-below g m n lo ls hs old new u apart same h t v =
+    let a = h t (omega arith) in
+    let b = apart t in
+    let c = same t v in
+    let d = sum-append (λ r. bit (covers r t)) old hs in
+    let e = sum-append (λ r. bit (covers r t)) new hs in
+    omega arith

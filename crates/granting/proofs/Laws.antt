@@ -21,7 +21,7 @@ use Rattle.tracks.proofs.Held.{Room, shows-same}
 use Rattle.label_check.specs.Marks.{units}
 use Rattle.grant.specs.Grant.{row}
 use Rattle.request.proofs.Laws.{Good, pieces-room}
-use Rattle.set_change.specs.Change.{InRecords, Piece, TookPieces}
+use Rattle.set_change.specs.Change.{InRecords, NoneBelow, Piece, TookPieces}
 use Rattle.set_change.specs.Change.{granted as more}
 use Rattle.set_change.proofs.Laws.{pieces-good}
 use Rattle.free_list.specs.FreeList.{Lists}
@@ -130,8 +130,12 @@ module _ {g : Geometry} {t m s : List ℕ} {slot third n kind : ℕ} {one three 
   -- ---- ready to be committed
 
   module _ (m′ : List ℕ) (took : TookPieces rows m m′) (was : ℕ) (w : (n : ℕ) (f : List Run) → n ≤ slots g → Lists g t n 1 f → was ≡ n)
-      (few : Bool) (f : few ≡ leb (n + count) 3) (one′ three′ : List ℕ) (recs : InRecords g L one′ three′) where
-    pub draft : Draft g t m′ s was slot third few one′ three′
+      (few : Bool) (f : few ≡ leb (n + count) 3) (one′ three′ : List ℕ) (recs : InRecords g L one′ three′)
+      (lo : ℕ) (low : lo ≤ tracks g) (lows : (ps : List Run) → rows ≡ map row ps → NoneBelow lo ps) where
+    all-shown : Shows m′ (tracks g) (d .pieces ++ held g (v .labels))
+    all-shown = took .held (tracks g) (d .pieces) (d .rowsAre) below room (held g (v .labels)) tracks-shown
+
+    pub draft : Draft g t m′ s was lo slot third few one′ three′
     draft =
         record {
           volume = v;
@@ -144,8 +148,12 @@ module _ {g : Geometry} {t m s : List ℕ} {slot third n kind : ℕ} {one three 
           thirdIs = d .thirdIs;
           fewIs = f ∙ ap (λ (k : ℕ). leb k 3) (sym length-more);
           shownTracks =
-              shows-same m′ (tracks g) (d .pieces ++ held g (v .labels)) (held g (kept3 L ∷ d .others)) (λ k u. held-more k)
-              (took .held (tracks g) (d .pieces) (d .rowsAre) below room (held g (v .labels)) tracks-shown);
+              shows-same m′ (tracks g) (d .pieces ++ held g (v .labels)) (held g (kept3 L ∷ d .others)) (λ k u. held-more k) all-shown;
+          below = λ k u.
+              let a = all-shown k (omega arith) in
+              let b = lows (d .pieces) (d .rowsAre) k u in
+              let e = sum-append (λ r. bit (covers r k)) (d .pieces) (held g (v .labels)) in
+              omega arith;
           shownSlots =
               slots-shown s (slots g) (used (v .labels) (v .chain)) (used (kept3 L ∷ d .others) (v .chain)) (λ k u. used-more k)
               (subst (λ (y : Geometry). Shows s (slots y) (units (used (v .labels) (v .chain)))) (d .geometryIs) (d .shown .freeSlots));

@@ -40,10 +40,11 @@ pub fn put_grant(
     chosen: Chosen,
     answer: &mut [u8],
 ) -> u32
-    requires { ⌜ Limits (geometryOf g) × (length (now table) ≡ 140 * slots (geometryOf g)) × (length (now map) ≡ 1024) × (length (now empty) ≡ 8) × (length (now answer) ≡ 24) × (set .slot < slots (geometryOf g)) × (set .third < slots (geometryOf g)) × (chosen .count ≤ 5) × (set .extents + chosen .count ≤ 16) × (chosen .tracks ≤ 65535) ⌝ }
+    requires { ⌜ Limits (geometryOf g) × (length (now table) ≡ 140 * slots (geometryOf g)) × (tracks (geometryOf g) ≤ 64 * length (now map)) × (length (now empty) ≡ 8) × (length (now answer) ≡ 24) × (set .slot < slots (geometryOf g)) × (set .third < slots (geometryOf g)) × (chosen .count ≤ 5) × (set .extents + chosen .count ≤ 16) × (chosen .tracks ≤ 65535) ⌝ }
     requires { ⌜ Grants (geometryOf g) (now table) (now map) (now empty) (set .slot) (set .third) (set .extents) kind (recs .one) (recs .three) (take (chosen .count) pieces) (chosen .count) (chosen .tracks) ⌝ }
     ensures { λ r. ⌜ ((d : Grants (geometryOf g) (now (table .entry)) (now (map .entry)) (now (empty .entry)) (set .slot) (set .third) (set .extents) kind (recs .one) (recs .three) (take (chosen .count) pieces) (chosen .count) (chosen .tracks)) → Granted d (now (answer .entry)) (now (table .exit)) (now (answer .exit)) r) ⌝ }
 {
+    let lo = set_change::lowest_piece(pieces, chosen.count, g.cylinders * g.heads);
     let was = free_list::members(table, g);
     set_change::take_pieces(map, pieces, chosen.count);
     let more = set_change::add_pieces(recs, g, set.extents, kind, pieces, chosen.count);
@@ -56,6 +57,7 @@ pub fn put_grant(
         map,
         empty,
         was,
+        lo as usize,
         set.slot,
         set.third,
         small,

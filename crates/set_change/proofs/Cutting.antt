@@ -27,7 +27,7 @@ use Rattle.forms.proofs.Written.{read-at, read-length}
 use Rattle.listing.specs.Text.{Proper}
 use Rattle.labels.specs.Labels.{added, firstExtents}
 use Rattle.labels.proofs.Following.{keep-all, keep-part, keep-whole}
-use Rattle.set_change.specs.Change.{GaveTail, Stays, partOf, shortened}
+use Rattle.set_change.specs.Change.{GaveTail, NoneBelow, Stays, partOf, shortened}
 
 -- ---- the extents read
 
@@ -109,6 +109,19 @@ stays-whole k es e left n h before i q =
 overs-sum : (F : Run → ℕ) (xs ys : List Extent) → sumOf F (overs (xs ++ ys)) ≡ sumOf F (overs xs) + sumOf F (overs ys)
 overs-sum F [] ys = omega arith
 overs-sum F (x ∷ xs) ys = let i = overs-sum F xs ys in omega arith
+
+-- none of the first e extents has a track below lo
+pub lower-next : (g : Geometry) (es : List Extent) (e s c lo lo′ : ℕ) → At g es e s c → lo′ ≡ min lo s → NoneBelow lo (overs (take e es)) → NoneBelow lo′ (overs (take (e + 1) es))
+lower-next g es e s c lo lo′ x low before t v =
+    let F : Run → ℕ = λ p. bit (covers p t) in
+    let b = before t (omega arith) in
+    let d = ap (λ (xs : List Extent). times t (overs xs)) (ap (λ (i : ℕ). take i es) (add-one e) ∙ take-suc es e noExtent (x .inside)) ∙ overs-sum F (take e es) (getD es e noExtent ∷ []) in
+    let f = ap F (x .over) in
+    let z = hit-below (run s c) t (omega arith) in
+    omega arith
+
+pub lower-all : (es : List Extent) (e lo : ℕ) → length es ≤ e → NoneBelow lo (overs (take e es)) → NoneBelow lo (overs es)
+lower-all es e lo h b = subst (λ (xs : List Extent). NoneBelow lo (overs xs)) (take-all e es h) b
 
 pub keep-zero : (es : List Extent) → All (λ e. 1 ≤ e .over .count) es → keep 0 es ≡ []
 keep-zero [] a = refl

@@ -2,7 +2,7 @@
 use mathlib.Core.Path.{_≡_, refl, sym, ap, _∙_, subst}
 use mathlib.Core.Bool.{Bool}
 use mathlib.Core.List.{List, [], _∷_, _++_, map}
-use Prim.Native.Nat.{ℕ, zero, suc, _+_, _≤_, _<_}
+use Prim.Native.Nat.{ℕ, zero, suc, _+_, _≤_, _<_, min}
 use native.Mathlib.Numerals.{add-one}
 use native.Mathlib.Omega.{arith}
 use lib.ListN.{length, take, drop, getD, length-append, length-map}
@@ -10,6 +10,7 @@ use lib.Seq.{drop-cons, getD-take, length-take-le, take-all, take-suc}
 use Rattle.model.specs.Basics.{bit}
 use Rattle.model.specs.Model.{Extent, Geometry, Label, Run, covers, extent, run, times}
 use Rattle.model.proofs.Lists.{All, All-at, sum-append}
+use Rattle.model.proofs.Runs.{hit-below}
 use Rattle.rules.specs.Slots.{withExtents}
 use Rattle.tracks.specs.Map.{Shows, Taken}
 use Rattle.tracks.proofs.Held.{Room, room-first, room-next, shows-same, shows-take, taken-true}
@@ -17,7 +18,7 @@ use Rattle.grant.specs.Grant.{row}
 use Rattle.labels.specs.Labels.{Format3, added}
 use Rattle.labels.proofs.Following.{added-next, added-none}
 use Rattle.labels.proofs.Format3.{three-none}
-use Rattle.set_change.specs.Change.{InRecords, Piece, TookPieces, granted}
+use Rattle.set_change.specs.Change.{InRecords, NoneBelow, Piece, TookPieces, granted}
 
 abbrev noRun : Run
 noRun = run 0 0
@@ -101,6 +102,31 @@ module _ (count : ℕ) (rows : List (List ℕ)) (len : length rows ≡ 5) (most 
             subst (λ (xs : List Run). Shows m n (xs ++ hs)) (take-all count ps (let l = runs-length count rows len most ps e in omega arith))
             (b n ps e below room .held hs h);
       }
+
+-- ---- the lowest track
+
+-- none of the first k pieces has a track below lo
+abbrev pub Lowest : List (List ℕ) → ℕ → ℕ → Type 0
+Lowest rows k lo = (ps : List Run) → rows ≡ map row ps → NoneBelow lo (take k ps)
+
+pub lowest-none : (rows : List (List ℕ)) (lo : ℕ) → Lowest rows 0 lo
+lowest-none rows lo ps e t u = refl
+
+module _ (count : ℕ) (rows : List (List ℕ)) (len : length rows ≡ 5) (most : count ≤ 5) where
+  pub lowest-next : (k s c lo lo′ : ℕ) → k < count → s ≡ getD (getD rows k []) 0 0 → c ≡ getD (getD rows k []) 1 0 → lo′ ≡ min lo s
+      → Lowest (take count rows) k lo → Lowest (take count rows) (k + 1) lo′
+  lowest-next k s c lo lo′ u first size low before ps e t v =
+      let l = runs-length count rows len most ps e in
+      let q = run-is count rows len most ps e k s c u first size in
+      let b = before ps e t (omega arith) in
+      let d = ap (times t) (take-suc ps k noRun (omega arith)) ∙ sum-append (λ p. bit (covers p t)) (take k ps) (getD ps k noRun ∷ []) in
+      let f = ap (λ (p : Run). bit (covers p t)) q in
+      let z = hit-below (run s c) t (omega arith) in
+      let j = ap (λ (i : ℕ). times t (take i ps)) (add-one k) in
+      omega arith
+
+  pub lowest-all : (lo : ℕ) → Lowest (take count rows) count lo → (ps : List Run) → take count rows ≡ map row ps → NoneBelow lo ps
+  lowest-all lo b ps e = subst (NoneBelow lo) (take-all count ps (let l = runs-length count rows len most ps e in omega arith)) (b ps e)
 
 -- ---- into the records
 

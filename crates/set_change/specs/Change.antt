@@ -4,7 +4,7 @@ use mathlib.Core.Path.{_≡_}
 use Prim.Native.Nat.{ℕ, zero, suc, _+_, _≤_, _<_}
 use mathlib.Core.List.{List, [], _∷_, _++_, map}
 use lib.ListN.{length, take, getD}
-use Rattle.model.specs.Model.{Extent, Geometry, Label, Run, extent, overs, run}
+use Rattle.model.specs.Model.{Extent, Geometry, Label, Run, extent, overs, run, times}
 use Rattle.model.proofs.Lists.{All}
 use Rattle.rules.specs.Calls.{keep}
 use Rattle.rules.specs.Reading.{readExtents}
@@ -14,6 +14,10 @@ use Rattle.tracks.specs.Map.{Shows}
 use Rattle.tracks.proofs.Held.{Room}
 use Rattle.grant.specs.Grant.{row}
 use Rattle.labels.specs.Labels.{Format1, Format3}
+
+-- no track below lo is of these runs
+abbrev pub NoneBelow : ℕ → List Run → Type 0
+NoneBelow lo rs = (t : ℕ) → t < lo → times t rs ≡ 0
 
 -- ---- pieces
 

@@ -11,12 +11,19 @@ ghost use Rattle.rules.proofs.Valid.{Limits};
 ghost use Rattle.forms.specs.Forms.{geometryOf};
 ghost use Rattle.grant.specs.Grant.{row};
 ghost use Rattle.labels.specs.Labels.{Format1, Format3, added, firstExtents};
-ghost use Rattle.set_change.specs.Change.{GaveTail, InRecords, Piece, SetIn, Stays, TookPieces, extentsIn, granted, shortened};
+ghost use Rattle.set_change.specs.Change.{GaveTail, InRecords, NoneBelow, Piece, SetIn, Stays, TookPieces, extentsIn, granted, shortened};
 
 // Tracks that follow each other: the first, and how many.
 struct Tracks {
     start: u32,
     count: u32,
+}
+
+// The lesser of two numbers.
+fn lesser(a: u32, b: u32) -> u32
+    ensures { λ r. ⌜ r ≡ min a b ⌝ }
+{
+    if a < b { a } else { b }
 }
 
 // ---- granted
@@ -51,6 +58,21 @@ pub fn take_pieces(map: &mut [u64], pieces: [[u16; 2]; 5], count: usize)
         tracks::take_range(map, from, to);
         k += 1;
     }
+}
+
+// The lowest track of the first `count` pieces, or `most` where that is lower.
+pub fn lowest_piece(pieces: [[u16; 2]; 5], count: usize, most: u32) -> u32
+    requires { ⌜ count ≤ 5 ⌝ }
+    ensures { λ r. ⌜ (r ≤ most) × ((ps : List Run) → take count pieces ≡ map row ps → NoneBelow r ps) ⌝ }
+{
+    let mut lo = most;
+    let mut k: usize = 0;
+    while k < count {
+        let p = piece_at(pieces, k);
+        lo = lesser(lo, p.start);
+        k += 1;
+    }
+    lo
 }
 
 // A label's format 1, and its format 3; that of a label with no more than three extents has none in it.
@@ -128,6 +150,21 @@ pub fn set_tracks<'a>(f1: &'a [u8], f3: &'a [u8], n: usize, g: forms::Geometry) 
     listing::tracks_of(f1, f3, n, g.heads)
 }
 
+// The lowest track of a data set with n extents.
+pub fn lowest_track<'a>(f1: &'a [u8], f3: &'a [u8], n: usize, g: forms::Geometry) -> u32
+    requires { ⌜ SetIn (geometryOf g) (now f1) (now f3) n ⌝ }
+    ensures { λ r. ⌜ (r ≤ tracks (geometryOf g)) × NoneBelow r (overs (extentsIn (geometryOf g) (now (f1 .entry)) (now (f3 .entry)) n)) ⌝ }
+{
+    let mut lo = g.cylinders * g.heads;
+    let mut e: usize = 0;
+    while e < n {
+        let x = extent_at(f1, f3, e, g.heads);
+        lo = lesser(lo, x.start);
+        e += 1;
+    }
+    lo
+}
+
 // What stays of a data set: `whole` extents, and `count` tracks from `start` of the next, 0 for none of it.
 pub struct Kept {
     pub whole: usize,
@@ -159,13 +196,6 @@ fn cut_at<'a>(f1: &'a [u8], f3: &'a [u8], n: usize, g: forms::Geometry, keep: u3
         start: 0,
         count: 0,
     }
-}
-
-// The lesser of two numbers.
-fn lesser(a: u32, b: u32) -> u32
-    ensures { λ r. ⌜ r ≡ min a b ⌝ }
-{
-    if a < b { a } else { b }
 }
 
 // Makes free the tracks behind the first `keep` tracks of a data set with n extents. An extent that stays whole gives

@@ -41,12 +41,15 @@ free-slot-requires-2 c κs =
     let e = c .before .before .before .before .before .before .before .before .before .before .before .before .before .before .before .before .before .before .before .pre .0 .0 .most in
     (c .before .before .before .free-slot .ensures .long ∙ c .before .before .before .before .before .before .before .before .before .before .before .before .before .before .before .before .before .before .before .pre .0 .3, omega arith)
 
+cast-drop-set : tie.Need-cast-drop-set
+cast-drop-set c = search needs
+
 -- src/lib.rt:36:8
 drop-set-requires : tie.Need-drop-set-requires
 drop-set-requires c κs =
-    let x = c .before .before .before .before .before .before .before .before .before .before .before .before .before .before .before .before .before .before .before .measure .ensures _ _ (c .before .before .before .before .before .before .before .before .before .before .before .before .before .before .before .before .before .before .before .before .before .before .before .before .before .pre .1) in (
-      fits _ _ _ _ _ (c .before .before .before .before .before .before .before .before .before .before .before .before .before .before .before .before .before .before .before .before .before .before .before .before .before .pre .1) (c .before .before .before .before .before .before .before .before .before .before .before .before .before .before .before .before .before .before .before .before .before .before .before .before .before .pre .0 .3) (c .before .before .before .before .before .before .before .before .before .before .before .before .before .before .before .before .before .before .before .before .before .before .before .before .before .pre .0 .2) _ _ _ _ _ _ x (c .before .before .before .before .before .before .before .before .before .before .before .before .before .give-tail .last .1 .1 .1 .1 .1 .0) (c .before .before .before .before .before .free-slot2 .last .0) (c .before .before .before .before .before .before .before .before .before .before .before .before .before .give-tail .ensures .0 .long) (c .before .before .before .before .before .free-slot2 .ensures .long ∙ c .before .before .before .before .before .before .before .before .before .free-slot .ensures .long),
-      left _ _ _ _ _ (c .before .before .before .before .before .before .before .before .before .before .before .before .before .before .before .before .before .before .before .before .before .before .before .before .before .pre .1) _ _ _ _ _ _ x _ _ _ (c .before .before .before .before .before .before .before .before .before .before .before .before .before .give-tail .ensures .0) (c .before .before .before .before .before .before .before .before .before .free-slot .ensures) (c .before .before .before .before .before .free-slot2 .ensures),
+    let x = c .before .before .before .before .before .before .before .before .before .before .before .before .before .before .before .before .before .before .before .before .measure .ensures _ _ (c .before .before .before .before .before .before .before .before .before .before .before .before .before .before .before .before .before .before .before .before .before .before .before .before .before .before .pre .1) in (
+      fits _ _ _ _ _ (c .before .before .before .before .before .before .before .before .before .before .before .before .before .before .before .before .before .before .before .before .before .before .before .before .before .before .pre .1) (c .before .before .before .before .before .before .before .before .before .before .before .before .before .before .before .before .before .before .before .before .before .before .before .before .before .before .pre .0 .3) (c .before .before .before .before .before .before .before .before .before .before .before .before .before .before .before .before .before .before .before .before .before .before .before .before .before .before .pre .0 .2) _ _ _ _ _ _ _ x (c .before .before .before .before .before .before .before .before .before .before .before .before .before .before .give-tail .last .1 .1 .1 .1 .1 .0) (c .before .before .before .before .before .before .free-slot2 .last .0) (c .before .before .before .before .before .before .before .before .before .before .before .before .before .before .give-tail .ensures .0 .long) (c .before .before .before .before .before .before .free-slot2 .ensures .long ∙ c .before .before .before .before .before .before .before .before .before .before .free-slot .ensures .long),
+      left _ _ _ _ _ (c .before .before .before .before .before .before .before .before .before .before .before .before .before .before .before .before .before .before .before .before .before .before .before .before .before .before .pre .1) _ _ _ _ _ _ _ x _ _ _ (c .before .before .before .before .before .before .before .before .before .before .before .before .before .before .give-tail .ensures .0) (c .before .before .before .before .before .before .before .before .before .before .free-slot .ensures) (c .before .before .before .before .before .before .free-slot2 .ensures),
     )
 
 -- src/lib.rt:37:9
@@ -63,14 +66,14 @@ same-length-3 c = search needs
 
 -- src/lib.rt:37:9
 returns : tie.Need-returns
-returns c = λ d. full _ _ _ _ _ d _ _ _ _ _ _ (c .before .before .before .before .before .before .before .before .before .before .before .before .before .before .before .before .before .before .before .before .before .before .before .before .before .measure .ensures _ _ d) _ _ _ (c .before .before .before .before .before .before .before .before .before .before .before .before .before .before .before .before .before .before .before .give-tail .ensures .0) (c .before .before .before .before .before .before .before .before .before .before .before .before .before .before .before .free-slot .ensures) (c .before .before .before .before .before .before .before .before .before .before .before .free-slot2 .ensures) _ _ _ (c .before .before .before .before .before .drop-set .ensures) (c .if1 .left)
+returns c = λ d. full _ _ _ _ _ d _ _ _ _ _ _ _ (c .before .before .before .before .before .before .before .before .before .before .before .before .before .before .before .before .before .before .before .before .before .before .before .before .before .before .measure .ensures _ _ d) _ _ _ (c .before .before .before .before .before .before .before .before .before .before .before .before .before .before .before .before .before .before .before .before .give-tail .ensures .0) (c .before .before .before .before .before .before .before .before .before .before .before .before .before .before .before .before .free-slot .ensures) (c .before .before .before .before .before .before .before .before .before .before .before .before .free-slot2 .ensures) _ _ _ (c .before .before .before .before .before .drop-set .ensures) (c .if1 .left)
 
 -- src/lib.rt:39:5
 put-back-requires : tie.Need-put-back-requires
 put-back-requires c κs =
-    let a = set-small _ _ _ _ _ (c .before .before .before .before .before .before .before .before .before .before .before .before .before .before .before .before .before .before .before .before .before .before .before .before .before .before .before .before .before .before .before .before .pre .1) in
-    let b = c .before .before .before .before .before .before .before .before .before .before .before .before .before .before .before .before .before .before .before .before .before .before .before .before .before .before .measure .ensures _ _ (c .before .before .before .before .before .before .before .before .before .before .before .before .before .before .before .before .before .before .before .before .before .before .before .before .before .before .before .before .before .before .before .before .pre .1) .sum in
-    (c .before .before .before .before .before .before .before .before .before .before .before .before .before .before .before .before .before .before .before .before .before .before .before .before .before .before .before .before .before .before .before .before .pre .0 .5, omega arith)
+    let a = set-small _ _ _ _ _ (c .before .before .before .before .before .before .before .before .before .before .before .before .before .before .before .before .before .before .before .before .before .before .before .before .before .before .before .before .before .before .before .before .before .pre .1) in
+    let b = c .before .before .before .before .before .before .before .before .before .before .before .before .before .before .before .before .before .before .before .before .before .before .before .before .before .before .before .measure .ensures _ _ (c .before .before .before .before .before .before .before .before .before .before .before .before .before .before .before .before .before .before .before .before .before .before .before .before .before .before .before .before .before .before .before .before .before .pre .1) .sum in
+    (c .before .before .before .before .before .before .before .before .before .before .before .before .before .before .before .before .before .before .before .before .before .before .before .before .before .before .before .before .before .before .before .before .before .pre .0 .5, omega arith)
 
 -- src/lib.rt:18:1
 same-length-4 : tie.Need-same-length-4
@@ -90,7 +93,7 @@ same-length-7 c = search needs
 
 -- src/lib.rt:18:1
 returns-2 : tie.Need-returns-2
-returns-2 c = λ d. gone _ _ _ _ _ d _ _ _ _ _ _ (c .before .before .before .before .before .before .before .before .before .before .before .before .before .before .before .before .before .before .before .before .before .before .before .before .before .before .before .before .before .measure .ensures _ _ d) _ _ _ (c .before .before .before .before .before .before .before .before .before .before .before .before .before .before .before .before .before .before .before .before .before .before .before .give-tail .ensures .0) (c .before .before .before .before .before .before .before .before .before .before .before .before .before .before .before .before .before .before .before .free-slot .ensures) (c .before .before .before .before .before .before .before .before .before .before .before .before .before .before .before .free-slot2 .ensures) _ _ _ (c .before .before .before .before .before .before .before .before .before .drop-set .ensures) (c .before .before .before .before .if1 .taken) _ (c .before .before .put-back .ensures)
+returns-2 c = λ d. gone _ _ _ _ _ d _ _ _ _ _ _ _ (c .before .before .before .before .before .before .before .before .before .before .before .before .before .before .before .before .before .before .before .before .before .before .before .before .before .before .before .before .before .before .measure .ensures _ _ d) _ _ _ (c .before .before .before .before .before .before .before .before .before .before .before .before .before .before .before .before .before .before .before .before .before .before .before .before .give-tail .ensures .0) (c .before .before .before .before .before .before .before .before .before .before .before .before .before .before .before .before .before .before .before .before .free-slot .ensures) (c .before .before .before .before .before .before .before .before .before .before .before .before .before .before .before .before .free-slot2 .ensures) _ _ _ (c .before .before .before .before .before .before .before .before .before .drop-set .ensures) (c .before .before .before .before .if1 .taken) _ (c .before .before .put-back .ensures)
 
 pub scratch-set-spec : {M : Type 1} → statement M
 scratch-set-spec =
@@ -102,6 +105,7 @@ scratch-set-spec =
     give-tail-requires
     free-slot-requires
     free-slot-requires-2
+    cast-drop-set
     drop-set-requires
     same-length
     same-length-2

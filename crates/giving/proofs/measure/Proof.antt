@@ -28,6 +28,18 @@ set-tracks-requires c κs =
     let x = top .pre .1 in
     set-of (geometryOf (top .args .g)) (top .args .table .now) (x .0) (x .1) (top .args .k) (x .2) _ _ _ _ (c .before .before .before .before .set-at .ensures)
 
+slice-aggregate-lowest-track : tie.Need-slice-aggregate-lowest-track
+slice-aggregate-lowest-track c = search needs
+
+slice-aggregate-lowest-track-2 : tie.Need-slice-aggregate-lowest-track-2
+slice-aggregate-lowest-track-2 c = search needs
+
+lowest-track-requires : tie.Need-lowest-track-requires
+lowest-track-requires c κs =
+    let top = c .before .before .before .before .before .before .before .before .before in
+    let x = top .pre .1 in
+    set-of (geometryOf (top .args .g)) (top .args .table .now) (x .0) (x .1) (top .args .k) (x .2) _ _ _ _ (c .before .before .before .before .before .before .before .set-at .ensures)
+
 -- src/lib.rt:42:9
 members-requires : tie.Need-members-requires
 members-requires c κs = search needs
@@ -35,8 +47,8 @@ members-requires c κs = search needs
 -- src/lib.rt:33:1
 returns : tie.Need-returns
 returns c =
-    let a = c .before .before .before .before .before .before .before .before .args in
-    λ m s d. measured (geometryOf (a .g)) (a .table .now) m s (a .k) d _ _ _ _ (c .before .before .before .before .before .before .set-at .ensures) _ _ (c .before .set-tracks .ensures) (c .members .ensures .1)
+    let a = c .before .before .before .before .before .before .before .before .before .before .before .args in
+    λ m s d. measured (geometryOf (a .g)) (a .table .now) m s (a .k) d _ _ _ _ (c .before .before .before .before .before .before .before .before .before .set-at .ensures) _ _ _ (c .before .before .before .before .set-tracks .ensures) (c .before .lowest-track .ensures) (c .members .ensures .1)
 
 pub measure-spec : {M : Type 1} → statement M
 measure-spec =
@@ -46,5 +58,8 @@ measure-spec =
     slice-aggregate-set-tracks
     slice-aggregate-set-tracks-2
     set-tracks-requires
+    slice-aggregate-lowest-track
+    slice-aggregate-lowest-track-2
+    lowest-track-requires
     members-requires
     returns)
