@@ -5,7 +5,7 @@ use Prim.Native.Nat.{ℕ, zero, suc, _+_, _-_, _*_, _/_, _%_, _^_, _≤_, _<_, m
 use native.Mathlib.Nat.{mul-one, pow-suc, mul-assoc, zero-div, div-one, div-eq-of-lt, lt-of-lt-of-le, lt-of-le-of-lt, lt-of-not-le}
 use native.Mathlib.Decide.{decLe}
 use native.Mathlib.Omega.{arith}
-use lib.Count.{leadingZeros, leading-length, leading-top, leading-of-zero}
+use lib.Count.{trailingZeros, under}
 use lib.Bits.{differ, bitAnd, bitOr, bitXor, and-shr, or-shr, xor-shr, and-step, or-step, xor-step, and-le-l, and-le-r, xor-lt, xor-add-and, shifted-even}
 use lib.Pow.{field, mod-mod-pow, pow-pos, pow-mono, pow-add, shl-lt, shl-shr, shr-shr, ones-lt, ones-split, high, shl-exact}
 use Rattle.tracks.specs.Map.{bitAt}
@@ -43,7 +43,7 @@ xor-bit a b j =
 -- ---- shifts
 
 -- a number shifted up has clear bits below
-pub shl-low : (x s j : ℕ) → j < s → bitAt (x * 2 ^ s) j ≡ 0
+shl-low : (x s j : ℕ) → j < s → bitAt (x * 2 ^ s) j ≡ 0
 shl-low x s j h =
     let d = s - suc j in
     let e : s ≡ suc d + j = omega arith in
@@ -58,7 +58,7 @@ shl-bit : (x s j : ℕ) → bitAt (x * 2 ^ s) (s + j) ≡ bitAt x j
 shl-bit x s j = ap (λ (y : ℕ). y % 2) (sym (shr-shr (x * 2 ^ s) s j)) ∙ ap (λ (y : ℕ). bitAt y j) (shl-shr x s)
 
 -- the lower bits of a number that is cut to a word
-pub word-bit : (x j : ℕ) → j < 64 → bitAt (x % 2 ^ 64) j ≡ bitAt x j
+word-bit : (x j : ℕ) → j < 64 → bitAt (x % 2 ^ 64) j ≡ bitAt x j
 word-bit x j h =
     let d = 63 - j in
     let e : 64 ≡ d + 1 + j = omega arith in
@@ -68,11 +68,12 @@ word-bit x j h =
 pub shr-bit : (x s j : ℕ) → bitAt (x / 2 ^ s) j ≡ bitAt x (s + j)
 shr-bit x s j = ap (λ (y : ℕ). y % 2) (shr-shr x s j)
 
--- a word shifted up by s: bit i from the top is what was bit s + i from the top
-pub shifted : (x s i : ℕ) → s + i < 64 → bitAt (x * 2 ^ s % 2 ^ 64) (63 - i) ≡ bitAt x (63 - (s + i))
-shifted x s i h =
-    let p : 63 - i ≡ s + (63 - (s + i)) = omega arith in
-    word-bit (x * 2 ^ s) (63 - i) (omega arith) ∙ ap (bitAt (x * 2 ^ s)) p ∙ shl-bit x s (63 - (s + i))
+-- a word shifted up by s: clear bits below, its own bits from bit s on
+pub up-low : (x s j : ℕ) → s < 64 → j < s → bitAt (x * 2 ^ s % 2 ^ 64) j ≡ 0
+up-low x s j g h = word-bit (x * 2 ^ s) j (omega arith) ∙ shl-low x s j h
+
+pub up-bit : (x s j : ℕ) → s + j < 64 → bitAt (x * 2 ^ s % 2 ^ 64) (s + j) ≡ bitAt x j
+up-bit x s j h = word-bit (x * 2 ^ s) (s + j) h ∙ shl-bit x s j
 
 -- ---- a block of n ones from bit lo on: its bits below, inside, above
 
@@ -167,28 +168,30 @@ above-word x j h k = ap (λ (y : ℕ). y % 2) (div-eq-of-lt (lt-of-lt-of-le h (p
 pub not-bit : (x j : ℕ) → j < 64 → bitAt (bitXor x 0xffff_ffff_ffff_ffff) j ≡ 1 - bitAt x j
 not-bit x j h = omega (arith, xor-bit x 0xffff_ffff_ffff_ffff j, all-ones j h)
 
--- ---- leading zeros, bit by bit from the top
+-- ---- trailing zeros, bit by bit from the lowest
 
-pub leading-zero : (y i : ℕ) → y < 2 ^ 64 → i < leadingZeros 64 y → bitAt y (63 - i) ≡ 0
-leading-zero y i f h =
-    let l = leading-length 64 y f in
-    let e = l .1 in
-    ap (λ (x : ℕ). x % 2) (div-eq-of-lt (lt-of-lt-of-le (l .2) (pow-mono {i = l .0} {j = 63 - i} (omega arith))))
+half-bit : (y i : ℕ) → bitAt (y / 2) i ≡ bitAt y (suc i)
+half-bit y i = let e : 1 + i ≡ suc i = omega arith in shr-bit y 1 i ∙ ap (bitAt y) e
 
-pub leading-one : (y : ℕ) → y < 2 ^ 64 → leadingZeros 64 y < 64 → bitAt y (63 - leadingZeros 64 y) ≡ 1
-leading-one y f h =
-    let p : 0 < y = positive y h in
-    let l = leading-top 64 y p f in
-    let a = l .1 in
-    let e : 63 - leadingZeros 64 y ≡ l .0 = omega arith in
-    ap (λ (j : ℕ). bitAt y j) e ∙ ap (λ (x : ℕ). x % 2) (one-div y (l .0) (l .2) (l .3))
+lowest-bit : (y : ℕ) → bitAt y 0 ≡ y % 2
+lowest-bit y = ap (λ (x : ℕ). x % 2) (div-one y)
+
+-- below the first bit that is set all are clear
+pub trailing-zero : (k y i : ℕ) → i < trailingZeros k y → bitAt y i ≡ 0
+unfolding trailingZeros
+trailing-zero zero y i h = absurd (omega arith)
+trailing-zero (suc k) y i h = go (y % 2) (trailingZeros k (y / 2)) i refl (trailing-zero k (y / 2)) h
   where
-    positive : (y : ℕ) → leadingZeros 64 y < 64 → 0 < y
-    positive zero h = absurd (let z = leading-of-zero 64 in omega arith)
-    positive (suc y) h = omega arith
+    go : (d t i : ℕ) → y % 2 ≡ d → ((j : ℕ) → j < t → bitAt (y / 2) j ≡ 0) → i < under d t → bitAt y i ≡ 0
+    go zero t zero e f h = lowest-bit y ∙ e
+    go zero t (suc i) e f h = sym (half-bit y i) ∙ f i (omega arith)
+    go (suc d) t i e f h = absurd (omega arith)
 
-    one-div : (y j : ℕ) → 2 ^ j ≤ y → y < 2 ^ suc j → y / 2 ^ j ≡ 1
-    one-div y j a b =
-        let r : y - 2 ^ j < 2 ^ j = omega (arith, pow-suc 2 j) in
-        let e : 1 * 2 ^ j + (y - 2 ^ j) ≡ y = omega arith in
-        ap (λ (x : ℕ). x / 2 ^ j) (sym e) ∙ high 1 j r
+pub trailing-one : (k y : ℕ) → trailingZeros k y < k → bitAt y (trailingZeros k y) ≡ 1
+unfolding trailingZeros
+trailing-one zero y h = absurd (omega arith)
+trailing-one (suc k) y h = go (y % 2) (trailingZeros k (y / 2)) refl (trailing-one k (y / 2)) h
+  where
+    go : (d t : ℕ) → y % 2 ≡ d → (t < k → bitAt (y / 2) t ≡ 1) → under d t < suc k → bitAt y (under d t) ≡ 1
+    go zero t e f h = sym (half-bit y t) ∙ f (omega arith)
+    go (suc d) t e f h = lowest-bit y ∙ omega arith

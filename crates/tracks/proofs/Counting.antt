@@ -3,20 +3,20 @@ use mathlib.Core.Path.{_≡_, refl, sym, ap, _∙_, subst}
 use mathlib.Core.Bool.{Bool, true, false}
 use mathlib.Core.List.{List, [], _∷_}
 use Prim.Native.Nat.{ℕ, zero, suc, _+_, _-_, _*_, _/_, _%_, _^_, _≤_, _<_, min}
-use native.Mathlib.Nat.{le-refl, div-eq-of-lt, div-one, lt-of-le-of-lt}
+use native.Mathlib.Nat.{add-zero, le-refl, lt-of-le-of-lt, mod-eq-of-lt, mod-lt}
 use native.Mathlib.Omega.{arith}
 use borrow.Author.Tests.{eq-eqb, ne-eqb}
 use lib.Dec.{eqb}
 use lib.ListN.{length, getD}
 use lib.Bits.{bitAnd, bitOr, bitXor, and-le-l}
-use lib.Pow.{shr-shr}
-use lib.Count.{ones, ones-step}
+use lib.Pow.{low, mod-pow-add, pow-pos, shl-shr}
+use lib.Count.{ones, ones-cat, ones-step}
 use Rattle.model.specs.Basics.{bit}
 use Rattle.model.specs.Model.{Run, run, runs, touch, join, joinIf, Separate}
 use Rattle.model.proofs.Runs.{runs-separate}
 use Rattle.tracks.specs.Map.{bitAt, freeBit, isFree}
 use Rattle.tracks.specs.Steps.{Starts}
-use Rattle.tracks.proofs.Bits.{and-bit, or-bit, not-bit, word-bit, shl-low, shifted}
+use Rattle.tracks.proofs.Bits.{above-word, and-bit, not-bit, or-bit, shr-bit, up-bit, up-low}
 use Rattle.tracks.proofs.Words.{in-word}
 
 -- ---- joining a track to the runs behind it
@@ -100,77 +100,97 @@ count-track m (suc t) = omega (arith, last-track (isFree m) t 0 t (omega arith),
 
 -- ---- a word
 
-pub starts-law : (y x : ℕ) → x < 2 ^ 64 → Starts y x (bitAnd x (bitXor (bitOr (x / 2) (y * 2 ^ 63 % 2 ^ 64)) 0xffff_ffff_ffff_ffff))
-starts-law y x h =
-    let z = y * 2 ^ 63 % 2 ^ 64 in
-    let b = bitOr (x / 2) z in
-    let half : (j : ℕ) → bitAt (x / 2) j ≡ bitAt x (suc j) =
-    λ j. let e : 1 + j ≡ suc j = omega arith in ap (λ (w : ℕ). w % 2) (shr-shr x 1 j) ∙ ap (bitAt x) e in
+pub starts-law : (y x : ℕ) → y < 2 ^ 64 → x < 2 ^ 64 → Starts y x (bitAnd x (bitXor (bitOr (x * 2 % 2 ^ 64) (y / 2 ^ 63)) 0xffff_ffff_ffff_ffff))
+starts-law y x g h =
+    let u = x * 2 % 2 ^ 64 in
+    let z = y / 2 ^ 63 in
+    let b = bitOr u z in
     record {
       small = lt-of-le-of-lt (and-le-l x (bitXor b 0xffff_ffff_ffff_ffff)) h;
-      top =
-          let u : bitAt x 64 ≡ 0 = ap (λ (w : ℕ). w % 2) (div-eq-of-lt h) in
-          omega (arith, and-bit x (bitXor b 0xffff_ffff_ffff_ffff) 63, not-bit b 63 (omega arith), or-bit (x / 2) z 63, half 63, shifted y 63 0 (omega arith));
+      first = omega (arith, and-bit x (bitXor b 0xffff_ffff_ffff_ffff) 0, not-bit b 0 (omega arith), or-bit u z 0, up-low x 1 0 (omega arith) (omega arith), shr-bit y 63 0);
       rest = λ j k.
-          let l : bitAt z j ≡ 0 = word-bit (y * 2 ^ 63) j (omega arith) ∙ shl-low y 63 j k in
-          omega (arith, and-bit x (bitXor b 0xffff_ffff_ffff_ffff) j, not-bit b j (omega arith), or-bit (x / 2) z j, half j);
+          let e : 1 + j ≡ suc j = omega arith in
+          let v : bitAt u (suc j) ≡ bitAt x j = ap (bitAt u) (sym e) ∙ up-bit x 1 j (omega arith) in
+          let l : bitAt z (suc j) ≡ 0 = shr-bit y 63 (suc j) ∙ above-word y (63 + suc j) g (omega arith) in
+          omega (arith, and-bit x (bitXor b 0xffff_ffff_ffff_ffff) (suc j), not-bit b (suc j) (omega arith), or-bit u z (suc j));
     }
 
-module _ (m : List ℕ) (y r t : ℕ) (e : t % 64 ≡ 0) (q : bitAt y 0 ≡ bitBefore m t) (s : Starts y (getD m (t / 64) 0) r) where
-  start-bit : (k : ℕ) → k < 64 → bitAt r (63 - k) ≡ min (freeBit m (t + k)) (1 - bitBefore m (t + k))
+ones-digit : (x : ℕ) → ones (x % 2) ≡ x % 2
+unfolding ones
+ones-digit x =
+    let e : x % 2 / 2 ≡ 0 = omega arith in
+    let o : ones (x % 2 / 2) ≡ 0 = ap ones e in
+    omega (arith, ones-step (x % 2))
+
+-- the ones among the lowest bits, one bit more
+ones-more : (r k : ℕ) → ones (r % 2 ^ suc k) ≡ ones (r % 2 ^ k) + bitAt r k
+ones-more r k =
+    let e : suc k ≡ 1 + k = omega arith in
+    ap (λ (i : ℕ). ones (r % 2 ^ i)) e ∙ ap ones (mod-pow-add r 1 k) ∙ omega (arith, ones-cat k (bitAt r k) (r % 2 ^ k) (mod-lt r (pow-pos k)), ones-digit (r / 2 ^ k))
+
+-- they are left by a shift that pushes the others out of the word
+ones-low : (r k : ℕ) → k ≤ 64 → ones (r * 2 ^ (64 - k) % 2 ^ 64) ≡ ones (r % 2 ^ k)
+unfolding ones
+ones-low r k h =
+    let d = 64 - k in
+    let e : 64 ≡ k + d = omega arith in
+    let z : r * 2 ^ d % 2 ^ d ≡ 0 = ap (λ (x : ℕ). x % 2 ^ d) (sym (add-zero (r * 2 ^ d))) ∙ low r d (pow-pos d) in
+    ap (λ (i : ℕ). ones (r * 2 ^ d % 2 ^ i)) e
+    ∙ ap ones (mod-pow-add (r * 2 ^ d) k d)
+    ∙ ap (λ (x : ℕ). ones (x % 2 ^ k * 2 ^ d + r * 2 ^ d % 2 ^ d)) (shl-shr r d)
+    ∙ ap (λ (x : ℕ). ones (r % 2 ^ k * 2 ^ d + x)) z
+    ∙ ones-cat d (r % 2 ^ k) 0 (pow-pos d)
+    ∙ add-zero (ones (r % 2 ^ k))
+
+module _ (m : List ℕ) (y r t : ℕ) (e : t % 64 ≡ 0) (q : bitAt y 63 ≡ bitBefore m t) (s : Starts y (getD m (t / 64) 0) r) where
+  start-bit : (k : ℕ) → k < 64 → bitAt r k ≡ min (freeBit m (t + k)) (1 - bitBefore m (t + k))
   start-bit zero h =
       let z : t + 0 ≡ t = omega arith in
-      let w : 63 - t % 64 ≡ 63 = omega arith in
-      let x = ap (bitAt (getD m (t / 64) 0)) (sym w) ∙ in-word m (t / 64) t refl in
-      subst (λ (i : ℕ). bitAt r 63 ≡ min (freeBit m i) (1 - bitBefore m i)) (sym z) (omega (arith, s .top))
+      let x = ap (bitAt (getD m (t / 64) 0)) (sym e) ∙ in-word m (t / 64) t refl in
+      subst (λ (i : ℕ). bitAt r 0 ≡ min (freeBit m i) (1 - bitBefore m i)) (sym z) (omega (arith, s .first))
   start-bit (suc k) h =
       let z : t + suc k ≡ suc (t + k) = omega arith in
-      let j = 63 - suc k in
-      let u : 63 - suc (t + k) % 64 ≡ j = omega arith in
-      let v : 63 - (t + k) % 64 ≡ suc j = omega arith in
+      let u : suc (t + k) % 64 ≡ suc k = omega arith in
+      let v : (t + k) % 64 ≡ k = omega arith in
       let a = ap (bitAt (getD m (t / 64) 0)) (sym u) ∙ in-word m (t / 64) (suc (t + k)) (omega arith) in
       let b = ap (bitAt (getD m (t / 64) 0)) (sym v) ∙ in-word m (t / 64) (t + k) (omega arith) in
-      subst (λ (i : ℕ). bitAt r j ≡ min (freeBit m i) (1 - bitBefore m i)) (sym z) (omega (arith, s .rest j (omega arith)))
+      subst (λ (i : ℕ). bitAt r (suc k) ≡ min (freeBit m i) (1 - bitBefore m i)) (sym z) (omega (arith, s .rest k (omega arith)))
 
   -- the starts among the first k tracks of the word
-  pub count-turn : (k : ℕ) → k ≤ 64 → length (runs (isFree m) 0 (t + k)) ≡ length (runs (isFree m) 0 t) + ones (r / 2 ^ (64 - k))
+  pub count-turn : (k : ℕ) → k ≤ 64 → length (runs (isFree m) 0 (t + k)) ≡ length (runs (isFree m) 0 t) + ones (r % 2 ^ k)
   unfolding ones
   count-turn zero h =
       let z : t + 0 ≡ t = omega arith in
-      let o : ones (r / 2 ^ 64) ≡ 0 = ap ones (div-eq-of-lt (s .small)) in
+      let w : r % 2 ^ 0 ≡ 0 = omega arith in
+      let o : ones (r % 2 ^ 0) ≡ 0 = ap ones w in
       ap (λ (i : ℕ). length (runs (isFree m) 0 i)) z ∙ omega arith
   count-turn (suc k) h =
       let z : t + suc k ≡ suc (t + k) = omega arith in
-      let j = 64 - suc k in
-      let u : 63 - k ≡ j = omega arith in
-      let v : j + 1 ≡ 64 - k = omega arith in
-      let o : ones (r / 2 ^ j / 2) ≡ ones (r / 2 ^ (64 - k)) = ap ones (shr-shr r j 1) ∙ ap (λ (i : ℕ). ones (r / 2 ^ i)) v in
-      let b : bitAt r j ≡ min (freeBit m (t + k)) (1 - bitBefore m (t + k)) = ap (bitAt r) (sym u) ∙ start-bit k (omega arith) in
-      ap (λ (i : ℕ). length (runs (isFree m) 0 i)) z ∙ omega (arith, count-track m (t + k), count-turn k (omega arith), ones-step (r / 2 ^ j))
+      ap (λ (i : ℕ). length (runs (isFree m) 0 i)) z ∙ omega (arith, count-track m (t + k), count-turn k (omega arith), ones-more r k, start-bit k (omega arith))
 
   -- the last track of the word is the one before the next word
-  pub last-bit : bitAt (getD m (t / 64) 0) 0 ≡ bitBefore m (t + 64)
+  pub last-bit : bitAt (getD m (t / 64) 0) 63 ≡ bitBefore m (t + 64)
   last-bit =
       let z : t + 64 ≡ suc (t + 63) = omega arith in
-      let w : 63 - (t + 63) % 64 ≡ 0 = omega arith in
+      let w : (t + 63) % 64 ≡ 63 = omega arith in
       ap (bitAt (getD m (t / 64) 0)) (sym w) ∙ in-word m (t / 64) (t + 63) (omega arith) ∙ sym (ap (bitBefore m) z)
 
 -- the same for word number w
-module _ (m : List ℕ) (y r w : ℕ) (q : bitAt y 0 ≡ bitBefore m (64 * w)) (s : Starts y (getD m w 0) r) where
+module _ (m : List ℕ) (y r w : ℕ) (q : bitAt y 63 ≡ bitBefore m (64 * w)) (s : Starts y (getD m w 0) r) where
   at-word : Starts y (getD m (64 * w / 64) 0) r
   at-word = let e : w ≡ 64 * w / 64 = omega arith in subst (λ (i : ℕ). Starts y (getD m i 0) r) e s
 
-  pub count-part : (k : ℕ) → k ≤ 64 → length (runs (isFree m) 0 (64 * w + k)) ≡ length (runs (isFree m) 0 (64 * w)) + ones (r / 2 ^ (64 - k))
-  count-part k h = count-turn m y r (64 * w) (omega arith) q at-word k h
+  pub count-part : (k : ℕ) → k ≤ 64 → length (runs (isFree m) 0 (64 * w + k)) ≡ length (runs (isFree m) 0 (64 * w)) + ones (r * 2 ^ (64 - k) % 2 ^ 64)
+  count-part k h = omega (arith, count-turn m y r (64 * w) (omega arith) q at-word k h, ones-low r k h)
 
   pub count-word : length (runs (isFree m) 0 (64 * (w + 1))) ≡ length (runs (isFree m) 0 (64 * w)) + ones r
   count-word =
       let e : 64 * (w + 1) ≡ 64 * w + 64 = omega arith in
-      let o : ones (r / 2 ^ (64 - 64)) ≡ ones r = ap ones (div-one r) in
-      ap (λ (i : ℕ). length (runs (isFree m) 0 i)) e ∙ omega (arith, count-part 64 (le-refl 64))
+      let o : ones (r % 2 ^ 64) ≡ ones r = ap ones (mod-eq-of-lt (s .small)) in
+      ap (λ (i : ℕ). length (runs (isFree m) 0 i)) e ∙ omega (arith, count-turn m y r (64 * w) (omega arith) q at-word 64 (le-refl 64))
 
-  pub word-before : bitAt (getD m w 0) 0 ≡ bitBefore m (64 * (w + 1))
+  pub word-before : bitAt (getD m w 0) 63 ≡ bitBefore m (64 * (w + 1))
   word-before =
       let e : w ≡ 64 * w / 64 = omega arith in
       let f : 64 * w + 64 ≡ 64 * (w + 1) = omega arith in
-      ap (λ (i : ℕ). bitAt (getD m i 0) 0) e ∙ last-bit m y r (64 * w) (omega arith) q at-word ∙ ap (bitBefore m) f
+      ap (λ (i : ℕ). bitAt (getD m i 0) 63) e ∙ last-bit m y r (64 * w) (omega arith) q at-word ∙ ap (bitBefore m) f

@@ -4,29 +4,27 @@ use mathlib.Core.Bool.{Bool, true, false}
 use mathlib.Core.Logic.{⊎-elim}
 use mathlib.Core.List.{List}
 use Prim.Native.Nat.{ℕ, _+_, _-_, _*_, _/_, _%_, _^_, _≤_, _<_}
-use native.Mathlib.Nat.{mod-lt}
 use native.Mathlib.Decide.{ℕ-discrete}
 use native.Mathlib.Omega.{arith}
 use borrow.Author.Tests.{lt-ltb}
 use lib.Dec.{ltb}
 use lib.Bits.{bitAnd, bitOr, bitXor}
-use lib.Pow.{pow-pos}
-use lib.Count.{leadingZeros}
+use lib.Count.{trailingZeros}
 use lib.ListN.{length, getD, set, length-set}
 use lib.Seq.{getD-set-same, getD-set-other}
 use Rattle.model.specs.Basics.{bit}
 use Rattle.model.proofs.Lists.{clash}
 use Rattle.tracks.specs.Map.{bitAt, freeBit, AllFree, Hit, Made, Taken}
 use Rattle.tracks.specs.Steps.{block, flipped, WordAt}
-use Rattle.tracks.proofs.Bits.{le-or-lt, zero-bit, all-ones, and-bit, or-bit, xor-bit, block-low, block-in, block-high, block-lt, lacks, not-bit, shifted, leading-zero, leading-one}
+use Rattle.tracks.proofs.Bits.{le-or-lt, zero-bit, all-ones, and-bit, or-bit, xor-bit, block-low, block-in, block-high, block-lt, lacks, not-bit, shr-bit, trailing-zero, trailing-one}
 
 -- the mask of the n tracks from t on, in t's word
 abbrev mask : ℕ → ℕ → ℕ
-mask t n = block (64 - (t % 64 + n)) n
+mask t n = block (t % 64) n
 
 -- ---- a track's bit after a store
 
-pub store-in : (m : List ℕ) (w v j : ℕ) → w < length m → j / 64 ≡ w → freeBit (set m w v) j ≡ bitAt v (63 - j % 64)
+pub store-in : (m : List ℕ) (w v j : ℕ) → w < length m → j / 64 ≡ w → freeBit (set m w v) j ≡ bitAt v (j % 64)
 unfolding freeBit
 store-in m w v j h e = rw (e, getD-set-same m w v 0 h)
 
@@ -34,7 +32,7 @@ pub store-off : (m : List ℕ) (w v j : ℕ) → (j / 64 ≡ w → ⊥) → free
 unfolding freeBit
 store-off m w v j n = rw (getD-set-other m w (j / 64) v 0 n)
 
-pub in-word : (m : List ℕ) (w j : ℕ) → j / 64 ≡ w → bitAt (getD m w 0) (63 - j % 64) ≡ freeBit m j
+pub in-word : (m : List ℕ) (w j : ℕ) → j / 64 ≡ w → bitAt (getD m w 0) (j % 64) ≡ freeBit m j
 unfolding freeBit
 in-word m w j e = rw e
 
@@ -42,20 +40,20 @@ in-word m w j e = rw e
 module _ (b : ℕ) (m : List ℕ) (t n v : ℕ) (h : t / 64 < length m) (k : t % 64 + n ≤ 64)
     (kept : (p : ℕ) → bitAt (mask t n) p ≡ 0 → bitAt v p ≡ bitAt (getD m (t / 64) 0) p)
     (new : (p : ℕ) → bitAt (mask t n) p ≡ 1 → bitAt v p ≡ b) where
-  out : (j : ℕ) → (j / 64 ≡ t / 64 → bitAt (mask t n) (63 - j % 64) ≡ 0) → freeBit (set m (t / 64) v) j ≡ freeBit m j
+  out : (j : ℕ) → (j / 64 ≡ t / 64 → bitAt (mask t n) (j % 64) ≡ 0) → freeBit (set m (t / 64) v) j ≡ freeBit m j
   out j g = elim (ℕ-discrete (j / 64) (t / 64)) [
-    | yes e ↦ store-in m (t / 64) v j h e ∙ kept (63 - j % 64) (g e) ∙ in-word m (t / 64) j e
+    | yes e ↦ store-in m (t / 64) v j h e ∙ kept (j % 64) (g e) ∙ in-word m (t / 64) j e
     | no d ↦ store-off m (t / 64) v j d
   ]
 
   made-chunk : Made b m (set m (t / 64) v) t (t + n)
   made-chunk =
-      let lo = 64 - (t % 64 + n) in
+      let lo = t % 64 in
       record {
         long = length-set m (t / 64) v;
-        before = λ j a. out j (λ e. block-high lo n (63 - j % 64) (omega arith));
-        inside = λ j a b. store-in m (t / 64) v j h (omega arith) ∙ new (63 - j % 64) (block-in lo n (63 - j % 64) (omega arith) (omega arith));
-        after = λ j a. out j (λ e. block-low lo n (63 - j % 64) (omega arith));
+        before = λ j a. out j (λ e. block-low lo n (j % 64) (omega arith));
+        inside = λ j a b. store-in m (t / 64) v j h (omega arith) ∙ new (j % 64) (block-in lo n (j % 64) (omega arith) (omega arith));
+        after = λ j a. out j (λ e. block-high lo n (j % 64) (omega arith));
       }
 
 -- ---- one range after the other
@@ -79,9 +77,9 @@ module _ (m : List ℕ) (t n : ℕ) (h : t / 64 < length m) (k : t % 64 + n ≤ 
   all-free z j a b =
       let w : j / 64 ≡ t / 64 = omega arith in
       let x = getD m (t / 64) 0 in
-      let p = 63 - j % 64 in
+      let p = j % 64 in
       let e : bitAt (bitAnd x (mask t n)) p ≡ bitAt (mask t n) p = ap (λ (y : ℕ). bitAt y p) z in
-      let one = block-in (64 - (t % 64 + n)) n p (omega arith) (omega arith) in
+      let one = block-in (t % 64) n p (omega arith) (omega arith) in
       rw w (omega (arith, and-bit x (mask t n) p))
 
   pub take-chunk : bitAnd (getD m (t / 64) 0) (mask t n) ≡ mask t n → Made 0 m (set m (t / 64) (bitXor (getD m (t / 64) 0) (mask t n))) t (t + n)
@@ -95,16 +93,16 @@ module _ (m : List ℕ) (t n : ℕ) (h : t / 64 < length m) (k : t % 64 + n ≤ 
   unfolding freeBit
   hit-chunk e b z =
       let x = getD m (t / 64) 0 in
-      let lo = 64 - (t % 64 + n) in
+      let lo = t % 64 in
       let r = lacks x (mask t n) (block-lt lo n (omega arith)) z in
       let p = r .0 in
       let pl = r .1 in
       let on = r .2 in
       let from : lo ≤ p = ⊎-elim (λ g. g) (λ g. absurd (omega (arith, block-low lo n p g))) (le-or-lt lo p) in
       let to : p < lo + n = ⊎-elim (λ g. absurd (omega (arith, block-high lo n p g))) (λ g. g) (le-or-lt (lo + n) p) in
-      let j = 64 * (t / 64) + (63 - p) in
+      let j = 64 * (t / 64) + p in
       let w : j / 64 ≡ t / 64 = omega arith in
-      let v : 63 - j % 64 ≡ p = omega arith in
+      let v : j % 64 ≡ p = omega arith in
       record { at = j; from = omega arith; below = omega arith; off = rw (w, v) (r .3) }
 
   -- ---- giving
@@ -138,41 +136,38 @@ plain-bit false i h = let n = not-bit 0 i h in let z = zero-bit i in omega arith
 
 pub plain-word : (m : List ℕ) (b : Bool) (t : ℕ) → t % 64 ≡ 0 → getD m (t / 64) 0 ≡ flipped b 0 → (j : ℕ) → t ≤ j → j < t + 64 → freeBit m j ≡ 1 - bit b
 unfolding freeBit
-plain-word m b t e q j u v = let w : j / 64 ≡ t / 64 = omega arith in rw (w, q) (plain-bit b (63 - j % 64) (omega arith))
+plain-word m b t e q j u v = let w : j / 64 ≡ t / 64 = omega arith in rw (w, q) (plain-bit b (j % 64) (omega arith))
 
 module _ (m : List ℕ) (b : Bool) (t n : ℕ) (k : t % 64 + n ≤ 64) where
-  -- what the code counts the leading zeros of: the word from track t on, complemented where b is false
+  -- what the code counts the trailing zeros of: the word from track t on, complemented where b is false
   abbrev pub word : ℕ
-  word = flipped b (getD m (t / 64) 0) * 2 ^ (t % 64) % 2 ^ 64
+  word = flipped b (getD m (t / 64) 0) / 2 ^ (t % 64)
 
-  small : word < 2 ^ 64
-  small = mod-lt (flipped b (getD m (t / 64) 0) * 2 ^ (t % 64)) (pow-pos 64)
-
-  pub off-turn : (j : ℕ) → t ≤ j → j < t + n → j < t + leadingZeros 64 word → freeBit m j ≡ 1 - bit b
+  pub off-turn : (j : ℕ) → t ≤ j → j < t + n → j < t + trailingZeros 64 word → freeBit m j ≡ 1 - bit b
   unfolding freeBit
   off-turn j u v w =
       let e : j / 64 ≡ t / 64 = omega arith in
       let i = j - t in
-      let z = leading-zero word i small (omega arith) in
-      let s = shifted (flipped b (getD m (t / 64) 0)) (t % 64) i (omega arith) in
-      let p : 63 - (t % 64 + i) ≡ 63 - j % 64 = omega arith in
-      rw e (flip-bit b (getD m (t / 64) 0) (63 - j % 64) (omega arith) .0 (ap (λ (q : ℕ). bitAt (flipped b (getD m (t / 64) 0)) q) (sym p) ∙ sym s ∙ z))
+      let z = trailing-zero 64 word i (omega arith) in
+      let s = shr-bit (flipped b (getD m (t / 64) 0)) (t % 64) i in
+      let p : t % 64 + i ≡ j % 64 = omega arith in
+      rw e (flip-bit b (getD m (t / 64) 0) (j % 64) (omega arith) .0 (ap (λ (q : ℕ). bitAt (flipped b (getD m (t / 64) 0)) q) (sym p) ∙ sym s ∙ z))
 
-  pub on-turn : leadingZeros 64 word < n → freeBit m (t + leadingZeros 64 word) ≡ bit b
+  pub on-turn : trailingZeros 64 word < n → freeBit m (t + trailingZeros 64 word) ≡ bit b
   unfolding freeBit
   on-turn w =
-      let i = leadingZeros 64 word in
+      let i = trailingZeros 64 word in
       let j = t + i in
       let e : j / 64 ≡ t / 64 = omega arith in
-      let z = leading-one word small (omega arith) in
-      let s = shifted (flipped b (getD m (t / 64) 0)) (t % 64) i (omega arith) in
-      let p : 63 - (t % 64 + i) ≡ 63 - j % 64 = omega arith in
-      rw e (flip-bit b (getD m (t / 64) 0) (63 - j % 64) (omega arith) .1 (ap (λ (q : ℕ). bitAt (flipped b (getD m (t / 64) 0)) q) (sym p) ∙ sym s ∙ z))
+      let z = trailing-one 64 word (omega arith) in
+      let s = shr-bit (flipped b (getD m (t / 64) 0)) (t % 64) i in
+      let p : t % 64 + i ≡ j % 64 = omega arith in
+      rw e (flip-bit b (getD m (t / 64) 0) (j % 64) (omega arith) .1 (ap (λ (q : ℕ). bitAt (flipped b (getD m (t / 64) 0)) q) (sym p) ∙ sym s ∙ z))
 
 -- ---- the map at the beginning
 
 pub word-all : (a n : ℕ) → a + 64 ≤ n → WordAt a n 0xffff_ffff_ffff_ffff
-word-all a n h j u = all-ones (63 - j) (omega arith) ∙ sym (ap bit (lt-ltb (a + j) n (omega arith)))
+word-all a n h j u = all-ones j (omega arith) ∙ sym (ap bit (lt-ltb (a + j) n (omega arith)))
 
 -- the first w words say that the tracks below n are free
 abbrev pub Upto : List ℕ → ℕ → ℕ → Type 0

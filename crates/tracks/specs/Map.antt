@@ -12,10 +12,10 @@ use Rattle.model.specs.Model.{Run, run, runs, times}
 abbrev pub bitAt : ℕ → ℕ → ℕ
 bitAt x j = x / 2 ^ j % 2
 
--- Track t is bit 63 − t mod 64 of word t / 64: the words, written big-endian, have the tracks in their order.
+-- Track t is bit t mod 64 of word t / 64, the lowest bit first: trailing zeros are counted by one fast instruction.
 -- 1 where the track is free; 0 where it is not, and behind the map's end.
 unfoldable pub freeBit : List ℕ → ℕ → ℕ
-freeBit m t = bitAt (getD m (t / 64) 0) (63 - t % 64)
+freeBit m t = bitAt (getD m (t / 64) 0) (t % 64)
 
 -- the same as a test, of which `runs` makes the free extents
 unfoldable pub isFree : List ℕ → ℕ → Bool

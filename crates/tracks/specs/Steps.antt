@@ -14,7 +14,7 @@ block lo n = (2 ^ n - 1) * 2 ^ lo
 
 -- the word whose first track is a, where the tracks below n are free and no others
 abbrev pub WordAt : ℕ → ℕ → ℕ → Type 0
-WordAt a n r = (j : ℕ) → j < 64 → bitAt r (63 - j) ≡ bit (ltb (a + j) n)
+WordAt a n r = (j : ℕ) → j < 64 → bitAt r j ≡ bit (ltb (a + j) n)
 
 -- the word, or its complement
 unfoldable pub flipped : Bool → ℕ → ℕ
@@ -34,16 +34,16 @@ pub record Passed (m : List ℕ) (b : Bool) (s n r : ℕ) : Type 0 where
   pub to : r ≤ n
   pub before : (t : ℕ) → s ≤ t → t < r → freeBit m t ≡ 1 - bit b
 
--- x shows the tracks from t on and below n that lie in its word, the first in the highest bit
+-- x shows the tracks from t on and below n that lie in its word, the first in the lowest bit
 abbrev pub Rest : List ℕ → ℕ → ℕ → ℕ → Type 0
-Rest m n t x = (j : ℕ) → t % 64 + j < 64 → t + j < n → bitAt x (63 - j) ≡ freeBit m (t + j)
+Rest m n t x = (j : ℕ) → t % 64 + j < 64 → t + j < n → bitAt x j ≡ freeBit m (t + j)
 
 -- the word of the 64 tracks from track t on
 abbrev pub Window : List ℕ → ℕ → ℕ → Type 0
-Window m t r = (j : ℕ) → j < 64 → bitAt r (63 - j) ≡ freeBit m (t + j)
+Window m t r = (j : ℕ) → j < 64 → bitAt r j ≡ freeBit m (t + j)
 
 -- the bits of the word x with a clear bit before them, where y is the word before x
 pub record Starts (y x r : ℕ) : Type 0 where
   pub small : r < 2 ^ 64
-  pub top : bitAt r 63 ≡ min (bitAt x 63) (1 - bitAt y 0)
-  pub rest : (j : ℕ) → j < 63 → bitAt r j ≡ min (bitAt x j) (1 - bitAt x (suc j))
+  pub first : bitAt r 0 ≡ min (bitAt x 0) (1 - bitAt y 63)
+  pub rest : (j : ℕ) → j < 63 → bitAt r (suc j) ≡ min (bitAt x (suc j)) (1 - bitAt x j)

@@ -1,4 +1,4 @@
-// The map of free tracks, a bit a track: track t is bit 63 - t % 64 of word t / 64, set where the track is free.
+// The map of free tracks, a bit a track: track t is bit t % 64 of word t / 64, set where the track is free.
 // No loop goes by tracks: each turn does the rest of a word.
 ghost use mathlib.Core.Path.{_≡_};
 ghost use Prim.Native.Nat.{_+_, _-_, _*_, _/_, _%_, _≤_, _<_, min};
@@ -11,9 +11,9 @@ const ALL: u64 = 0xffff_ffff_ffff_ffff;
 // The n tracks of a word from its track `at` on.
 fn mask(at: usize, n: usize) -> u64
     requires { ⌜ (0 < n) × (at + n ≤ 64) ⌝ }
-    ensures { λ r. ⌜ r ≡ block (64 - (at + n)) n ⌝ }
+    ensures { λ r. ⌜ r ≡ block at n ⌝ }
 {
-    (ALL >> (64 - n)) << (64 - (at + n))
+    (ALL >> (64 - n)) << at
 }
 
 // How many tracks from t on lie in t's word and below e.
@@ -134,8 +134,8 @@ fn next_track(map: &[u64], s: usize, n: usize, free: bool) -> usize
         let k = chunk(t, n);
         let w = t / 64;
         let x = flip(map[w], free);
-        let y = x << (t % 64);
-        let z = u64::leading_zeros(y) as usize;
+        let y = x >> (t % 64);
+        let z = u64::trailing_zeros(y) as usize;
         if z < k {
             return t + z;
         }
@@ -150,14 +150,14 @@ pub struct Span {
     pub to: usize,
 }
 
-// The 64 tracks from t on as one word, track t in its highest bit. Two shifts down, since one by 64 - o may be by 64.
+// The 64 tracks from t on as one word, track t in its lowest bit. Two shifts up, since one by 64 - o may be by 64.
 fn window(map: &[u64], t: usize) -> u64
     requires { ⌜ t / 64 + 1 < length (now map) ⌝ }
     ensures { λ r. ⌜ Window (now (map .entry)) t r ⌝ }
 {
     let w = t / 64;
     let o = t % 64;
-    (map[w] << o) | ((map[w + 1] >> 1) >> (63 - o))
+    (map[w] >> o) | ((map[w + 1] << 1) << (63 - o))
 }
 
 // The first run of free tracks from s on and below n; from n to n where there is none. A run that ends within 64 tracks
@@ -168,9 +168,9 @@ pub fn next_run(map: &[u64], s: usize, n: usize) -> Span
 {
     if n - s > 64 {
         let x = window(map, s);
-        let a = u64::leading_zeros(x) as usize;
+        let a = u64::trailing_zeros(x) as usize;
         if a < 64 {
-            let b = u64::leading_zeros((x << a) ^ ALL) as usize;
+            let b = u64::trailing_zeros((x >> a) ^ ALL) as usize;
             let c = a + b;
             if c < 64 {
                 return Span {
@@ -185,14 +185,14 @@ pub fn next_run(map: &[u64], s: usize, n: usize) -> Span
     Span { from, to }
 }
 
-// The tracks from t on that lie in its word, the first in the highest bit.
+// The tracks from t on that lie in its word, the first in the lowest bit.
 pub fn rest_of(map: &[u64], t: usize, n: usize) -> u64
     requires { ⌜ n ≤ 64 * length (now map) ⌝ }
     ensures { λ r. ⌜ Rest (now (map .entry)) n t r ⌝ }
 {
     if t < n {
         let w = t / 64;
-        return map[w] << (t % 64);
+        return map[w] >> (t % 64);
     }
     0
 }
@@ -210,17 +210,17 @@ pub fn run_ahead(map: &[u64], t: usize, n: usize, x: u64) -> Ahead
     requires { ⌜ (t ≤ n) × (n ≤ 64 * length (now map)) × Rest (now map) n t x ⌝ }
     ensures { λ r. ⌜ NextRun (now (map .entry)) n t (r .from) (r .to) × Rest (now (map .entry)) n (r .to) (r .rest) ⌝ }
 {
-    let a = u64::leading_zeros(x) as usize;
+    let a = u64::trailing_zeros(x) as usize;
     if a < 64 {
-        let y = x << a;
-        let b = u64::leading_zeros(y ^ ALL) as usize;
+        let y = x >> a;
+        let b = u64::trailing_zeros(y ^ ALL) as usize;
         let c = a + b;
         if c < 64 - t % 64 {
             if t + c < n {
                 return Ahead {
                     from: t + a,
                     to: t + c,
-                    rest: y << b,
+                    rest: y >> b,
                 };
             }
         }
@@ -238,7 +238,7 @@ pub fn run_ahead(map: &[u64], t: usize, n: usize, x: u64) -> Ahead
 fn starts(y: u64, x: u64) -> u64
     ensures { λ r. ⌜ Starts y x r ⌝ }
 {
-    let behind = (x >> 1) | (y << 63);
+    let behind = (x << 1) | (y >> 63);
     x & (behind ^ ALL)
 }
 
@@ -260,7 +260,7 @@ pub fn count_runs(map: &[u64], n: usize) -> usize
     if k == 0 {
         return count;
     }
-    let s = starts(y, map[w]) >> (64 - k);
+    let s = starts(y, map[w]) << (64 - k);
     count + u64::count_ones(s) as usize
 }
 
@@ -273,5 +273,5 @@ pub fn is_free(map: &[u64], t: usize) -> bool
 {
     let w = t / 64;
     let x = map[w];
-    (x >> (63 - t % 64)) % 2 == 1
+    (x >> (t % 64)) % 2 == 1
 }

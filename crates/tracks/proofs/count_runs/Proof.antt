@@ -15,7 +15,7 @@ use Rattle.tracks.proofs.count_runs.Lts as lts
 use Rattle.tracks.proofs.starts.Reads as starts-reads
 
 abbrev Inv-loop : tie.InvT-loop
-Inv-loop map n count₀ y₀ w₀ count y w = (w ≤ n / 64) × (count ≡ length (runs (isFree map) 0 (64 * w))) × (bitAt y 0 ≡ bitBefore map (64 * w))
+Inv-loop map n count₀ y₀ w₀ count y w = (w ≤ n / 64) × (count ≡ length (runs (isFree map) 0 (64 * w))) × (bitAt y 63 ≡ bitBefore map (64 * w))
 
 abbrev μ-loop : tie.MeasureT-loop
 μ-loop map n count₀ y₀ w₀ count y w = n / 64 - w
@@ -91,12 +91,12 @@ sub-s : tie.Need-sub-s Inv-loop μ-loop
 sub-s c = search needs
 
 -- src/lib.rt:187:13
-shr-s : tie.Need-shr-s Inv-loop μ-loop
-shr-s c = search needs
+shl-s : tie.Need-shl-s Inv-loop μ-loop
+shl-s c = search needs
 
 -- the count with the tracks of the last word
 whole : (c : tie.After-starts2 Inv-loop μ-loop)
-    → c .before .before .before .before .loop .count + ones (c .starts2 .result / 2 ^ (64 - c .before .before .before .before .before .before .args .n % 64))
+    → c .before .before .before .before .loop .count + ones (c .starts2 .result * 2 ^ (64 - c .before .before .before .before .before .before .args .n % 64) % 2 ^ 64)
     ≡ length (runs (isFree (c .before .before .before .before .before .before .args .map .now)) 0 (c .before .before .before .before .before .before .args .n))
 whole c =
     let top = c .before .before .before .before .before .before in
@@ -141,7 +141,7 @@ count-runs-spec =
     shared-slice-read-starts
     starts-requires-2
     sub-s
-    shr-s
+    shl-s
     cast-result
     add-result
     returns-2)

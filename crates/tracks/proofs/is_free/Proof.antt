@@ -14,10 +14,6 @@ mul-x c = search needs
 shared-slice-read-x : tie.Need-shared-slice-read-x
 shared-slice-read-x c = search needs
 
--- src/lib.rt:180:12
-sub-result : tie.Need-sub-result
-sub-result c = search needs
-
 -- src/lib.rt:180:6
 shr-result : tie.Need-shr-result
 shr-result c = search needs
@@ -28,4 +24,4 @@ unfolding isFree freeBit
 returns c = refl
 
 pub is-free-spec : {M : Type 1} → statement M
-is-free-spec = tie.close (tie.spec mul-x shared-slice-read-x sub-result shr-result returns)
+is-free-spec = tie.close (tie.spec mul-x shared-slice-read-x shr-result returns)

@@ -1,5 +1,5 @@
 use native.Mathlib.Omega.{arith}
-use lib.Count.{leading-le}
+use lib.Count.{trailing-le}
 use Rattle.tracks.proofs.Near.{tail, near-run}
 use Rattle.tracks.proofs.Walk.{next-run-law}
 use borrow.Author.Needs.{needs}
@@ -13,16 +13,16 @@ window-requires : tie.Need-window-requires
 window-requires c κs = search needs
 
 cast-a : tie.Need-cast-a
-cast-a c = omega (arith, leading-le 64 (c .window .result))
+cast-a c = omega (arith, trailing-le 64 (c .window .result))
 
-shl-b : tie.Need-shl-b
-shl-b c = search needs
+shr-b : tie.Need-shr-b
+shr-b c = search needs
 
 cast-b : tie.Need-cast-b
-cast-b c = omega (arith, leading-le 64 (tail (c .before .window .result)))
+cast-b c = omega (arith, trailing-le 64 (tail (c .before .window .result)))
 
 add-c : tie.Need-add-c
-add-c c = omega (arith, leading-le 64 (c .before .window .result), leading-le 64 (tail (c .before .window .result)))
+add-c c = omega (arith, trailing-le 64 (c .before .window .result), trailing-le 64 (tail (c .before .window .result)))
 
 add-t19 : tie.Need-add-t19
 add-t19 c = search needs
@@ -33,7 +33,7 @@ add-t20 c = search needs
 returns : tie.Need-returns
 returns c =
     let top = c .before .before .before .before .before in
-    near-run (top .args .map .now) (top .args .s) (top .args .n) (c .before .before .window .result) (omega arith) 64 (omega arith) (c .before .before .window .ensures) (c .if3 .taken) (omega arith)
+    near-run (top .args .map .now) (top .args .s) (top .args .n) (c .before .before .window .result) 64 (omega arith) (c .before .before .window .ensures) (c .if3 .taken) (omega arith)
 
 next-track-requires : tie.Need-next-track-requires
 next-track-requires c κs = search needs
@@ -53,7 +53,7 @@ next-run-spec =
     sub-if1
     window-requires
     cast-a
-    shl-b
+    shr-b
     cast-b
     add-c
     add-t19

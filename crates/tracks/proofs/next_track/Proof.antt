@@ -1,9 +1,9 @@
 use mathlib.Core.Path.{_≡_, ap}
 use mathlib.Core.Logic.{⊎-elim}
-use Prim.Native.Nat.{ℕ, _+_, _≤_, _<_, _-_, _%_, _*_, _^_}
+use Prim.Native.Nat.{ℕ, _+_, _≤_, _<_, _-_, _%_, _/_, _^_}
 use native.Mathlib.Omega.{arith}
 use borrow.Author.Needs.{needs}
-use lib.Count.{leadingZeros, leading-le}
+use lib.Count.{trailingZeros, trailing-le}
 use Rattle.tracks.proofs.Words.{off-turn, on-turn}
 use Rattle.tracks.proofs.Bits.{le-or-lt}
 use Rattle.tracks.specs.Map.{freeBit}
@@ -32,11 +32,11 @@ shared-slice-read-flip c = search needs
 flip-requires : tie.Need-flip-requires Inv-loop μ-loop
 flip-requires c κs = search needs
 
-shl-y : tie.Need-shl-y Inv-loop μ-loop
-shl-y c = search needs
+shr-y : tie.Need-shr-y Inv-loop μ-loop
+shr-y c = search needs
 
 cast-z : tie.Need-cast-z Inv-loop μ-loop
-cast-z c = omega (arith, leading-le 64 (c .flip .result * 2 ^ (c .before .before .before .before .loop .t % 64) % 2 ^ 64))
+cast-z c = omega (arith, trailing-le 64 (c .flip .result / 2 ^ (c .before .before .before .before .loop .t % 64)))
 
 add-result : tie.Need-add-result Inv-loop μ-loop
 add-result c = search needs
@@ -49,8 +49,8 @@ returns c =
     let b = top .args .free in
     let t = at-loop .loop .t in
     let k = c .before .before .before .chunk .result in
-    let e = ap (λ (x : ℕ). leadingZeros 64 (x * 2 ^ (t % 64) % 2 ^ 64)) (c .before .flip .ensures) in
-    let z : leadingZeros 64 (c .before .flip .result * 2 ^ (t % 64) % 2 ^ 64) < k = c .if1 .taken in
+    let e = ap (λ (x : ℕ). trailingZeros 64 (x / 2 ^ (t % 64))) (c .before .flip .ensures) in
+    let z : trailingZeros 64 (c .before .flip .result / 2 ^ (t % 64)) < k = c .if1 .taken in
     record {
       from = omega arith;
       to = omega arith;
@@ -75,8 +75,8 @@ loop-again c =
     let b = top .args .free in
     let t = at-loop .loop .t in
     let k = c .before .before .before .before .chunk .result in
-    let e = ap (λ (x : ℕ). leadingZeros 64 (x * 2 ^ (t % 64) % 2 ^ 64)) (c .before .before .flip .ensures) in
-    let z : k ≤ leadingZeros 64 (c .before .before .flip .result * 2 ^ (t % 64) % 2 ^ 64) = c .before .if1 .left in
+    let e = ap (λ (x : ℕ). trailingZeros 64 (x / 2 ^ (t % 64))) (c .before .before .flip .ensures) in
+    let z : k ≤ trailingZeros 64 (c .before .before .flip .result / 2 ^ (t % 64)) = c .before .if1 .left in
     let p = c .skip .ensures in
     let q = p .from in (
       omega arith,
@@ -102,7 +102,7 @@ next-track-spec =
     mul-flip
     shared-slice-read-flip
     flip-requires
-    shl-y
+    shr-y
     cast-z
     add-result
     returns

@@ -14,8 +14,8 @@ shared-slice-read-result : tie.Need-shared-slice-read-result
 shared-slice-read-result c = search needs
 
 -- src/lib.rt:195:16
-shl-result : tie.Need-shl-result
-shl-result c = search needs
+shr-result : tie.Need-shr-result
+shr-result c = search needs
 
 -- src/lib.rt:195:9
 returns : tie.Need-returns
@@ -27,4 +27,4 @@ returns-2 c = search needs
 
 pub rest-of-spec : {M : Type 1} → statement M
 rest-of-spec =
-    tie.close (tie.spec mul-result shared-slice-read-result shl-result returns returns-2)
+    tie.close (tie.spec mul-result shared-slice-read-result shr-result returns returns-2)

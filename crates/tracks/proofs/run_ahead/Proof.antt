@@ -1,6 +1,6 @@
 use Prim.Native.Nat.{_+_, _-_, _%_}
 use native.Mathlib.Omega.{arith}
-use lib.Count.{leading-le, leadingZeros}
+use lib.Count.{trailing-le, trailingZeros}
 use Rattle.tracks.proofs.Near.{tail, near-run, rest-behind}
 use borrow.Author.Needs.{needs}
 use Rattle.tracks.proofs.run_ahead.Statement.{statement}
@@ -12,19 +12,19 @@ use Rattle.tracks.proofs.rest_of.Reads as rest-of-reads
 
 -- src/lib.rt:213:13
 cast-a : tie.Need-cast-a
-cast-a c = omega (arith, leading-le 64 (c .before .args .x))
+cast-a c = omega (arith, trailing-le 64 (c .before .args .x))
 
 -- src/lib.rt:215:17
-shl-y : tie.Need-shl-y
-shl-y c = search needs
+shr-y : tie.Need-shr-y
+shr-y c = search needs
 
 -- src/lib.rt:216:17
 cast-b : tie.Need-cast-b
-cast-b c = omega (arith, leading-le 64 (tail (c .before .before .args .x)))
+cast-b c = omega (arith, trailing-le 64 (tail (c .before .before .args .x)))
 
 -- src/lib.rt:217:17
 add-c : tie.Need-add-c
-add-c c = omega (arith, leading-le 64 (c .before .before .args .x), leading-le 64 (tail (c .before .before .args .x)))
+add-c c = omega (arith, trailing-le 64 (c .before .before .args .x), trailing-le 64 (tail (c .before .before .args .x)))
 
 -- src/lib.rt:218:16
 sub-if2 : tie.Need-sub-if2
@@ -43,8 +43,8 @@ add-t21 : tie.Need-add-t21
 add-t21 c = search needs
 
 -- src/lib.rt:223:27
-shl-t23 : tie.Need-shl-t23
-shl-t23 c = search needs
+shr-t23 : tie.Need-shr-t23
+shr-t23 c = search needs
 
 -- src/lib.rt:220:17
 returns : tie.Need-returns
@@ -56,7 +56,7 @@ returns c =
     let x = top .args .x in
     let far = c .if3 .taken in
     let in-word = c .before .if2 .taken in
-    (near-run m t n x (omega arith) (leadingZeros 64 x + leadingZeros 64 (tail x) + 1) (omega arith) (λ j h. top .pre .2 j (omega arith) (omega arith)) (omega arith) far, rest-behind m n t x (leadingZeros 64 x) (leadingZeros 64 (tail x)) (top .pre .2) in-word)
+    (near-run m t n x (trailingZeros 64 x + trailingZeros 64 (tail x) + 1) (omega arith) (λ j h. top .pre .2 j (omega arith) (omega arith)) (omega arith) far, rest-behind m n t x (trailingZeros 64 x) (trailingZeros 64 (tail x)) (top .pre .2) in-word)
 
 -- src/lib.rt:228:9
 next-run-requires : tie.Need-next-run-requires
@@ -75,14 +75,14 @@ run-ahead-spec =
     tie.close
     (tie.spec
     cast-a
-    shl-y
+    shr-y
     cast-b
     add-c
     sub-if2
     add-if3
     add-t20
     add-t21
-    shl-t23
+    shr-t23
     returns
     next-run-requires
     rest-of-requires

@@ -4,7 +4,7 @@ use Rattle.tracks.proofs.starts.Statement.{statement}
 use Rattle.tracks.proofs.starts.Tie as tie
 
 returns : tie.Need-returns
-returns c = starts-law (c .args .y) (c .args .x) (omega arith)
+returns c = starts-law (c .args .y) (c .args .x) (omega arith) (omega arith)
 
 pub starts-spec : {M : Type 1} → statement M
 starts-spec = tie.close (tie.spec returns)

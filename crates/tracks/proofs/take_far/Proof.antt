@@ -72,7 +72,7 @@ loop-again c =
     let s = top .args .s in
     let t = at-loop .loop .t in
     let n = c .before .before .before .chunk .result in
-    let z : bitAnd (getD m (t / 64) 0) (block (64 - (t % 64 + n)) n) ≡ block (64 - (t % 64 + n)) n = rw (c .before .before .mask .ensures) at (c .if1 .left) in
+    let z : bitAnd (getD m (t / 64) 0) (block (t % 64) n) ≡ block (t % 64) n = rw (c .before .before .mask .ensures) at (c .if1 .left) in
     let step : Made 0 m (set m (t / 64) (bitXor (getD m (t / 64) 0) (c .before .before .mask .result))) t (t + n) = rw (c .before .before .mask .ensures) (take-chunk m t n (omega arith) (omega arith) z) in (
       omega arith,
       omega arith,

@@ -1,4 +1,4 @@
-use Prim.Native.Nat.{_+_, _/_}
+use Prim.Native.Nat.{_/_}
 use Rattle.tracks.proofs.Near.{window-law}
 use borrow.Author.Needs.{needs}
 use Rattle.tracks.proofs.window.Statement.{statement}
@@ -10,8 +10,8 @@ mul-result c = search needs
 shared-slice-read-result : tie.Need-shared-slice-read-result
 shared-slice-read-result c = search needs
 
-shl-result : tie.Need-shl-result
-shl-result c = search needs
+shr-result : tie.Need-shr-result
+shr-result c = search needs
 
 add-result : tie.Need-add-result
 add-result c = search needs
@@ -25,11 +25,11 @@ shared-slice-read-result-2 c = search needs
 sub-result : tie.Need-sub-result
 sub-result c = search needs
 
-shr-result : tie.Need-shr-result
-shr-result c = search needs
+shl-result : tie.Need-shl-result
+shl-result c = search needs
 
 returns : tie.Need-returns
-returns c = window-law (c .before .before .args .map .now) (c .before .before .args .t) (c .shared-slice-known2 .given (c .before .before .args .t / 64 + 1) .fits)
+returns c = window-law (c .before .before .args .map .now) (c .before .before .args .t) (c .before .shared-slice-known .given (c .before .before .args .t / 64) .fits)
 
 pub window-spec : {M : Type 1} → statement M
 window-spec =
@@ -37,10 +37,10 @@ window-spec =
     (tie.spec
     mul-result
     shared-slice-read-result
-    shl-result
+    shr-result
     add-result
     mul-result-2
     shared-slice-read-result-2
     sub-result
-    shr-result
+    shl-result
     returns)
