@@ -63,7 +63,7 @@ type-byte-requires c κs = search needs
 
 put-grant-requires : tie.Need-put-grant-requires
 put-grant-requires c κs = (
-  (limits (c .before .before .before .before .before .before .before .before .before .before .before .before .before .before .before .before .before .before .before .before .before .before .before .before .before .before .pre), long (c .before .before .before .before .before .before .before .before .before .before .before .before .before .before .before .before .before .before .before .before .before .before .before .before .before .before .pre), c .before .before .before .before .before .before .before .before .before .before .before .before .before .before .before .before .before .before .before .before .before .before .before .before .before .before .pre .longMap, c .before .before .before .before .before .before .before .before .before .before .before .before .before .before .before .before .before .before .before .before .before .before .before .before .before .before .pre .longSlots, c .before .before .before .before .before .before .before .before .before .before .before .before .before .before .before .before .before .before .before .before .before .before .before .before .before .before .pre .longAnswer, inside (c .before .before .before .before .before .before .before .before .before .before .before .before .before .before .before .before .before .before .before .before .before .before .before .before .before .before .pre), third-inside (c .before .before .before .before .before .before .before .before .before .before .before .before .before .before .before .before .before .before .before .before .before .before .before .before .before .before .pre) (c .before .before .before .before .before .before .before .before .before .before .before .before .before .before .before .before .before .before .before .before .set-at .ensures), pieces-most (c .before .before .before .before .before .before .before .before .before .before .before .before .before .before .before .before .before .before .before .before .before .before .before .before .before .before .pre) (c .before .before .before .before .before .before .before .before .before .before .before .before .before .before .before .before .before .before .before .before .set-at .ensures) _ (c .before .before .before .before .before .before .before .before .before .before .before .before .before .before .before .before .three2 .ensures .0) (c .before .before .before .before .before .before .before .before .before .before .before .before .before .before .before .if1 .left) (c .before .before .before .before .before .before .before .before .before .before .before .before .before .before .before .before .three2 .ensures .1) _ refl _ (c .before .before .before .before .before .before .before .before .before .before .before .before .before .before .secondary-of .ensures) _ _ _ _ (c .before .before .before .before .before .before .before .before .before .before .fulfil .ensures) (c .before .before .before .before .before .before .before .before .if2 .left), c .before .before .before .before .before .if3 .left, sum-most (c .before .before .before .before .before .before .before .before .before .before .before .before .before .before .before .before .before .before .before .before .before .before .before .before .before .before .pre) (c .before .before .before .before .before .before .before .before .before .before .before .before .before .before .before .before .before .before .before .before .set-at .ensures) _ (c .before .before .before .before .before .before .before .before .before .before .before .before .before .before .before .before .three2 .ensures .0) (c .before .before .before .before .before .before .before .before .before .before .before .before .before .before .before .if1 .left) (c .before .before .before .before .before .before .before .before .before .before .before .before .before .before .before .before .three2 .ensures .1) _ refl _ (c .before .before .before .before .before .before .before .before .before .before .before .before .before .before .secondary-of .ensures) _ _ _ _ (c .before .before .before .before .before .before .before .before .before .before .fulfil .ensures) (c .before .before .before .before .before .before .before .before .if2 .left)),
+  (limits (c .before .before .before .before .before .before .before .before .before .before .before .before .before .before .before .before .before .before .before .before .before .before .before .before .before .before .pre), long (c .before .before .before .before .before .before .before .before .before .before .before .before .before .before .before .before .before .before .before .before .before .before .before .before .before .before .pre), map-fits (c .before .before .before .before .before .before .before .before .before .before .before .before .before .before .before .before .before .before .before .before .before .before .before .before .before .before .pre), c .before .before .before .before .before .before .before .before .before .before .before .before .before .before .before .before .before .before .before .before .before .before .before .before .before .before .pre .longSlots, c .before .before .before .before .before .before .before .before .before .before .before .before .before .before .before .before .before .before .before .before .before .before .before .before .before .before .pre .longAnswer, inside (c .before .before .before .before .before .before .before .before .before .before .before .before .before .before .before .before .before .before .before .before .before .before .before .before .before .before .pre), third-inside (c .before .before .before .before .before .before .before .before .before .before .before .before .before .before .before .before .before .before .before .before .before .before .before .before .before .before .pre) (c .before .before .before .before .before .before .before .before .before .before .before .before .before .before .before .before .before .before .before .before .set-at .ensures), pieces-most (c .before .before .before .before .before .before .before .before .before .before .before .before .before .before .before .before .before .before .before .before .before .before .before .before .before .before .pre) (c .before .before .before .before .before .before .before .before .before .before .before .before .before .before .before .before .before .before .before .before .set-at .ensures) _ (c .before .before .before .before .before .before .before .before .before .before .before .before .before .before .before .before .three2 .ensures .0) (c .before .before .before .before .before .before .before .before .before .before .before .before .before .before .before .if1 .left) (c .before .before .before .before .before .before .before .before .before .before .before .before .before .before .before .before .three2 .ensures .1) _ refl _ (c .before .before .before .before .before .before .before .before .before .before .before .before .before .before .secondary-of .ensures) _ _ _ _ (c .before .before .before .before .before .before .before .before .before .before .fulfil .ensures) (c .before .before .before .before .before .before .before .before .if2 .left), c .before .before .before .before .before .if3 .left, sum-most (c .before .before .before .before .before .before .before .before .before .before .before .before .before .before .before .before .before .before .before .before .before .before .before .before .before .before .pre) (c .before .before .before .before .before .before .before .before .before .before .before .before .before .before .before .before .before .before .before .before .set-at .ensures) _ (c .before .before .before .before .before .before .before .before .before .before .before .before .before .before .before .before .three2 .ensures .0) (c .before .before .before .before .before .before .before .before .before .before .before .before .before .before .before .if1 .left) (c .before .before .before .before .before .before .before .before .before .before .before .before .before .before .before .before .three2 .ensures .1) _ refl _ (c .before .before .before .before .before .before .before .before .before .before .before .before .before .before .secondary-of .ensures) _ _ _ _ (c .before .before .before .before .before .before .before .before .before .before .fulfil .ensures) (c .before .before .before .before .before .before .before .before .if2 .left)),
   grants (c .before .before .before .before .before .before .before .before .before .before .before .before .before .before .before .before .before .before .before .before .before .before .before .before .before .before .pre) (c .before .before .before .before .before .before .before .before .before .before .before .before .before .before .before .before .before .before .before .before .set-at .ensures) _ (c .before .before .before .before .before .before .before .before .before .before .before .before .before .before .before .before .three2 .ensures .0) (c .before .before .before .before .before .before .before .before .before .before .before .before .before .before .before .if1 .left) (c .before .before .before .before .before .before .before .before .before .before .before .before .before .before .before .before .three2 .ensures .1) _ refl _ (c .before .before .before .before .before .before .before .before .before .before .before .before .before .before .secondary-of .ensures) _ _ _ _ (c .before .before .before .before .before .before .before .before .before .before .fulfil .ensures) (c .before .before .before .before .before .before .before .before .if2 .left) (c .before .before .before .before .before .if3 .left) _ (c .before .before .before .before .type-byte .ensures),
 )
 
