@@ -78,6 +78,14 @@ module _ (n : ℕ) (pos : 1 ≤ n) (b c : Run) where
 pub best-none : (n : ℕ) (b c : Run) → 1 ≤ n → c .count ≡ 0 → better n b c ≡ b
 best-none n b c pos e = too-short n pos b c (omega arith)
 
+-- once the best has exactly n units, no candidate is better
+pub exact-stays : (u n : ℕ) (b : Run) (rs : List Run) → 1 ≤ n → b .count ≡ n → bestAfter u n b rs ≡ b
+exact-stays u n b [] pos e = refl
+exact-stays u n b (r ∷ rs) pos e = ap (λ (x : Run). bestAfter u n x rs) (one (wholeIn u r)) ∙ exact-stays u n b rs pos e
+  where
+    one : (c : Run) → better n b c ≡ b
+    one c = by (leb n (c .count)) (λ h. let k : n ≤ c .count = leb-true _ _ h in other-fit n pos b c k (λ z. omega arith) (omega arith)) (λ h. too-short n pos b c (leb-false _ _ h))
+
 from-left : (u n : ℕ) (b : Run) (rs : List Run) → 1 ≤ n
     → runOrNone (bestAfter u n b rs) ≡ earlier (runOrNone b) (shortest (serving n (candidates u rs)))
 from-left u n b [] pos = go (runOrNone b)

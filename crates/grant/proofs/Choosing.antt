@@ -61,16 +61,16 @@ first-place (x ∷ g) r l = refl
 -- ---- what the pass has found
 
 module _ (f : List Run) (n : ℕ) {u k : ℕ} {best : Run} {five : List Run} (apart : Separate 0 n f) (fits : n ≤ 65535) (pos : 1 ≤ k) (s : Surveyed u k f best five) where
-  pub five-within : Within u five
-  five-within j =
+  pub five-within : best .count ≡ 0 → Within u five
+  five-within e j =
       let c = candidates u f in
       le-trans
-      (subst (λ (ds : List Run). (getD ds j noRun .start + getD ds j noRun .count) * u ≤ n) (sym (s .longest))
+      (subst (λ (ds : List Run). (getD ds j noRun .start + getD ds j noRun .count) * u ≤ n) (sym (s .longest e))
       (padded-at u n 5 (longestFirst c) (sorted-All (Ends u n) c (candidates-end u 0 n f apart)) j))
       fits
 
-  pub five-small : 1 ≤ u → Small five
-  five-small h = small u five h five-within
+  pub five-small : best .count ≡ 0 → 1 ≤ u → Small five
+  five-small e h = small u five h (five-within e)
 
   found : 1 ≤ best .count → shortest (serving k (candidates u f)) ≡ some best
   unfolding runOrNone
@@ -104,7 +104,7 @@ module _ (f : List Run) (n : ℕ) {u k : ℕ} {best : Run} {five : List Run} (ap
   granted-more e =
       let c = candidates u f in
       let q : oneOrFive k c (shortest (serving k c)) ≡ gather k five =
-      ap (oneOrFive k c) (not-found e) ∙ sym (gather-padded 5 k (longestFirst c) pos) ∙ ap (gather k) (sym (s .longest)) in
+      ap (oneOrFive k c) (not-found e) ∙ sym (gather-padded 5 k (longestFirst c) pos) ∙ ap (gather k) (sym (s .longest e)) in
       ap (mapOption (map (scale u))) (sym q)
 
   -- none

@@ -2,15 +2,20 @@
 use mathlib.Core.Path.{_≡_, refl, sym, ap, _∙_, subst}
 use mathlib.Core.Bool.{Bool, cond}
 use mathlib.Core.List.{List, [], _∷_, _++_}
-use Prim.Native.Nat.{ℕ, suc, _+_, _-_, _/_, _≤_, _<_}
+use Prim.Native.Nat.{ℕ, _+_, _-_, _/_, _≤_, _<_}
 use native.Mathlib.Nat.{div-mul-le-self, le-div-iff-mul-le}
 use native.Mathlib.Omega.{arith}
 use lib.ListN.{drop, take, take-append-drop}
-use Rattle.model.specs.Model.{Run, run}
+use Rattle.model.specs.Model.{Geometry, Run, run}
 use Rattle.model.specs.Choice.{wholeIn}
+use Rattle.rules.proofs.Valid.{Limits}
+use Rattle.fields.specs.Records.{slotBytes}
+use Rattle.free_list.specs.FreeList.{Entries}
+use Rattle.free_list.proofs.Chain.{lists-next}
+use Rattle.free_list.proofs.Walk.{Going, going-next}
 use Rattle.grant.specs.Pass.{Looked, Surveyed, better, bestAfter, entered, fiveAfter, fitsBetter, noRun, padded, runOrNone}
 use Rattle.grant.proofs.Longest.{five-none, five-law}
-use Rattle.grant.proofs.BestFit.{best-none, best-law}
+use Rattle.grant.proofs.BestFit.{best-none, best-law, exact-stays}
 
 -- fewer tracks than a unit has hold no unit
 pub no-units : (u a c : ℕ) → 1 ≤ u → c < u → wholeIn u (run a c) .count ≡ 0
@@ -26,7 +31,7 @@ pub looked-next : (u n : ℕ) (x : Run) (f rest : List Run) (best best′ b : Ru
     → b ≡ better n best (wholeIn u x) → d ≡ entered (wholeIn u x) five → Looked u n rest b best′ d five′ → Looked u n f best best′ five five′
 looked-next u n x f rest best best′ b five five′ d e p q r = record {
   best-is = ap (bestAfter u n best) e ∙ ap (λ (z : Run). bestAfter u n z rest) (sym p) ∙ r .best-is;
-  five-is = ap (fiveAfter u five) e ∙ ap (λ (z : List Run). fiveAfter u z rest) (sym q) ∙ r .five-is;
+  five-is = λ h. ap (fiveAfter u five) e ∙ ap (λ (z : List Run). fiveAfter u z rest) (sym q) ∙ r .five-is h;
 }
 
 -- too short for a unit
@@ -48,16 +53,17 @@ five-append u d [] g = refl
 five-append u d (r ∷ f) g = five-append u (entered (wholeIn u r) d) f g
 
 -- a member of the chain, and those behind it
-pub looked-more : (u n k : ℕ) (f : List Run) (best b best′ : Run) (five d five′ : List Run) → Looked u n (take k f) best b five d → Looked u n (drop k f) b best′ d five′ → Looked u n f best best′ five five′
-looked-more u n k f best b best′ five d five′ x y = record {
+pub looked-more : (u n k : ℕ) (f : List Run) (best b best′ : Run) (five d five′ : List Run) → 1 ≤ n → Looked u n (take k f) best b five d → Looked u n (drop k f) b best′ d five′ → Looked u n f best best′ five five′
+looked-more u n k f best b best′ five d five′ pos x y = record {
   best-is = ap (bestAfter u n best) (sym (take-append-drop k f)) ∙ best-append u n best (take k f) (drop k f) ∙ ap (λ (z : Run). bestAfter u n z (drop k f)) (x .best-is) ∙ y .best-is;
-  five-is = ap (fiveAfter u five) (sym (take-append-drop k f)) ∙ five-append u five (take k f) (drop k f) ∙ ap (λ (z : List Run). fiveAfter u z (drop k f)) (x .five-is) ∙ y .five-is;
+  five-is = λ h. ap (fiveAfter u five) (sym (take-append-drop k f)) ∙ five-append u five (take k f) (drop k f)
+      ∙ ap (λ (z : List Run). fiveAfter u z (drop k f)) (x .five-is (λ e. h (ap (λ (z : Run). z .count) (sym (y .best-is) ∙ exact-stays u n b (drop k f) pos e) ∙ e))) ∙ y .five-is h;
 }
 
 pub surveyed : (u k : ℕ) (f : List Run) (best : Run) (five : List Run) → 1 ≤ k → Looked u k f noRun best (padded 5 []) five → Surveyed u k f best five
 surveyed u k f best five h x = record {
   fit = ap runOrNone (sym (x .best-is)) ∙ best-law u k f h;
-  longest = sym (x .five-is) ∙ five-law u f;
+  longest = λ e. sym (x .five-is (λ q. omega arith)) ∙ five-law u f;
 }
 
 -- the best after the test, from what the test says
@@ -70,14 +76,29 @@ unit-is u s c w e = e ∙ ap (λ (x : ℕ). wholeIn u (run s x)) (let q : s + c 
 
 -- no free extent is left
 pub looked-empty : (u n : ℕ) (f : List Run) (best : Run) (five : List Run) → f ≡ [] → Looked u n f best best five five
-looked-empty u n f best five e = record { best-is = ap (bestAfter u n best) e; five-is = ap (fiveAfter u five) e }
+looked-empty u n f best five e = record { best-is = ap (bestAfter u n best) e; five-is = λ h. ap (fiveAfter u five) e }
+
+-- the best fit is exact, so that nothing need be looked at
+pub looked-exact : (u n : ℕ) (f : List Run) (best : Run) (five : List Run) → 1 ≤ n → best .count ≡ n → Looked u n f best best five five
+looked-exact u n f best five pos e = record { best-is = exact-stays u n best f pos e; five-is = λ h. absurd (h e) }
 
 -- what is known on the way through f: what the rest does to the best fit and the five longest, all of f does from the start
 abbrev pub Onwards : ℕ → ℕ → List Run → List Run → Run → List Run → List Run → Type 0
 Onwards u n f five₀ best five rest = (best′ : Run) (five′ : List Run) → Looked u n rest best best′ five five′ → Looked u n f noRun best′ five₀ five′
 
-pub onwards-next : (u n : ℕ) (f five₀ : List Run) (best b : Run) (five d : List Run) (rest : List Run) → Looked u n (take 26 rest) best b five d → Onwards u n f five₀ best five rest → Onwards u n f five₀ b d (drop 26 rest)
-onwards-next u n f five₀ best b five d rest x p b′ d′ z = p b′ d′ (looked-more u n 26 rest best b b′ five d d′ x z)
+pub onwards-next : (u n : ℕ) (f five₀ : List Run) (best b : Run) (five d : List Run) (rest : List Run) → 1 ≤ n → Looked u n (take 26 rest) best b five d → Onwards u n f five₀ best five rest → Onwards u n f five₀ b d (drop 26 rest)
+onwards-next u n f five₀ best b five d rest pos x p b′ d′ z = p b′ d′ (looked-more u n 26 rest best b b′ five d d′ pos x z)
 
-pub onwards-done : (u n : ℕ) (f five₀ : List Run) (best : Run) (five : List Run) → five₀ ≡ padded 5 [] → 1 ≤ n → Onwards u n f five₀ best five [] → Surveyed u n f best five
-onwards-done u n f five₀ best five e h p = surveyed u n f best five h (subst (λ (y : List Run). Looked u n f noRun best y five) e (p best five (looked-empty u n [] best five refl)))
+module _ (u n : ℕ) (f five₀ : List Run) (best : Run) (five : List Run) (start : five₀ ≡ padded 5 []) (pos : 1 ≤ n) where
+  onwards-to : Looked u n f noRun best five₀ five → Surveyed u n f best five
+  onwards-to x = surveyed u n f best five pos (subst (λ (y : List Run). Looked u n f noRun best y five) start x)
+
+  pub onwards-done : Onwards u n f five₀ best five [] → Surveyed u n f best five
+  onwards-done p = onwards-to (p best five (looked-empty u n [] best five refl))
+
+  -- the member in slot k makes the best fit exact: those behind it need not be looked at
+  pub onwards-exact : (g : Geometry) (t : List ℕ) (left k : ℕ) (b : Run) (d : List Run) → Limits g → 1 ≤ k → Going g t left k (Onwards u n f five₀ b d)
+      → ((e : List Run) → Entries (g .heads) (slotBytes t k) (take 26 e) → Looked u n (take 26 e) b best d five) → best .count ≡ n → Surveyed u n f best five
+  onwards-exact g t left k b d limit h x here e =
+      let y = going-next g t (Onwards u n f five₀ b d) left k x h _ (Onwards u n f five₀ best five) (λ r z. onwards-next u n f five₀ b best d five r pos (here r z)) (λ m r. lists-next g t k r m limit) in
+      onwards-to (y .known best five (looked-exact u n (y .rest) best five pos e))

@@ -55,15 +55,16 @@ abbrev pub fiveAfter : ℕ → List Run → List Run → List Run
 fiveAfter u five [] = five
 fiveAfter u five (r ∷ rs) = fiveAfter u (entered (wholeIn u r) five) rs
 
--- the free extents f take the best fit and the five longest from one state to another
+-- the free extents f take the best fit and the five longest from one state to another; the five longest are not looked at to
+-- the end where the best fit has exactly n units
 pub record Looked (u n : ℕ) (f : List Run) (best best′ : Run) (five five′ : List Run) : Type 0 where
   pub best-is : bestAfter u n best f ≡ best′
-  pub five-is : fiveAfter u five f ≡ five′
+  pub five-is : (best′ .count ≡ n → ⊥) → fiveAfter u five f ≡ five′
 
--- what the pass has found: the best fit for n units, and the five longest candidates
+-- what the pass has found: the best fit for n units, and where there is none the five longest candidates
 pub record Surveyed (u n : ℕ) (f : List Run) (best : Run) (five : List Run) : Type 0 where
   pub fit : runOrNone best ≡ shortest (serving n (candidates u f))
-  pub longest : five ≡ padded 5 (longestFirst (candidates u f))
+  pub longest : best .count ≡ 0 → five ≡ padded 5 (longestFirst (candidates u f))
 
 -- each candidate ends at a track of 16 bits; each has a count of 16 bits
 abbrev pub Within : ℕ → List Run → Type 0

@@ -1,5 +1,6 @@
 // The choice of pieces out of the free tracks, for any unit: 1 track, or the tracks of a cylinder.
-// One pass over the free extents that the table lists finds the best fit and the five longest candidates.
+// One pass over the free extents that the table lists finds the best fit and the five longest candidates. It ends at a candidate
+// that has exactly the amount: no later one is better, and the five longest are then of no use.
 use forms::Geometry;
 ghost use mathlib.Core.Path.{_≡_};
 ghost use mathlib.Core.List.{List, [], map};
@@ -87,7 +88,7 @@ fn look(u: u32, amount: u32, start: u32, count: u32, best: Units, five: &mut [[u
     best
 }
 
-// Looks at the entries of one format 5.
+// Looks at the entries of one format 5, up to one that fits exactly.
 fn look_member(
     rec: &[u8],
     h: u32,
@@ -107,12 +108,16 @@ fn look_member(
             return now;
         }
         now = look(u, amount, hole.start, hole.count, now, five);
+        if now.count == amount {
+            return now;
+        }
         j += 1;
     }
     now
 }
 
-// One pass over the free extents that the table lists: the best fit is the result, the five longest go into `five`.
+// One pass over the free extents that the table lists: the best fit is the result; where there is none, the five longest are
+// in `five`.
 fn survey(table: &[u8], g: Geometry, u: u32, amount: u32, five: &mut [[u32; 2]; 5]) -> Units
     requires { ⌜ Limits (geometryOf g) × (length (now table) ≡ 140 * slots (geometryOf g)) × (1 ≤ u) × (u ≤ 255) × (1 ≤ amount) ⌝ }
     requires { ⌜ (length (now five) ≡ 5) × (toRuns (now five) ≡ padded 5 []) ⌝ }
@@ -126,6 +131,9 @@ fn survey(table: &[u8], g: Geometry, u: u32, amount: u32, five: &mut [[u32; 2]; 
             return best;
         }
         best = look_member(fields::record_at(table, k), g.heads, u, amount, best, five);
+        if best.count == amount {
+            return best;
+        }
         k = free_list::member_after(table, g, k);
         left -= 1;
     }

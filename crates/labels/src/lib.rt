@@ -14,14 +14,15 @@ pub fn new_label(name: &[u8], attributes: &[u8], unit: u8, secondary: u32) -> [u
     requires { ⌜ (length (now name) ≡ 44) × (length (now attributes) ≡ 52) × (secondary < 16777216) ⌝ }
     ensures { λ r. ⌜ ((g : Geometry) → Format1 g (newLabel (now (name .entry)) (now (attributes .entry)) unit secondary) r) ⌝ }
 {
-    let zeros = [0u8; 140];
-    let mut r = records::put_row(zeros, 0, name); // DS1DSNAM
+    let mut r = [0u8; 140];
+    records::put_row(&mut r, 0, name); // DS1DSNAM
     r[44] = 0xF1; // DS1FMTID
     r[94] = unit; // DS1SCALO
-    let scaled = records::put_three(r, 95, secondary);
-    let first = records::put_row(scaled, 45, &attributes[0..14]);
-    let second = records::put_row(first, 60, &attributes[14..48]);
-    records::put_row(second, 101, &attributes[48..52])
+    records::put_three(&mut r, 95, secondary);
+    records::put_row(&mut r, 45, &attributes[0..14]);
+    records::put_row(&mut r, 60, &attributes[14..48]);
+    records::put_row(&mut r, 101, &attributes[48..52]);
+    r
 }
 
 // The format 1 of the label that a record holds, with no extent and no format 3, whatever the record's identifier,
@@ -33,7 +34,8 @@ pub fn bare_label(s: &[u8]) -> [u8; 140]
     let mut r = records::record_of(s);
     r[44] = 0xF1;
     r[59] = 0;
-    records::put_same(r, 105, 140, 0)
+    records::put_same(&mut r, 105, 140, 0);
+    r
 }
 
 // The format 3 of a label that has no more than three extents.
@@ -58,7 +60,8 @@ pub fn add_extent1(
     let mut r = rec;
     r[59] = (n + 1) as u8; // DS1NOEPV
     if n < 3 {
-        return records::put_extent(r, 105 + 10 * n, g, n, kind, start, count); // DS1EXT1
+        records::put_extent(&mut r, 105 + 10 * n, g, n, kind, start, count); // DS1EXT1
+        return r;
     }
     r
 }
@@ -75,10 +78,13 @@ pub fn add_extent3(
     requires { ⌜ (3 ≤ n) × (n < 16) × (1 ≤ count) × (start + count ≤ 65535) × Limits (geometryOf g) ⌝ }
     ensures { λ r. ⌜ ((l : Label) → length (l .extents) ≡ n → Format3 (geometryOf g) l rec → Format3 (geometryOf g) (added (extent kind (run start count)) l) r) ⌝ }
 {
+    let mut r = rec;
     if n < 7 {
-        return records::put_extent(rec, 4 + 10 * (n - 3), g, n, kind, start, count); // DS3EXTNT
+        records::put_extent(&mut r, 4 + 10 * (n - 3), g, n, kind, start, count); // DS3EXTNT
+        return r;
     }
-    records::put_extent(rec, 45 + 10 * (n - 7), g, n, kind, start, count) // DS3ADEXT
+    records::put_extent(&mut r, 45 + 10 * (n - 7), g, n, kind, start, count); // DS3ADEXT
+    r
 }
 
 // The format 1 of a label, with its first n extents only.
@@ -89,7 +95,8 @@ pub fn keep_extents1(rec: [u8; 140], n: usize) -> [u8; 140]
     let mut r = rec;
     r[59] = n as u8;
     if n < 3 {
-        return records::put_same(r, 105 + 10 * n, 135, 0);
+        records::put_same(&mut r, 105 + 10 * n, 135, 0);
+        return r;
     }
     r
 }
@@ -99,11 +106,14 @@ pub fn keep_extents3(rec: [u8; 140], n: usize) -> [u8; 140]
     requires { ⌜ (3 ≤ n) × (n ≤ 16) ⌝ }
     ensures { λ r. ⌜ ((g : Geometry) (l : Label) → Format3 g l rec → Format3 g (firstExtents n l) r) ⌝ }
 {
+    let mut r = rec;
     if n < 7 {
-        let r = records::put_same(rec, 4 + 10 * (n - 3), 44, 0);
-        return records::put_same(r, 45, 135, 0);
+        records::put_same(&mut r, 4 + 10 * (n - 3), 44, 0);
+        records::put_same(&mut r, 45, 135, 0);
+        return r;
     }
-    records::put_same(rec, 45 + 10 * (n - 7), 135, 0)
+    records::put_same(&mut r, 45 + 10 * (n - 7), 135, 0);
+    r
 }
 
 // A format 1 with another last block.
@@ -111,7 +121,9 @@ pub fn set_ttr(rec: [u8; 140], ttr: u32) -> [u8; 140]
     requires { ⌜ ttr < 16777216 ⌝ }
     ensures { λ r. ⌜ ((g : Geometry) (l : Label) → Format1 g l rec → Format1 g (withTtr ttr l) r) ⌝ }
 {
-    records::put_three(rec, 98, ttr) // DS1LSTAR
+    let mut r = rec;
+    records::put_three(&mut r, 98, ttr); // DS1LSTAR
+    r
 }
 
 // A format 1 with another name.
@@ -119,7 +131,9 @@ pub fn set_name(rec: [u8; 140], name: &[u8]) -> [u8; 140]
     requires { ⌜ length (now name) ≡ 44 ⌝ }
     ensures { λ r. ⌜ ((g : Geometry) (l : Label) → Format1 g l rec → Format1 g (withName (now (name .entry)) l) r) ⌝ }
 {
-    records::put_row(rec, 0, name)
+    let mut r = rec;
+    records::put_row(&mut r, 0, name);
+    r
 }
 
 // A format 1 whose format 3 is in slot k, 0 for none.
@@ -127,5 +141,7 @@ pub fn set_link3(rec: [u8; 140], g: forms::Geometry, k: usize) -> [u8; 140]
     requires { ⌜ (k < slots (geometryOf g)) × Limits (geometryOf g) ⌝ }
     ensures { λ r. ⌜ ((l : Label) (slot : ℕ) → Format1 (geometryOf g) l rec → Format1 (geometryOf g) (withSlots slot k l) r) ⌝ }
 {
-    records::put_link(rec, 135, g, k) // DS1PTRDS
+    let mut r = rec;
+    records::put_link(&mut r, 135, g, k); // DS1PTRDS
+    r
 }

@@ -38,6 +38,18 @@ put-five r i a b c d e =
     let four : i + 4 ≡ i + 1 + 1 + 1 + 1 = omega arith in
     rw (two, three, four)
 
+-- the record stays as long
+pub set-keeps : (r : List ℕ) (i x n : ℕ) → length r ≡ n → length (set r i x) ≡ n
+set-keeps r i x n e = length-set r i x ∙ e
+
+put-long : (r : List ℕ) (i : ℕ) (xs : List ℕ) → length (putAt r i xs) ≡ length r
+unfolding putAt
+put-long r i [] = refl
+put-long r i (x ∷ xs) = put-long (set r i x) (i + 1) xs ∙ length-set r i x
+
+pub put-keeps : (r s : List ℕ) (i : ℕ) (xs : List ℕ) (n : ℕ) → s ≡ putAt r i xs → length r ≡ n → length s ≡ n
+put-keeps r s i xs n e l = ap length e ∙ put-long r i xs ∙ l
+
 -- in a loop: the same byte again, and a row
 pub same-none : (r : List ℕ) (a v : ℕ) → r ≡ putAt r a (replicate (a - a) v)
 unfolding putAt

@@ -1,5 +1,5 @@
-// Label records (DSCBs) built: bytes put at their places, and formats 4 and 5 whole. A record is an array by value, so that
-// its length is known. The formats of data sets are in the crate labels.
+// Label records (DSCBs) built: bytes put at their places, where the record stands, and formats 4 and 5 whole. The formats of data
+// sets are in the crate labels.
 use forms::Geometry;
 ghost use mathlib.Core.Path.{_≡_};
 ghost use mathlib.Core.List.{List};
@@ -18,72 +18,67 @@ ghost use Rattle.records.specs.Fives.{Fills};
 // ---- bytes at a place
 
 // Puts a number of two bytes.
-pub fn put_two(rec: [u8; 140], at: usize, v: u32) -> [u8; 140]
-    requires { ⌜ (at + 1 < 140) × (v < 65536) ⌝ }
-    ensures { λ r. ⌜ r ≡ putAt rec at (be2 v) ⌝ }
+pub fn put_two(rec: &mut [u8; 140], at: usize, v: u32)
+    requires { ⌜ (length (now rec) ≡ 140) × (at + 1 < 140) × (v < 65536) ⌝ }
+    ensures { λ _. ⌜ now (rec .exit) ≡ putAt (now (rec .entry)) at (be2 v) ⌝ }
 {
-    let mut r = rec;
-    r[at] = (v / 256) as u8;
-    r[at + 1] = (v % 256) as u8;
-    r
+    rec[at] = (v / 256) as u8;
+    rec[at + 1] = (v % 256) as u8;
 }
 
 // Puts a number of three bytes.
-pub fn put_three(rec: [u8; 140], at: usize, v: u32) -> [u8; 140]
-    requires { ⌜ (at + 2 < 140) × (v < 16777216) ⌝ }
-    ensures { λ r. ⌜ r ≡ putAt rec at (be3 v) ⌝ }
+pub fn put_three(rec: &mut [u8; 140], at: usize, v: u32)
+    requires { ⌜ (length (now rec) ≡ 140) × (at + 2 < 140) × (v < 16777216) ⌝ }
+    ensures { λ _. ⌜ now (rec .exit) ≡ putAt (now (rec .entry)) at (be3 v) ⌝ }
 {
-    let mut r = rec;
-    r[at] = (v / 65536) as u8;
-    r[at + 1] = (v / 256 % 256) as u8;
-    r[at + 2] = (v % 256) as u8;
-    r
+    rec[at] = (v / 65536) as u8;
+    rec[at + 1] = (v / 256 % 256) as u8;
+    rec[at + 2] = (v % 256) as u8;
 }
 
 // Puts the address CCHH of track t.
-pub fn put_track(rec: [u8; 140], at: usize, g: Geometry, t: u32) -> [u8; 140]
-    requires { ⌜ (at + 3 < 140) × (t < 65536) × Limits (geometryOf g) ⌝ }
-    ensures { λ r. ⌜ r ≡ putAt rec at (cchh (geometryOf g) t) ⌝ }
+pub fn put_track(rec: &mut [u8; 140], at: usize, g: Geometry, t: u32)
+    requires { ⌜ (length (now rec) ≡ 140) × (at + 3 < 140) × (t < 65536) × Limits (geometryOf g) ⌝ }
+    ensures { λ _. ⌜ now (rec .exit) ≡ putAt (now (rec .entry)) at (cchh (geometryOf g) t) ⌝ }
 {
     let h = g.heads;
-    let r = put_two(rec, at, t / h);
-    put_two(r, at + 2, t % h)
+    put_two(rec, at, t / h);
+    put_two(rec, at + 2, t % h);
 }
 
 // Puts the address CCHHR of slot k, or zeros for none, which is slot 0.
-pub fn put_link(rec: [u8; 140], at: usize, g: Geometry, k: usize) -> [u8; 140]
-    requires { ⌜ (at + 4 < 140) × (k < slots (geometryOf g)) × Limits (geometryOf g) ⌝ }
-    ensures { λ r. ⌜ r ≡ putAt rec at (link (geometryOf g) k) ⌝ }
+pub fn put_link(rec: &mut [u8; 140], at: usize, g: Geometry, k: usize)
+    requires { ⌜ (length (now rec) ≡ 140) × (at + 4 < 140) × (k < slots (geometryOf g)) × Limits (geometryOf g) ⌝ }
+    ensures { λ _. ⌜ now (rec .exit) ≡ putAt (now (rec .entry)) at (link (geometryOf g) k) ⌝ }
 {
     if k == 0 {
-        return put_same(rec, at, at + 5, 0);
+        put_same(rec, at, at + 5, 0);
+        return;
     }
     let q = k as u32;
     let d = g.records;
     let t = g.start + q / d;
-    let mut r = put_track(rec, at, g, t);
-    r[at + 4] = (q % d + 1) as u8;
-    r
+    put_track(rec, at, g, t);
+    rec[at + 4] = (q % d + 1) as u8;
 }
 
 // Puts an extent: type, number, CCHH of the first track and of the last.
 pub fn put_extent(
-    rec: [u8; 140],
+    rec: &mut [u8; 140],
     at: usize,
     g: Geometry,
     number: usize,
     kind: u8,
     start: u32,
     count: u32,
-) -> [u8; 140]
-    requires { ⌜ (at + 9 < 140) × (number < 16) × (1 ≤ count) × (start + count ≤ 65535) × Limits (geometryOf g) ⌝ }
-    ensures { λ r. ⌜ r ≡ putAt rec at (extentBytes (geometryOf g) number (extent kind (run start count))) ⌝ }
+)
+    requires { ⌜ (length (now rec) ≡ 140) × (at + 9 < 140) × (number < 16) × (1 ≤ count) × (start + count ≤ 65535) × Limits (geometryOf g) ⌝ }
+    ensures { λ _. ⌜ now (rec .exit) ≡ putAt (now (rec .entry)) at (extentBytes (geometryOf g) number (extent kind (run start count))) ⌝ }
 {
-    let mut r = rec;
-    r[at] = kind;
-    r[at + 1] = number as u8;
-    let first = put_track(r, at + 2, g, start);
-    put_track(first, at + 6, g, start + count - 1)
+    rec[at] = kind;
+    rec[at + 1] = number as u8;
+    put_track(rec, at + 2, g, start);
+    put_track(rec, at + 6, g, start + count - 1);
 }
 
 // A number of tracks: whole cylinders, odd tracks.
@@ -109,7 +104,7 @@ fn split(count: u32, h: u32) -> Cylinders
     }
 }
 
-// Puts an entry of a format 5 where the record stands, since 26 of them make one: start track, whole cylinders, odd tracks.
+// Puts an entry of a format 5: start track, whole cylinders, odd tracks.
 pub fn put_entry(rec: &mut [u8; 140], at: usize, g: Geometry, start: u32, count: u32)
     requires { ⌜ (length (now rec) ≡ 140) × (at + 4 < 140) × (start + count ≤ 65535) × Limits (geometryOf g) ⌝ }
     ensures { λ _. ⌜ now (rec .exit) ≡ putAt (now (rec .entry)) at (entry (geometryOf g) (run start count)) ⌝ }
@@ -126,31 +121,27 @@ pub fn put_entry(rec: &mut [u8; 140], at: usize, g: Geometry, start: u32, count:
 // ---- rows of bytes
 
 // Puts v from place a up to place e.
-pub fn put_same(rec: [u8; 140], a: usize, e: usize, v: u8) -> [u8; 140]
-    requires { ⌜ (a ≤ e) × (e ≤ 140) ⌝ }
-    ensures { λ r. ⌜ r ≡ putAt rec a (replicate (e - a) v) ⌝ }
+pub fn put_same(rec: &mut [u8; 140], a: usize, e: usize, v: u8)
+    requires { ⌜ (length (now rec) ≡ 140) × (a ≤ e) × (e ≤ 140) ⌝ }
+    ensures { λ _. ⌜ now (rec .exit) ≡ putAt (now (rec .entry)) a (replicate (e - a) v) ⌝ }
 {
-    let mut r = rec;
     let mut i = a;
     while i < e {
-        r[i] = v;
+        rec[i] = v;
         i += 1;
     }
-    r
 }
 
 // Puts the bytes of s.
-pub fn put_row(rec: [u8; 140], at: usize, s: &[u8]) -> [u8; 140]
-    requires { ⌜ at + length (now s) ≤ 140 ⌝ }
-    ensures { λ r. ⌜ r ≡ putAt rec at (now (s .entry)) ⌝ }
+pub fn put_row(rec: &mut [u8; 140], at: usize, s: &[u8])
+    requires { ⌜ (length (now rec) ≡ 140) × (at + length (now s) ≤ 140) ⌝ }
+    ensures { λ _. ⌜ now (rec .exit) ≡ putAt (now (rec .entry)) at (now (s .entry)) ⌝ }
 {
-    let mut r = rec;
     let mut i = 0;
     while i < s.len() {
-        r[at + i] = s[i];
+        rec[at + i] = s[i];
         i += 1;
     }
-    r
 }
 
 // A record as it stands in the table.
@@ -158,8 +149,9 @@ pub fn record_of(s: &[u8]) -> [u8; 140]
     requires { ⌜ length (now s) ≡ 140 ⌝ }
     ensures { λ r. ⌜ r ≡ now (s .entry) ⌝ }
 {
-    let zeros = [0u8; 140];
-    put_row(zeros, 0, s)
+    let mut r = [0u8; 140];
+    put_row(&mut r, 0, s);
+    r
 }
 
 // A record with nothing but its key, n bytes v, and its format's identifier.
@@ -167,8 +159,8 @@ pub fn blank(n: usize, v: u8, id: u8) -> [u8; 140]
     requires { ⌜ n ≤ 44 ⌝ }
     ensures { λ r. ⌜ r ≡ blank n v id ⌝ }
 {
-    let zeros = [0u8; 140];
-    let mut r = put_same(zeros, 0, n, v);
+    let mut r = [0u8; 140];
+    put_same(&mut r, 0, n, v);
     r[44] = id;
     r
 }
@@ -180,14 +172,15 @@ pub fn four(g: Geometry, highest: usize, empty: usize) -> [u8; 140]
     requires { ⌜ (highest < slots (geometryOf g)) × (empty < 65536) × Limits (geometryOf g) ⌝ }
     ensures { λ r. ⌜ r ≡ format4 (geometryOf g) highest empty ⌝ }
 {
-    let key = blank(44, 0x04, 0xF4);
-    let linked = put_link(key, 45, g, highest); // DS4HPCHR
-    let mut counted = put_two(linked, 50, empty as u32); // DS4DSREC
-    counted[59] = 0x01; // DS4NOEXT
-    let sized = put_two(counted, 62, g.cylinders); // DS4DEVSZ
-    let mut headed = put_two(sized, 64, g.heads);
-    headed[74] = g.records as u8; // DS4DEVDT
-    put_extent(headed, 105, g, 0, 0x01, g.start, g.tracks) // DS4VTOCE
+    let mut r = blank(44, 0x04, 0xF4);
+    put_link(&mut r, 45, g, highest); // DS4HPCHR
+    put_two(&mut r, 50, empty as u32); // DS4DSREC
+    r[59] = 0x01; // DS4NOEXT
+    put_two(&mut r, 62, g.cylinders); // DS4DEVSZ
+    put_two(&mut r, 64, g.heads);
+    r[74] = g.records as u8; // DS4DEVDT
+    put_extent(&mut r, 105, g, 0, 0x01, g.start, g.tracks); // DS4VTOCE
+    r
 }
 
 // ---- format 5
@@ -238,5 +231,7 @@ pub fn with_next(rec: [u8; 140], g: Geometry, k: usize) -> [u8; 140]
     requires { ⌜ (k < slots (geometryOf g)) × Limits (geometryOf g) ⌝ }
     ensures { λ r. ⌜ ((f : List Run) (old : ℕ) → rec ≡ format5 (geometryOf g) f old → r ≡ format5 (geometryOf g) f k) ⌝ }
 {
-    put_link(rec, 135, g, k) // DS5PTRDS
+    let mut r = rec;
+    put_link(&mut r, 135, g, k); // DS5PTRDS
+    r
 }

@@ -40,7 +40,7 @@ sum-requires : tie.Need-sum-requires
 sum-requires c κs =
     let top = c .before .before .before .before .before in
     let w = top .pre .1 .3 in
-    five-small (w .0) (tracks (geometryOf (top .args .g))) (w .1 .apart) (top .pre .0 .0 .tracksMost) (omega arith) (c .before .before .survey .ensures (w .0) (w .1)) (omega arith)
+    five-small (w .0) (tracks (geometryOf (top .args .g))) (w .1 .apart) (top .pre .0 .0 .tracksMost) (omega arith) (c .before .before .survey .ensures (w .0) (w .1)) (omega arith) (omega arith)
 
 returns-2 : tie.Need-returns-2
 returns-2 c =
@@ -51,7 +51,7 @@ fill-requires : tie.Need-fill-requires
 fill-requires c κs =
     let top = c .before .before .before .before .before .before .before .before in
     let w = top .pre .1 .3 in
-    ((omega arith, omega arith, omega arith, omega arith, omega arith), (five-within (w .0) (tracks (geometryOf (top .args .g))) (w .1 .apart) (top .pre .0 .0 .tracksMost) (omega arith) (c .before .before .before .before .before .survey .ensures (w .0) (w .1)), top .pre .1 .2))
+    ((omega arith, omega arith, omega arith, omega arith, omega arith), (five-within (w .0) (tracks (geometryOf (top .args .g))) (w .1 .apart) (top .pre .0 .0 .tracksMost) (omega arith) (c .before .before .before .before .before .survey .ensures (w .0) (w .1)) (omega arith), top .pre .1 .2))
 
 returns-3 : tie.Need-returns-3
 returns-3 c =

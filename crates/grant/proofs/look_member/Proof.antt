@@ -7,7 +7,7 @@ use Rattle.model.specs.Model.{Run, run}
 use Rattle.free_list.specs.FreeList.{Entries}
 use Rattle.free_list.proofs.Chain.{entry-end, entry-next, entry-none}
 use Rattle.grant.specs.Pass.{Looked, toRuns}
-use Rattle.grant.proofs.Passing.{looked-empty, looked-next}
+use Rattle.grant.proofs.Passing.{looked-empty, looked-exact, looked-next}
 use borrow.Author.Needs.{needs}
 use Rattle.grant.proofs.look_member.Statement.{statement}
 use Rattle.grant.proofs.look_member.Tie as tie
@@ -19,20 +19,17 @@ use Rattle.grant.proofs.look.Reads as look-reads
 abbrev Inv-loop : tie.InvT-loop
 Inv-loop rec h u amount five₀ now₀ j₀ five now j =
     (j ≤ 26) × (length five ≡ 5)
-    × ((f : List Run) (best : Run) (ds : List (List ℕ)) → Entries h rec f → Looked u amount (drop j f) (run (now .start) (now .count)) best (toRuns five) (toRuns ds) → Looked u amount f (run (now₀ .start) (now₀ .count)) best (toRuns five₀) (toRuns ds))
+    × ((f : List Run) (best : Run) (ds : List Run) → Entries h rec f → Looked u amount (drop j f) (run (now .start) (now .count)) best (toRuns five) ds → Looked u amount f (run (now₀ .start) (now₀ .count)) best (toRuns five₀) ds)
 
 abbrev μ-loop : tie.MeasureT-loop
 μ-loop rec h u amount five₀ now₀ j₀ five now j = 26 - j
 
--- src/lib.rt:97:5
 loop-holds : tie.Need-loop-holds Inv-loop μ-loop
 loop-holds c = (omega arith, c .before .pre .6, λ f best ds e x. x)
 
--- src/lib.rt:98:13
 entry-requires : tie.Need-entry-requires Inv-loop μ-loop
 entry-requires c κs = search needs
 
--- src/lib.rt:100:13
 returns : tie.Need-returns Inv-loop μ-loop
 returns c =
     let at-loop = c .before .before .before .before in
@@ -41,46 +38,58 @@ returns c =
     let n = at-loop .loop .now in
     let hole = c .before .before in (
       i .1,
-      λ f x. i .2 f (run (n .start) (n .count)) (at-loop .loop .five) x
+      λ f x. i .2 f (run (n .start) (n .count)) (toRuns (at-loop .loop .five)) x
           (looked-empty (a .u) (a .amount) _ _ _ (entry-none x (at-loop .loop .j) (hole .entry .result .start) (hole .entry .result .count) (omega arith) (hole .entry .ensures .0) (c .if1 .taken))),
     )
 
--- src/lib.rt:102:9
 look-requires : tie.Need-look-requires Inv-loop μ-loop
 look-requires c κs = search needs
 
--- src/lib.rt:103:9
+returns-2 : tie.Need-returns-2 Inv-loop μ-loop
+returns-2 c =
+    let at-loop = c .before .before .before .before .before .before .before .before in
+    let a = at-loop .before .before .args in
+    let p = at-loop .before .before .pre in
+    let i = at-loop .loop .inv in
+    let n = at-loop .loop .now in
+    let hole = c .before .before .before .before .before .before in
+    let done = c .before .before .look in (
+      done .ensures .0,
+      λ f x. i .2 f (run (done .result .start) (done .result .count)) _ x
+          (looked-next (a .u) (a .amount) (run (hole .entry .result .start) (hole .entry .result .count)) _ _ (run (n .start) (n .count)) _ _ (toRuns (at-loop .loop .five)) _ _
+          (entry-next x (at-loop .loop .j) (hole .entry .result .start) (hole .entry .result .count) (omega arith) (hole .entry .ensures .0) (c .before .before .before .before .if1 .left))
+          (done .ensures .1) (done .ensures .2) (looked-exact (a .u) (a .amount) _ _ _ (p .5) (c .if2 .taken))),
+    )
+
 add-j : tie.Need-add-j Inv-loop μ-loop
 add-j c = search needs
 
--- src/lib.rt:97:5
 loop-less : tie.Need-loop-less Inv-loop μ-loop
 loop-less c = search needs
 
--- src/lib.rt:97:5
 loop-again : tie.Need-loop-again Inv-loop μ-loop
 loop-again c =
-    let at-loop = c .before .before .before .before .before .before in
+    let at-loop = c .before .before .before .before .before .before .before .before in
     let a = at-loop .before .before .args in
     let i = at-loop .loop .inv in
     let n = at-loop .loop .now in
-    let hole = c .before .before .before .before in (
+    let hole = c .before .before .before .before .before .before in
+    let done = c .before .before .look in (
       omega arith,
-      c .look .ensures .0,
+      done .ensures .0,
       λ f best ds x y. i .2 f best ds x
-          (looked-next (a .u) (a .amount) (run (hole .entry .result .start) (hole .entry .result .count)) _ _ (run (n .start) (n .count)) best _ (toRuns (at-loop .loop .five)) (toRuns ds) _
-          (entry-next x (at-loop .loop .j) (hole .entry .result .start) (hole .entry .result .count) (omega arith) (hole .entry .ensures .0) (c .before .before .if1 .left))
-          (c .look .ensures .1) (c .look .ensures .2) y),
+          (looked-next (a .u) (a .amount) (run (hole .entry .result .start) (hole .entry .result .count)) _ _ (run (n .start) (n .count)) best _ (toRuns (at-loop .loop .five)) ds _
+          (entry-next x (at-loop .loop .j) (hole .entry .result .start) (hole .entry .result .count) (omega arith) (hole .entry .ensures .0) (c .before .before .before .before .if1 .left))
+          (done .ensures .1) (done .ensures .2) y),
     )
 
--- src/lib.rt:91:1
-returns-2 : tie.Need-returns-2 Inv-loop μ-loop
-returns-2 c =
+returns-3 : tie.Need-returns-3 Inv-loop μ-loop
+returns-3 c =
     let a = c .before .before .before .args in
     let i = c .before .loop .inv in
     let n = c .before .loop .now in
     let e : c .before .loop .j ≡ 26 = omega arith in
-    (i .1, λ f x. i .2 f (run (n .start) (n .count)) (c .before .loop .five) x (looked-empty (a .u) (a .amount) _ _ _ (ap (λ (j : ℕ). drop j f) e ∙ entry-end x)))
+    (i .1, λ f x. i .2 f (run (n .start) (n .count)) (toRuns (c .before .loop .five)) x (looked-empty (a .u) (a .amount) _ _ _ (ap (λ (j : ℕ). drop j f) e ∙ entry-end x)))
 
 pub look-member-spec : {M : Type 1} → statement M
 look-member-spec =
@@ -92,7 +101,8 @@ look-member-spec =
     entry-requires
     returns
     look-requires
+    returns-2
     add-j
     loop-less
     loop-again
-    returns-2)
+    returns-3)

@@ -8,7 +8,7 @@ use Rattle.forms.specs.Forms.{geometryOf}
 use Rattle.free_list.specs.FreeList.{Entries, Listed}
 use Rattle.grant.specs.Pass.{Looked, toRuns}
 use Rattle.free_list.proofs.Walk.{Going, going-all, going-end, going-next, going-none}
-use Rattle.grant.proofs.Passing.{Onwards, onwards-done, onwards-next}
+use Rattle.grant.proofs.Passing.{Onwards, onwards-done, onwards-exact, onwards-next}
 use borrow.Author.Needs.{needs}
 use Rattle.grant.proofs.survey.Statement.{statement}
 use Rattle.grant.proofs.survey.Tie as tie
@@ -26,22 +26,18 @@ Inv-loop table g u amount five₀ best₀ k₀ left₀ five best k left =
 abbrev μ-loop : tie.MeasureT-loop
 μ-loop table g u amount five₀ best₀ k₀ left₀ five best k left = left
 
--- src/lib.rt:116:21
 mul-left : tie.Need-mul-left Inv-loop μ-loop
 mul-left c = search needs
 
--- src/lib.rt:116:20
 cast-left : tie.Need-cast-left Inv-loop μ-loop
 cast-left c = search needs
 
--- src/lib.rt:117:5
 loop-holds : tie.Need-loop-holds Inv-loop μ-loop
 loop-holds c =
     let a = c .before .before .args in
     let p = c .before .before .pre in
     (p .1 .0, omega (arith, p .0 .0 .least), λ f x. going-all (geometryOf (a .g)) (a .table .now) _ f x (λ best five y. y))
 
--- src/lib.rt:119:13
 returns : tie.Need-returns Inv-loop μ-loop
 returns c =
     let a = c .before .before .before .before .before .args in
@@ -49,47 +45,53 @@ returns c =
     let l = c .before .before .loop in
     λ f x. onwards-done (a .u) (a .amount) f (toRuns (a .five .now)) _ _ (p .1 .1) (p .0 .4) (going-none (geometryOf (a .g)) (a .table .now) _ (l .left) (l .k) (l .inv .2 f x) (c .if1 .taken))
 
--- src/lib.rt:121:28
 record-at-requires : tie.Need-record-at-requires Inv-loop μ-loop
 record-at-requires c κs = omega (arith, c .before .before .loop .inv .1, c .before .before .before .before .before .pre .0 .1)
 
--- src/lib.rt:121:9
 look-member-requires : tie.Need-look-member-requires Inv-loop μ-loop
 look-member-requires c κs =
     let p = c .before .before .before .before .before .before .before .pre in
     (c .before .record-at .ensures .1, p .0 .0 .heads, p .0 .0 .headsMost, p .0 .2, p .0 .3, p .0 .4, c .before .before .before .before .loop .inv .0)
 
--- src/lib.rt:122:9
+returns-2 : tie.Need-returns-2 Inv-loop μ-loop
+returns-2 c =
+    let top = c .before .before .before .before .before .before .before .before .before .before in
+    let a = top .args in
+    let p = top .pre in
+    let l = c .before .before .before .before .before .before .before .loop in
+    let rec = c .before .before .before .before .record-at in
+    λ f x. onwards-exact (a .u) (a .amount) f (toRuns (a .five .now)) _ _ (p .1 .1) (p .0 .4) (geometryOf (a .g)) (a .table .now) (l .left) (l .k) _ _ (p .0 .0)
+    (omega (arith, c .before .before .before .before .before .if1 .left)) (l .inv .2 f x)
+    (λ e y. c .before .before .look-member .ensures .1 (take 26 e) (subst (λ (r : List ℕ). Entries (a .g .heads) r (take 26 e)) (sym (rec .ensures .0)) y)) (c .if2 .taken)
+
 member-after-requires : tie.Need-member-after-requires Inv-loop μ-loop
 member-after-requires c κs =
-    let p = c .before .before .before .before .before .before .before .before .pre in
-    (p .0 .0, p .0 .1, c .before .before .before .before .before .loop .inv .1)
+    let p = c .before .before .before .before .before .before .before .before .before .before .pre in
+    (p .0 .0, p .0 .1, c .before .before .before .before .before .before .before .loop .inv .1)
 
--- src/lib.rt:123:9
 sub-left : tie.Need-sub-left Inv-loop μ-loop
 sub-left c = search needs
 
--- src/lib.rt:117:5
 loop-less : tie.Need-loop-less Inv-loop μ-loop
 loop-less c = search needs
 
--- src/lib.rt:117:5
 loop-again : tie.Need-loop-again Inv-loop μ-loop
 loop-again c =
-    let top = c .before .before .before .before .before .before .before .before .before in
+    let top = c .before .before .before .before .before .before .before .before .before .before .before in
     let a = top .args in
-    let l = c .before .before .before .before .before .before .loop in
-    let rec = c .before .before .before .record-at in (
-      c .before .look-member .ensures .0,
+    let p = top .pre in
+    let l = c .before .before .before .before .before .before .before .before .loop in
+    let rec = c .before .before .before .before .before .record-at in
+    let looked = c .before .before .before .look-member in (
+      looked .ensures .0,
       c .member-after .ensures .0,
-      λ f x. going-next (geometryOf (a .g)) (a .table .now) _ (l .left) (l .k) (l .inv .2 f x) (omega (arith, c .before .before .before .before .if1 .left)) (c .member-after .result) _
-          (λ e y z. onwards-next (a .u) (a .amount) f (toRuns (a .five .now)) _ _ _ _ e (c .before .look-member .ensures .1 (take 26 e) (subst (λ (r : List ℕ). Entries (a .g .heads) r (take 26 e)) (sym (rec .ensures .0)) y)) z)
+      λ f x. going-next (geometryOf (a .g)) (a .table .now) _ (l .left) (l .k) (l .inv .2 f x) (omega (arith, c .before .before .before .before .before .before .if1 .left)) (c .member-after .result) _
+          (λ e y z. onwards-next (a .u) (a .amount) f (toRuns (a .five .now)) _ _ _ _ e (p .0 .4) (looked .ensures .1 (take 26 e) (subst (λ (r : List ℕ). Entries (a .g .heads) r (take 26 e)) (sym (rec .ensures .0)) y)) z)
           (c .member-after .ensures .1),
     )
 
--- src/lib.rt:109:1
-returns-2 : tie.Need-returns-2 Inv-loop μ-loop
-returns-2 c =
+returns-3 : tie.Need-returns-3 Inv-loop μ-loop
+returns-3 c =
     let a = c .before .before .before .before .args in
     let p = c .before .before .before .before .pre in
     let l = c .before .loop in
@@ -107,8 +109,9 @@ survey-spec =
     returns
     record-at-requires
     look-member-requires
+    returns-2
     member-after-requires
     sub-left
     loop-less
     loop-again
-    returns-2)
+    returns-3)

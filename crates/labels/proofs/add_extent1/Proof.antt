@@ -1,9 +1,14 @@
+use mathlib.Core.Path.{_≡_}
+use Prim.Native.Nat.{_+_}
+use native.Mathlib.Omega.{arith}
+use lib.ListN.{length}
 use borrow.Author.Needs.{needs}
-use Rattle.labels.proofs.add_extent1.Statement.{statement}
-use Rattle.labels.proofs.add_extent1.Tie as tie
 use Rattle.model.specs.Model.{extent, run}
 use Rattle.forms.specs.Forms.{geometryOf}
+use Rattle.records.proofs.Putting.{set-keeps}
 use Rattle.labels.proofs.Format1.{more-in-one, more-past-one}
+use Rattle.labels.proofs.add_extent1.Statement.{statement}
+use Rattle.labels.proofs.add_extent1.Tie as tie
 
 add-r : tie.Need-add-r
 add-r c = search needs
@@ -21,13 +26,21 @@ add-put-extent : tie.Need-add-put-extent
 add-put-extent c = search needs
 
 put-extent-requires : tie.Need-put-extent-requires
-put-extent-requires c κs = search needs
+put-extent-requires c κs =
+    let top = c .before .before in
+    let p = top .pre in
+    let l : length (top .args .rec) ≡ 140 = search needs in
+    (set-keeps (top .args .rec) 59 (top .args .n + 1) 140 l, omega arith, p .0, p .1, p .2, p .3)
 
 returns : tie.Need-returns
-returns c = λ l k f. rw (c .put-extent .ensures) (more-in-one (geometryOf (c .before .before .args .g)) l (c .before .before .args .rec) f (extent (c .before .before .args .kind) (run (c .before .before .args .start) (c .before .before .args .count))) (c .before .before .args .n) k (c .before .if1 .taken))
+returns c =
+    let a = c .before .before .before .args in
+    λ l k f. rw (c .put-extent .ensures) (more-in-one (geometryOf (a .g)) l (a .rec) f (extent (a .kind) (run (a .start) (a .count))) (a .n) k (c .before .before .if1 .taken))
 
 returns-2 : tie.Need-returns-2
-returns-2 c = λ l k f. more-past-one (geometryOf (c .before .args .g)) l (c .before .args .rec) f (extent (c .before .args .kind) (run (c .before .args .start) (c .before .args .count))) (c .before .args .n) k (c .if1 .left)
+returns-2 c =
+    let a = c .before .args in
+    λ l k f. more-past-one (geometryOf (a .g)) l (a .rec) f (extent (a .kind) (run (a .start) (a .count))) (a .n) k (c .if1 .left)
 
 pub add-extent1-spec : {M : Type 1} → statement M
 add-extent1-spec =

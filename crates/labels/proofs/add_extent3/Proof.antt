@@ -1,10 +1,9 @@
 use borrow.Author.Needs.{needs}
-use Rattle.labels.proofs.add_extent3.Statement.{statement}
-use Rattle.labels.proofs.add_extent3.Tie as tie
-use mathlib.Core.Path.{_∙_}
 use Rattle.model.specs.Model.{extent, run}
 use Rattle.forms.specs.Forms.{geometryOf}
 use Rattle.labels.proofs.Format3.{more-in-three, more-past-three}
+use Rattle.labels.proofs.add_extent3.Statement.{statement}
+use Rattle.labels.proofs.add_extent3.Tie as tie
 
 sub-put-extent : tie.Need-sub-put-extent
 sub-put-extent c = search needs
@@ -19,7 +18,10 @@ put-extent-requires : tie.Need-put-extent-requires
 put-extent-requires c κs = search needs
 
 returns : tie.Need-returns
-returns c = λ l k f. c .put-extent .ensures ∙ more-in-three (geometryOf (c .before .before .args .g)) l (c .before .before .args .rec) f (extent (c .before .before .args .kind) (run (c .before .before .args .start) (c .before .before .args .count))) (c .before .before .args .n) k (c .before .before .pre .0) (c .before .if1 .taken)
+returns c =
+    let top = c .before .before .before in
+    let a = top .args in
+    λ l k f. rw (c .put-extent .ensures) (more-in-three (geometryOf (a .g)) l (a .rec) f (extent (a .kind) (run (a .start) (a .count))) (a .n) k (top .pre .0) (c .before .before .if1 .taken))
 
 mul-put-extent-2 : tie.Need-mul-put-extent-2
 mul-put-extent-2 c = search needs
@@ -31,7 +33,10 @@ put-extent-requires-2 : tie.Need-put-extent-requires-2
 put-extent-requires-2 c κs = search needs
 
 returns-2 : tie.Need-returns-2
-returns-2 c = λ l k f. c .put-extent2 .ensures ∙ more-past-three (geometryOf (c .before .before .args .g)) l (c .before .before .args .rec) f (extent (c .before .before .args .kind) (run (c .before .before .args .start) (c .before .before .args .count))) (c .before .before .args .n) k (c .before .if1 .left) (c .before .before .pre .1)
+returns-2 c =
+    let top = c .before .before .before in
+    let a = top .args in
+    λ l k f. rw (c .put-extent2 .ensures) (more-past-three (geometryOf (a .g)) l (a .rec) f (extent (a .kind) (run (a .start) (a .count))) (a .n) k (c .before .before .if1 .left) (top .pre .1))
 
 pub add-extent3-spec : {M : Type 1} → statement M
 add-extent3-spec =

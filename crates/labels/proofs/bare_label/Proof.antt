@@ -1,7 +1,7 @@
 use borrow.Author.Needs.{needs}
+use Rattle.labels.proofs.Bare.{bare-is}
 use Rattle.labels.proofs.bare_label.Statement.{statement}
 use Rattle.labels.proofs.bare_label.Tie as tie
-use Rattle.labels.proofs.Bare.{bare-is}
 
 record-of-requires : tie.Need-record-of-requires
 record-of-requires c κs = search needs
@@ -16,7 +16,9 @@ put-same-requires : tie.Need-put-same-requires
 put-same-requires c κs = search needs
 
 returns : tie.Need-returns
-returns c = λ g. rw (c .put-same .ensures, c .before .record-of .ensures) (bare-is (c .before .before .before .args .s .now) (c .before .before .before .pre) (λ j. c .before .before .shared-slice-known .given j .fits) g)
+returns c =
+    let top = c .before .before .before .before in
+    λ g. rw (c .put-same .ensures, c .before .before .record-of .ensures) (bare-is (top .args .s .now) (top .pre) (λ j. c .before .before .before .shared-slice-known .given j .fits) g)
 
 pub bare-label-spec : {M : Type 1} → statement M
 bare-label-spec =

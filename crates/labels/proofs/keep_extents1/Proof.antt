@@ -1,7 +1,7 @@
 use borrow.Author.Needs.{needs}
+use Rattle.labels.proofs.Format1.{first-in-one, first-past-one}
 use Rattle.labels.proofs.keep_extents1.Statement.{statement}
 use Rattle.labels.proofs.keep_extents1.Tie as tie
-use Rattle.labels.proofs.Format1.{first-in-one, first-past-one}
 
 cast-r : tie.Need-cast-r
 cast-r c = search needs
@@ -19,7 +19,9 @@ put-same-requires : tie.Need-put-same-requires
 put-same-requires c κs = search needs
 
 returns : tie.Need-returns
-returns c = λ g l k f. rw (c .put-same .ensures) (first-in-one g l (c .before .before .args .rec) f (c .before .before .args .n) k (c .before .if1 .taken))
+returns c =
+    let a = c .before .before .before .args in
+    λ g l k f. rw (c .put-same .ensures) (first-in-one g l (a .rec) f (a .n) k (c .before .before .if1 .taken))
 
 returns-2 : tie.Need-returns-2
 returns-2 c = λ g l k f. first-past-one g l (c .before .args .rec) f (c .before .args .n) k (c .if1 .left)

@@ -1,8 +1,11 @@
+use mathlib.Core.Path.{_≡_, _∙_}
+use native.Mathlib.Omega.{arith}
+use lib.ListN.{length}
 use borrow.Author.Needs.{needs}
+use Rattle.records.proofs.Putting.{put-keeps}
+use Rattle.labels.proofs.Format3.{first-in-three, first-past-three}
 use Rattle.labels.proofs.keep_extents3.Statement.{statement}
 use Rattle.labels.proofs.keep_extents3.Tie as tie
-use mathlib.Core.Path.{_∙_}
-use Rattle.labels.proofs.Format3.{first-in-three, first-past-three}
 
 sub-put-same : tie.Need-sub-put-same
 sub-put-same c = search needs
@@ -17,10 +20,14 @@ put-same-requires : tie.Need-put-same-requires
 put-same-requires c κs = search needs
 
 put-same-requires-2 : tie.Need-put-same-requires-2
-put-same-requires-2 c κs = search needs
+put-same-requires-2 c κs =
+    let l : length (c .before .before .before .before .args .rec) ≡ 140 = search needs in
+    (put-keeps _ _ _ _ 140 (c .before .put-same .ensures) l, omega arith, omega arith)
 
 returns : tie.Need-returns
-returns c = λ g l f. rw (c .put-same2 .ensures, c .before .put-same .ensures) (first-in-three g l (c .before .before .before .args .rec) f (c .before .before .before .args .n) (c .before .before .before .pre .0) (c .before .before .if1 .taken))
+returns c =
+    let top = c .before .before .before .before .before in
+    λ g l f. rw (c .put-same2 .ensures, c .before .before .put-same .ensures) (first-in-three g l (top .args .rec) f (top .args .n) (top .pre .0) (c .before .before .before .before .if1 .taken))
 
 mul-put-same-2 : tie.Need-mul-put-same-2
 mul-put-same-2 c = search needs
@@ -32,7 +39,9 @@ put-same-requires-3 : tie.Need-put-same-requires-3
 put-same-requires-3 c κs = search needs
 
 returns-2 : tie.Need-returns-2
-returns-2 c = λ g l f. c .put-same3 .ensures ∙ first-past-three g l (c .before .before .args .rec) f (c .before .before .args .n) (c .before .if1 .left) (c .before .before .pre .1)
+returns-2 c =
+    let top = c .before .before .before in
+    λ g l f. c .put-same3 .ensures ∙ first-past-three g l (top .args .rec) f (top .args .n) (c .before .before .if1 .left) (top .pre .1)
 
 pub keep-extents3-spec : {M : Type 1} → statement M
 keep-extents3-spec =

@@ -1,7 +1,8 @@
 use borrow.Author.Needs.{needs}
+use Rattle.records.proofs.Putting.{put-keeps}
+use Rattle.labels.proofs.Format1.{new-is, new-long}
 use Rattle.labels.proofs.new_label.Statement.{statement}
 use Rattle.labels.proofs.new_label.Tie as tie
-use Rattle.labels.proofs.Format1.{new-is}
 
 put-row-requires : tie.Need-put-row-requires
 put-row-requires c κs = search needs
@@ -13,7 +14,7 @@ array-write-r-2 : tie.Need-array-write-r-2
 array-write-r-2 c = search needs
 
 put-three-requires : tie.Need-put-three-requires
-put-three-requires c κs = search needs
+put-three-requires c κs = let top = c .before .before .before .before .before in (new-long _ (top .args .name .now) (top .args .unit) (c .before .put-row .ensures), search needs, top .pre .2)
 
 sub-put-row : tie.Need-sub-put-row
 sub-put-row c = search needs
@@ -25,7 +26,9 @@ part-put-row-end : tie.Need-part-put-row-end
 part-put-row-end c = search needs
 
 put-row-requires-2 : tie.Need-put-row-requires-2
-put-row-requires-2 c κs = search needs
+put-row-requires-2 c κs =
+    let a = c .before .before .before .before .before .before .before .before .args in
+    (put-keeps _ _ _ _ 140 (c .before .before .put-three .ensures) (new-long _ (a .name .now) (a .unit) (c .before .before .before .before .put-row .ensures)), search needs)
 
 sub-put-row-2 : tie.Need-sub-put-row-2
 sub-put-row-2 c = search needs
@@ -37,7 +40,9 @@ part-put-row-end-2 : tie.Need-part-put-row-end-2
 part-put-row-end-2 c = search needs
 
 put-row-requires-3 : tie.Need-put-row-requires-3
-put-row-requires-3 c κs = search needs
+put-row-requires-3 c κs =
+    let a = c .before .before .before .before .before .before .before .before .before .before .before .args in
+    (put-keeps _ _ _ _ 140 (c .before .before .put-row2 .ensures) (put-keeps _ _ _ _ 140 (c .before .before .before .before .before .put-three .ensures) (new-long _ (a .name .now) (a .unit) (c .before .before .before .before .before .before .before .put-row .ensures))), search needs)
 
 sub-put-row-3 : tie.Need-sub-put-row-3
 sub-put-row-3 c = search needs
@@ -49,10 +54,15 @@ part-put-row-end-3 : tie.Need-part-put-row-end-3
 part-put-row-end-3 c = search needs
 
 put-row-requires-4 : tie.Need-put-row-requires-4
-put-row-requires-4 c κs = search needs
+put-row-requires-4 c κs =
+    let a = c .before .before .before .before .before .before .before .before .before .before .before .before .before .before .args in
+    (put-keeps _ _ _ _ 140 (c .before .before .put-row3 .ensures) (put-keeps _ _ _ _ 140 (c .before .before .before .before .before .put-row2 .ensures) (put-keeps _ _ _ _ 140 (c .before .before .before .before .before .before .before .before .put-three .ensures) (new-long _ (a .name .now) (a .unit) (c .before .before .before .before .before .before .before .before .before .before .put-row .ensures)))), search needs)
 
 returns : tie.Need-returns
-returns c = λ g. rw (c .put-row4 .ensures, c .before .before .put-row3 .ensures, c .before .before .before .before .put-row2 .ensures, c .before .before .before .before .before .before .put-three .ensures, c .before .before .before .before .before .before .before .put-row .ensures) (new-is (c .before .before .before .before .before .before .before .before .before .before .args .name .now) (c .before .before .before .before .before .before .before .before .before .before .args .attributes .now) (c .before .before .before .before .before .before .before .before .before .before .args .unit) (c .before .before .before .before .before .before .before .before .before .before .args .secondary) (c .before .before .before .before .before .before .before .before .before .before .pre .0) (c .before .before .before .before .before .before .before .before .before .before .pre .1) g)
+returns c =
+    let top = c .before .before .before .before .before .before .before .before .before .before .before .before .before .before .before in
+    let a = top .args in
+    λ g. rw (c .put-row4 .ensures, c .before .before .before .put-row3 .ensures, c .before .before .before .before .before .before .put-row2 .ensures, c .before .before .before .before .before .before .before .before .before .put-three .ensures, c .before .before .before .before .before .before .before .before .before .before .before .put-row .ensures) (new-is (a .name .now) (a .attributes .now) (a .unit) (a .secondary) (top .pre .0) (top .pre .1) g)
 
 pub new-label-spec : {M : Type 1} → statement M
 new-label-spec =

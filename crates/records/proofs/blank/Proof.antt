@@ -1,11 +1,11 @@
+use mathlib.Core.Path.{_≡_}
 use Prim.Native.Nat.{_-_}
 use native.Mathlib.Omega.{arith}
 use borrow.Author.Needs.{needs}
-use Rattle.records.proofs.blank.Statement.{statement}
-use Rattle.records.proofs.blank.Tie as tie
-use mathlib.Core.Path.{_≡_}
 use Rattle.records.specs.Blank.{blank}
 use Rattle.records.specs.Put.{putAt}
+use Rattle.records.proofs.blank.Statement.{statement}
+use Rattle.records.proofs.blank.Tie as tie
 
 put-same-requires : tie.Need-put-same-requires
 put-same-requires c κs = search needs
@@ -15,7 +15,7 @@ array-write-r c = search needs
 
 returns : tie.Need-returns
 unfolding blank putAt
-returns c = let e : c .before .args .n - 0 ≡ c .before .args .n = omega arith in rw (c .put-same .ensures, e)
+returns c = let e : c .before .before .args .n - 0 ≡ c .before .before .args .n = omega arith in rw (c .put-same .ensures, e)
 
 pub blank-spec : {M : Type 1} → statement M
 blank-spec = tie.close (tie.spec put-same-requires array-write-r returns)

@@ -1,10 +1,10 @@
+use native.Mathlib.Omega.{arith}
 use borrow.Author.Needs.{needs}
+use Rattle.forms.specs.Forms.{geometryOf}
+use Rattle.records.proofs.Format4.{counted-long, four-is, headed-long, linked-long, sized-long}
+use Rattle.records.proofs.Numbers.{cylinders-small}
 use Rattle.records.proofs.four.Statement.{statement}
 use Rattle.records.proofs.four.Tie as tie
-use native.Mathlib.Omega.{arith}
-use Rattle.forms.specs.Forms.{geometryOf}
-use Rattle.records.proofs.Format4.{four-is}
-use Rattle.records.proofs.Numbers.{cylinders-small}
 
 blank-requires : tie.Need-blank-requires
 blank-requires c κs = search needs
@@ -16,28 +16,39 @@ cast-put-two : tie.Need-cast-put-two
 cast-put-two c = search needs
 
 put-two-requires : tie.Need-put-two-requires
-put-two-requires c κs = search needs
+put-two-requires c κs =
+    let top = c .before .before .before .before in
+    (linked-long (geometryOf (top .args .g)) (top .args .highest) (top .args .empty) _ _ (c .before .before .before .blank .ensures) (c .before .put-link .ensures), omega arith, top .pre .1)
 
-array-write-counted : tie.Need-array-write-counted
-array-write-counted c = search needs
+array-write-r : tie.Need-array-write-r
+array-write-r c = search needs
 
 put-two-requires-2 : tie.Need-put-two-requires-2
-put-two-requires-2 c κs = (omega arith, cylinders-small (geometryOf (c .before .before .before .args .g)) (c .before .before .before .pre .2))
+put-two-requires-2 c κs =
+    let top = c .before .before .before .before .before .before in
+    (counted-long (geometryOf (top .args .g)) (top .args .highest) (top .args .empty) _ _ (c .before .before .before .before .before .blank .ensures) (c .before .before .before .put-link .ensures) _ (c .before .put-two .ensures), omega arith, cylinders-small (geometryOf (top .args .g)) (top .pre .2))
 
 put-two-requires-3 : tie.Need-put-two-requires-3
-put-two-requires-3 c κs = search needs
+put-two-requires-3 c κs =
+    let top = c .before .before .before .before .before .before .before .before in
+    (sized-long (geometryOf (top .args .g)) (top .args .highest) (top .args .empty) _ _ (c .before .before .before .before .before .before .before .blank .ensures) (c .before .before .before .before .before .put-link .ensures) _ (c .before .before .before .put-two .ensures) _ (c .before .put-two2 .ensures), omega arith, omega (arith, top .pre .2 .headsMost))
 
-cast-headed : tie.Need-cast-headed
-cast-headed c = search needs
+cast-r : tie.Need-cast-r
+cast-r c = search needs
 
-array-write-headed : tie.Need-array-write-headed
-array-write-headed c = search needs
+array-write-r-2 : tie.Need-array-write-r-2
+array-write-r-2 c = search needs
 
 put-extent-requires : tie.Need-put-extent-requires
-put-extent-requires c κs = search needs
+put-extent-requires c κs =
+    let top = c .before .before .before .before .before .before .before .before .before .before .before in
+    let lim = top .pre .2 in
+    (headed-long (geometryOf (top .args .g)) (top .args .highest) (top .args .empty) _ _ (c .before .before .before .before .before .before .before .before .before .before .blank .ensures) (c .before .before .before .before .before .before .before .before .put-link .ensures) _ (c .before .before .before .before .before .before .put-two .ensures) _ (c .before .before .before .before .put-two2 .ensures) _ (c .before .before .put-two3 .ensures), omega arith, omega arith, lim .vtoc, omega (arith, lim .ends, lim .tracksMost), lim)
 
 returns : tie.Need-returns
-returns c = rw (c .put-extent .ensures, c .before .before .put-two3 .ensures, c .before .before .before .put-two2 .ensures, c .before .before .before .before .put-two .ensures, c .before .before .before .before .before .put-link .ensures, c .before .before .before .before .before .before .blank .ensures) (four-is (geometryOf (c .before .before .before .before .before .before .before .args .g)) (c .before .before .before .before .before .before .before .args .highest) (c .before .before .before .before .before .before .before .args .empty))
+returns c =
+    let top = c .before .before .before .before .before .before .before .before .before .before .before .before in
+    rw (c .put-extent .ensures, c .before .before .before .put-two3 .ensures, c .before .before .before .before .before .put-two2 .ensures, c .before .before .before .before .before .before .before .put-two .ensures, c .before .before .before .before .before .before .before .before .before .put-link .ensures, c .before .before .before .before .before .before .before .before .before .before .before .blank .ensures) (four-is (geometryOf (top .args .g)) (top .args .highest) (top .args .empty))
 
 pub four-spec : {M : Type 1} → statement M
 four-spec =
@@ -47,10 +58,10 @@ four-spec =
     put-link-requires
     cast-put-two
     put-two-requires
-    array-write-counted
+    array-write-r
     put-two-requires-2
     put-two-requires-3
-    cast-headed
-    array-write-headed
+    cast-r
+    array-write-r-2
     put-extent-requires
     returns)

@@ -1,25 +1,27 @@
-use borrow.Author.Needs.{needs}
-use Rattle.records.proofs.put_extent.Statement.{statement}
-use Rattle.records.proofs.put_extent.Tie as tie
-use Prim.Native.Nat.{ℕ, _+_, _-_}
 use mathlib.Core.Path.{_∙_, ap, refl}
 use mathlib.Core.List.{List}
+use Prim.Native.Nat.{ℕ, _+_, _-_}
+use native.Mathlib.Omega.{arith}
+use lib.ListN.{set}
+use borrow.Author.Needs.{needs}
 use Rattle.rules.specs.Layout.{cchh}
-use Rattle.records.specs.Put.{putAt}
 use Rattle.forms.specs.Forms.{geometryOf}
-use Rattle.records.proofs.Putting.{put-behind}
+use Rattle.records.specs.Put.{putAt}
+use Rattle.records.proofs.Putting.{put-behind, put-keeps, set-keeps}
+use Rattle.records.proofs.put_extent.Statement.{statement}
+use Rattle.records.proofs.put_extent.Tie as tie
 
-array-write-r : tie.Need-array-write-r
-array-write-r c = search needs
+element-write-rec : tie.Need-element-write-rec
+element-write-rec c = search needs
 
-cast-r : tie.Need-cast-r
-cast-r c = search needs
+cast-rec : tie.Need-cast-rec
+cast-rec c = search needs
 
-add-r : tie.Need-add-r
-add-r c = search needs
+add-rec : tie.Need-add-rec
+add-rec c = search needs
 
-array-write-r-2 : tie.Need-array-write-r-2
-array-write-r-2 c = search needs
+element-write-rec-2 : tie.Need-element-write-rec-2
+element-write-rec-2 c = search needs
 
 add-put-track : tie.Need-add-put-track
 add-put-track c = search needs
@@ -37,19 +39,27 @@ sub-put-track : tie.Need-sub-put-track
 sub-put-track c = search needs
 
 put-track-requires-2 : tie.Need-put-track-requires-2
-put-track-requires-2 c κs = search needs
+put-track-requires-2 c κs =
+    let top = c .before .before .before in
+    let a = top .args in
+    let two = set-keeps (set (a .rec .now) (a .at) (a .kind)) (a .at + 1) (a .number) 140 (set-keeps (a .rec .now) (a .at) (a .kind) 140 (top .pre .0)) in
+    (put-keeps _ _ _ _ 140 (c .before .put-track .ensures) two, omega arith, omega arith, top .pre .5)
 
 returns : tie.Need-returns
-returns c = c .put-track2 .ensures ∙ ap (λ (l : List ℕ). putAt l (c .before .before .args .at + 6) (cchh (geometryOf (c .before .before .args .g)) (c .before .before .args .start + c .before .before .args .count - 1))) (c .before .put-track .ensures) ∙ put-behind (c .before .before .args .rec) (c .before .before .args .at) (c .before .before .args .kind) (c .before .before .args .number) (cchh (geometryOf (c .before .before .args .g)) (c .before .before .args .start)) (cchh (geometryOf (c .before .before .args .g)) (c .before .before .args .start + c .before .before .args .count - 1)) refl
+returns c =
+    let a = c .before .before .before .before .args in
+    let g = geometryOf (a .g) in
+    let last = a .start + a .count - 1 in
+    c .put-track2 .ensures ∙ ap (λ (l : List ℕ). putAt l (a .at + 6) (cchh g last)) (c .before .before .put-track .ensures) ∙ put-behind (a .rec .now) (a .at) (a .kind) (a .number) (cchh g (a .start)) (cchh g last) refl
 
 pub put-extent-spec : {M : Type 1} → statement M
 put-extent-spec =
     tie.close
     (tie.spec
-    array-write-r
-    cast-r
-    add-r
-    array-write-r-2
+    element-write-rec
+    cast-rec
+    add-rec
+    element-write-rec-2
     add-put-track
     put-track-requires
     add-put-track-2

@@ -1,32 +1,32 @@
 use native.Mathlib.Nat.{add-assoc}
 use borrow.Author.Needs.{needs}
+use Rattle.records.specs.Put.{putAt}
 use Rattle.records.proofs.put_three.Statement.{statement}
 use Rattle.records.proofs.put_three.Tie as tie
-use Rattle.records.specs.Put.{putAt}
 
-cast-r : tie.Need-cast-r
-cast-r c = search needs
+cast-rec : tie.Need-cast-rec
+cast-rec c = search needs
 
-array-write-r : tie.Need-array-write-r
-array-write-r c = search needs
+element-write-rec : tie.Need-element-write-rec
+element-write-rec c = search needs
 
-cast-r-2 : tie.Need-cast-r-2
-cast-r-2 c = search needs
+cast-rec-2 : tie.Need-cast-rec-2
+cast-rec-2 c = search needs
 
-add-r : tie.Need-add-r
-add-r c = search needs
+add-rec : tie.Need-add-rec
+add-rec c = search needs
 
-array-write-r-2 : tie.Need-array-write-r-2
-array-write-r-2 c = search needs
+element-write-rec-2 : tie.Need-element-write-rec-2
+element-write-rec-2 c = search needs
 
-cast-r-3 : tie.Need-cast-r-3
-cast-r-3 c = search needs
+cast-rec-3 : tie.Need-cast-rec-3
+cast-rec-3 c = search needs
 
-add-r-2 : tie.Need-add-r-2
-add-r-2 c = search needs
+add-rec-2 : tie.Need-add-rec-2
+add-rec-2 c = search needs
 
-array-write-r-3 : tie.Need-array-write-r-3
-array-write-r-3 c = search needs
+element-write-rec-3 : tie.Need-element-write-rec-3
+element-write-rec-3 c = search needs
 
 returns : tie.Need-returns
 unfolding putAt
@@ -36,12 +36,12 @@ pub put-three-spec : {M : Type 1} → statement M
 put-three-spec =
     tie.close
     (tie.spec
-    cast-r
-    array-write-r
-    cast-r-2
-    add-r
-    array-write-r-2
-    cast-r-3
-    add-r-2
-    array-write-r-3
+    cast-rec
+    element-write-rec
+    cast-rec-2
+    add-rec
+    element-write-rec-2
+    cast-rec-3
+    add-rec-2
+    element-write-rec-3
     returns)

@@ -1,26 +1,28 @@
+use mathlib.Core.Path.{refl}
 use borrow.Author.Needs.{needs}
+use Rattle.records.specs.Put.{putAt}
 use Rattle.records.proofs.put_two.Statement.{statement}
 use Rattle.records.proofs.put_two.Tie as tie
-use Rattle.records.specs.Put.{putAt}
 
-cast-r : tie.Need-cast-r
-cast-r c = search needs
+cast-rec : tie.Need-cast-rec
+cast-rec c = search needs
 
-array-write-r : tie.Need-array-write-r
-array-write-r c = search needs
+element-write-rec : tie.Need-element-write-rec
+element-write-rec c = search needs
 
-cast-r-2 : tie.Need-cast-r-2
-cast-r-2 c = search needs
+cast-rec-2 : tie.Need-cast-rec-2
+cast-rec-2 c = search needs
 
-add-r : tie.Need-add-r
-add-r c = search needs
+add-rec : tie.Need-add-rec
+add-rec c = search needs
 
-array-write-r-2 : tie.Need-array-write-r-2
-array-write-r-2 c = search needs
+element-write-rec-2 : tie.Need-element-write-rec-2
+element-write-rec-2 c = search needs
 
 returns : tie.Need-returns
 unfolding putAt
-returns c = search needs
+returns c = refl
 
 pub put-two-spec : {M : Type 1} → statement M
-put-two-spec = tie.close (tie.spec cast-r array-write-r cast-r-2 add-r array-write-r-2 returns)
+put-two-spec =
+    tie.close (tie.spec cast-rec element-write-rec cast-rec-2 add-rec element-write-rec-2 returns)
