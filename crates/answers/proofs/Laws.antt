@@ -16,11 +16,6 @@ use Rattle.records.proofs.Filling.{put-fill}
 use Rattle.records.proofs.Putting.{put-then}
 use Rattle.answers.specs.Bytes24.{pieceBytes}
 
--- all of it is copied
-pub copied : (r o : List ℕ) → length o ≡ length r → take (length r) r ++ drop (length r) o ≡ r
-copied r o e =
-    ap₂ (λ (x y : List ℕ). x ++ y) (take-length r) (drop-of-length-le o {i = length r} (omega arith)) ∙ append-nil r
-
 -- ---- one after the other
 
 module _ {A : Type 0} (f : A → List ℕ) where

@@ -26,7 +26,7 @@ fn erase(table: &mut [u8])
 }
 
 // Puts an entry for `count` tracks from `start` on, if there are any, behind j others, and says how many there are then.
-fn put_some(rec: &mut [u8; 140], j: usize, g: Geometry, start: u32, count: u32) -> usize
+fn put_some(rec: &mut [u8], j: usize, g: Geometry, start: u32, count: u32) -> usize
     requires { ⌜ (length (now rec) ≡ 140) × (j < 26) × (start + count ≤ 65535) × Limits (geometryOf g) ⌝ }
     ensures { λ r. ⌜ More (geometryOf g) (someRun start count) (now (rec .entry)) j (now (rec .exit)) r ⌝ }
 {

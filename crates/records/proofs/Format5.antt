@@ -97,46 +97,46 @@ pub five-long : (g : Geometry) (f : List Run) (k : ℕ) → length (format5 g f 
 unfolding format5
 five-long g f k = length-whole lengths5 (fields5 g f k) (lens5 g f k)
 
-pub record Filling (g : Geometry) (m : List ℕ) (n at j t : ℕ) (r : List ℕ) : Type 0 where
+pub record Filling (g : Geometry) (m : List ℕ) (n at k j t : ℕ) (r : List ℕ) : Type 0 where
   pub upTo : t ≤ n
   pub left : freeFrom m n t ≡ drop j (freeFrom m n at)
-  pub bytes : r ≡ format5 g (take j (freeFrom m n at)) 0
+  pub bytes : r ≡ format5 g (take j (freeFrom m n at)) k
 
-module _ (g : Geometry) (m : List ℕ) (n at : ℕ) where
+module _ (g : Geometry) (m : List ℕ) (n at k : ℕ) where
   abbrev F : List Run
   F = freeFrom m n at
 
-  pub filling-long : (j t : ℕ) (r : List ℕ) → Filling g m n at j t r → length r ≡ 140
-  filling-long j t r f = ap length (f .bytes) ∙ five-long g (take j F) 0
+  pub filling-long : (j t : ℕ) (r : List ℕ) → Filling g m n at k j t r → length r ≡ 140
+  filling-long j t r f = ap length (f .bytes) ∙ five-long g (take j F) k
 
-  pub filling-none : at ≤ n → (r : List ℕ) → r ≡ blank 4 0x05 0xF5 → Filling g m n at 0 at r
-  filling-none h r e = record { upTo = h; left = refl; bytes = e ∙ five-none g }
+  pub filling-none : at ≤ n → (r : List ℕ) → r ≡ format5 g [] k → Filling g m n at k 0 at r
+  filling-none h r e = record { upTo = h; left = refl; bytes = e }
 
-  pub filling-next : (j t a b : ℕ) (r : List ℕ) → j < 26 → Filling g m n at j t r → NextRun m n t a b → a < n
-      → Filling g m n at (j + 1) b (putAt r (entryPlace j) (entry g (run a (b - a))))
+  pub filling-next : (j t a b : ℕ) (r : List ℕ) → j < 26 → Filling g m n at k j t r → NextRun m n t a b → a < n
+      → Filling g m n at k (j + 1) b (putAt r (entryPlace j) (entry g (run a (b - a))))
   filling-next j t a b r h f x u =
       let s = next-of F j (run a (b - a)) (freeFrom m n b) (sym (f .left) ∙ x .more u .1) in
       record {
         upTo = x .high;
         left = sym (s .2);
-        bytes = five-more g (take j F) (run a (b - a)) 0 r (f .bytes) j (s .0) h ∙ ap (λ (l : List Run). format5 g l 0) (sym (s .1));
+        bytes = five-more g (take j F) (run a (b - a)) k r (f .bytes) j (s .0) h ∙ ap (λ (l : List Run). format5 g l k) (sym (s .1));
       }
 
   -- no run is left
-  pub filling-ends : (j t a b : ℕ) (r : List ℕ) → j ≤ 26 → Filling g m n at j t r → NextRun m n t a b → n ≤ a → Fills g m n at r n
+  pub filling-ends : (j t a b : ℕ) (r : List ℕ) → j ≤ 26 → Filling g m n at k j t r → NextRun m n t a b → n ≤ a → Fills g m n at k r n
   filling-ends j t a b r h f x u =
       let e : drop j F ≡ [] = sym (f .left) ∙ x .done u in
       let l : length F ≤ j = omega (arith, length-drop j F, ap length e) in
       record {
-        bytes = f .bytes ∙ ap (λ (y : List Run). format5 g y 0) (take-all j F l ∙ sym (take-all 26 F (omega arith)));
+        bytes = f .bytes ∙ ap (λ (y : List Run). format5 g y k) (take-all j F l ∙ sym (take-all 26 F (omega arith)));
         rest = free-from-end m n ∙ sym (drop-of-length-le F {i = 26} (omega arith));
         upTo = le-refl n;
       }
 
-  pub filling-full : (j t : ℕ) (r : List ℕ) → j ≡ 26 → Filling g m n at j t r → Fills g m n at r t
+  pub filling-full : (j t : ℕ) (r : List ℕ) → j ≡ 26 → Filling g m n at k j t r → Fills g m n at k r t
   filling-full j t r e f =
       record {
-        bytes = f .bytes ∙ ap (λ (k : ℕ). format5 g (take k F) 0) e;
-        rest = f .left ∙ ap (λ (k : ℕ). drop k F) e;
+        bytes = f .bytes ∙ ap (λ (i : ℕ). format5 g (take i F) k) e;
+        rest = f .left ∙ ap (λ (i : ℕ). drop i F) e;
         upTo = f .upTo;
       }

@@ -2,11 +2,11 @@
 // sets are in the crate labels.
 use forms::Geometry;
 ghost use mathlib.Core.Path.{_≡_};
-ghost use mathlib.Core.List.{List};
+ghost use mathlib.Core.List.{[]};
 ghost use Prim.Native.Nat.{ℕ, _+_, _-_, _*_, _/_, _%_, _≤_, _<_};
 ghost use lib.ListN.{length, replicate};
 ghost use Rattle.model.specs.Basics.{be2, be3};
-ghost use Rattle.model.specs.Model.{Run, extent, run, slots};
+ghost use Rattle.model.specs.Model.{extent, run, slots};
 ghost use Rattle.rules.specs.Demand3.{entryPlace};
 ghost use Rattle.rules.specs.Layout.{cchh, entry, extentBytes, format4, format5, link};
 ghost use Rattle.rules.proofs.Valid.{Limits};
@@ -105,7 +105,7 @@ fn split(count: u32, h: u32) -> Cylinders
 }
 
 // Puts an entry of a format 5: start track, whole cylinders, odd tracks.
-pub fn put_entry(rec: &mut [u8; 140], at: usize, g: Geometry, start: u32, count: u32)
+pub fn put_entry(rec: &mut [u8], at: usize, g: Geometry, start: u32, count: u32)
     requires { ⌜ (length (now rec) ≡ 140) × (at + 4 < 140) × (start + count ≤ 65535) × Limits (geometryOf g) ⌝ }
     ensures { λ _. ⌜ now (rec .exit) ≡ putAt (now (rec .entry)) at (entry (geometryOf g) (run start count)) ⌝ }
 {
@@ -196,18 +196,25 @@ pub fn entry_place(j: usize) -> usize
     45 + 5 * (j - 8)
 }
 
-// A format 5, and the track from which the runs go on that it has no room for.
-pub struct Filled {
-    pub rec: [u8; 140],
-    pub next: usize,
+// The format 5 that has no entry, with slot k as the next one, 0 for none.
+fn empty_five(g: Geometry, k: usize) -> [u8; 140]
+    requires { ⌜ (k < slots (geometryOf g)) × Limits (geometryOf g) ⌝ }
+    ensures { λ r. ⌜ r ≡ format5 (geometryOf g) [] k ⌝ }
+{
+    let mut r = blank(4, 0x05, 0xF5);
+    put_link(&mut r, 135, g, k); // DS5PTRDS
+    r
 }
 
-// The format 5 for the first 26 runs of free tracks from track `at` on and below n, with no format 5 after it.
-pub fn five(map: &[u64], n: usize, at: usize, g: Geometry) -> Filled
-    requires { ⌜ (at ≤ n) × (n ≤ 64 * length (now map)) × (n ≤ 65535) × Limits (geometryOf g) ⌝ }
-    ensures { λ r. ⌜ Fills (geometryOf g) (now (map .entry)) n at (r .rec) (r .next) ⌝ }
+// Makes the record the format 5 for the first 26 runs of free tracks from track `at` on and below n, with slot k as the next
+// one, 0 for none; the result is the track from which the runs go on that it has no room for. It is made where it stands in
+// the table: a record that is built elsewhere and copied costs as much as ten entries.
+pub fn five(rec: &mut [u8], map: &[u64], n: usize, at: usize, g: Geometry, k: usize) -> usize
+    requires { ⌜ (length (now rec) ≡ 140) × (at ≤ n) × (n ≤ 64 * length (now map)) × (n ≤ 65535) × (k < slots (geometryOf g)) × Limits (geometryOf g) ⌝ }
+    ensures { λ r. ⌜ Fills (geometryOf g) (now (map .entry)) n at k (now (rec .exit)) r ⌝ }
 {
-    let mut rec = blank(4, 0x05, 0xF5);
+    let made = empty_five(g, k);
+    bytes::copy(&made, rec);
     let mut t = at;
     let mut x = tracks::rest_of(map, at, n);
     let mut j: usize = 0;
@@ -216,22 +223,12 @@ pub fn five(map: &[u64], n: usize, at: usize, g: Geometry) -> Filled
         let from = free.from;
         let to = free.to;
         if from >= n {
-            return Filled { rec, next: n };
+            return n;
         }
-        put_entry(&mut rec, entry_place(j), g, from as u32, (to - from) as u32);
+        put_entry(rec, entry_place(j), g, from as u32, (to - from) as u32);
         t = to;
         x = free.rest;
         j += 1;
     }
-    Filled { rec, next: t }
-}
-
-// A format 5 with slot k as the next one, 0 for none.
-pub fn with_next(rec: [u8; 140], g: Geometry, k: usize) -> [u8; 140]
-    requires { ⌜ (k < slots (geometryOf g)) × Limits (geometryOf g) ⌝ }
-    ensures { λ r. ⌜ ((f : List Run) (old : ℕ) → rec ≡ format5 (geometryOf g) f old → r ≡ format5 (geometryOf g) f k) ⌝ }
-{
-    let mut r = rec;
-    put_link(&mut r, 135, g, k); // DS5PTRDS
-    r
+    t
 }

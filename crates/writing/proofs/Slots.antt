@@ -1,11 +1,12 @@
 -- The loops that write slots, turn by turn. Assumes nothing.
-use mathlib.Core.Path.{_≡_, refl, sym, ap, _∙_}
-use mathlib.Core.List.{List, [], _∷_}
+use mathlib.Core.Path.{_≡_, refl, sym, ap, ap₂, _∙_}
+use mathlib.Core.List.{List, [], _∷_, _++_}
 use Prim.Native.Nat.{ℕ, zero, suc, _+_, _-_, _*_, _≤_, _<_}
 use native.Mathlib.Numerals.{add-one}
 use native.Mathlib.Omega.{arith}
 use lib.ListN.{length, take, drop, getD, length-take, drop-of-length-le, List·getD-eq-default}
-use lib.Seq.{drop-cons, getD-take, slice, slice-cons}
+use lib.Seq.{drop-cons, drop-drop, getD-take, slice, slice-cons}
+use borrow.Rule.Slice.PartMut.{putMid}
 use Rattle.model.specs.Basics.{get2, zeros}
 use Rattle.model.specs.Model.{Geometry, Label, Run, oneSlot, tracks}
 use Rattle.model.proofs.Lists.{All}
@@ -116,30 +117,26 @@ unfolding fivesPut
 one-more g t k ks f = refl
 
 module _ (g : Geometry) (m ks t₀ t : List ℕ) (from start at i : ℕ) (s : Chaining g m ks t₀ t from start at i) (u : i < length ks)
-    (made linked : List ℕ) (next : ℕ) (f : Fills g m (tracks g) at made next)
-    (l : (f : List Run) (old : ℕ) → made ≡ format5 g f old → linked ≡ format5 g f (chainEntry ks (i + 1))) where
+    (made : List ℕ) (next : ℕ) (f : Fills g m (tracks g) at (chainEntry ks (i + 1)) made next) where
   abbrev free : List Run
   free = freeFrom m (tracks g) at
 
-  is-linked : linked ≡ format5 g (take 26 free) (chainEntry ks (i + 1))
-  is-linked = l (take 26 free) 0 (f .bytes)
-
-  pub chain-next : 140 * chainEntry ks i + 140 ≤ length t → Chaining g m ks t₀ (putRecord t (chainEntry ks i) linked) from start next (i + 1)
+  pub chain-next : 140 * chainEntry ks i + 140 ≤ length t → Chaining g m ks t₀ (putRecord t (chainEntry ks i) made) from start next (i + 1)
   chain-next fits =
       record {
         upTo = omega arith;
         atUp = f .upTo;
-        long = put-length t (chainEntry ks i) linked (ap length is-linked ∙ five-long g (take 26 free) (chainEntry ks (i + 1))) fits ∙ s .long;
+        long = put-length t (chainEntry ks i) made (ap length (f .bytes) ∙ five-long g (take 26 free) (chainEntry ks (i + 1))) fits ∙ s .long;
         rest = rest-law;
       }
     where
       first : drop i ks ≡ chainEntry ks i ∷ drop (i + 1) ks
       first = drop-cons ks i 0 u ∙ ap (λ (k : ℕ). k ∷ drop (suc i) ks) (entry-is ks i) ∙ ap (λ (j : ℕ). chainEntry ks i ∷ drop j ks) (sym (add-one i))
 
-      rest-law : fivesPut g (putRecord t (chainEntry ks i) linked) (fives (drop (i + 1) ks) (freeFrom m (tracks g) next)) ≡ fivesPut g t₀ (fives (drop from ks) (freeFrom m (tracks g) start))
+      rest-law : fivesPut g (putRecord t (chainEntry ks i) made) (fives (drop (i + 1) ks) (freeFrom m (tracks g) next)) ≡ fivesPut g t₀ (fives (drop from ks) (freeFrom m (tracks g) start))
       rest-law =
           ap (λ (r : List ℕ). fivesPut g (putRecord t (chainEntry ks i) r) (fives (drop (i + 1) ks) (freeFrom m (tracks g) next)))
-          (is-linked ∙ ap (format5 g (take 26 free)) (sym (head-is ks (i + 1))))
+          (f .bytes ∙ ap (format5 g (take 26 free)) (sym (head-is ks (i + 1))))
           ∙ ap (λ (x : List Run). fivesPut g (putRecord t (chainEntry ks i) (format5 g (take 26 free) (headOr0 (drop (i + 1) ks)))) (fives (drop (i + 1) ks) x)) (f .rest)
           ∙ one-more g t (chainEntry ks i) (drop (i + 1) ks) free
           ∙ ap (λ (x : List ℕ). fivesPut g t (fives x free)) (sym first)
@@ -149,6 +146,13 @@ pub chain-end : (g : Geometry) (m ks t₀ t : List ℕ) (from start at i : ℕ) 
     → t ≡ fivesPut g t₀ (fives (drop from ks) (freeFrom m (tracks g) start))
 unfolding fivesPut
 chain-end g m ks t₀ t from start at i s u = ap (λ (x : List ℕ). fivesPut g t (fives x (freeFrom m (tracks g) at))) (sym (drop-of-length-le ks {i = i} u)) ∙ s .rest
+
+-- `&mut t[a..e]`, the record of slot k, was lent and is back as p
+pub put-part : (t p : List ℕ) (k a : ℕ) → a ≡ 140 * k → putMid a (a + 140 - a) t p ≡ putRecord t k p
+unfolding putRecord
+put-part t p k a x =
+    let d : a + 140 - a ≡ 140 = omega arith in
+    ap₂ (λ (n j : ℕ). take n t ++ (p ++ drop j (drop n t))) x d ∙ ap (λ (l : List ℕ). take (140 * k) t ++ (p ++ l)) (drop-drop 140 (140 * k) t)
 
 -- ---- where it begins to be written
 

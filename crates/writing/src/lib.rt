@@ -120,11 +120,10 @@ pub fn put_chain(
     let mut at = start;
     let mut i = from;
     while i < n {
-        let filled = records::five(map, t, at, g);
-        let made = filled.rec;
-        let linked = records::with_next(made, g, member(chain, i + 1, n));
-        fields::put_record(table, member(chain, i, n), &linked);
-        at = filled.next;
+        let a = 140 * member(chain, i, n);
+        let e = a + 140;
+        let next = member(chain, i + 1, n);
+        at = records::five(&mut table[a..e], map, t, at, g, next);
         i += 1;
     }
 }

@@ -1,4 +1,5 @@
-use Rattle.answers.proofs.Laws.{back-is, copied}
+use Rattle.records.proofs.Putting.{copied}
+use Rattle.answers.proofs.Laws.{back-is}
 use lib.ListN.{length}
 use mathlib.Core.Path.{_≡_, sym, _∙_}
 use borrow.Author.Needs.{needs}

@@ -1,4 +1,5 @@
-use Rattle.answers.proofs.Laws.{copied, pieces-all, pieces-next, pieces-none, piecesTo}
+use Rattle.records.proofs.Putting.{copied}
+use Rattle.answers.proofs.Laws.{pieces-all, pieces-next, pieces-none, piecesTo}
 use lib.ListN.{length, set}
 use native.Mathlib.Omega.{arith}
 use mathlib.Core.Path.{_≡_, sym, ap, _∙_}

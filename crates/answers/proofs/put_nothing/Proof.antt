@@ -1,4 +1,4 @@
-use Rattle.answers.proofs.Laws.{copied}
+use Rattle.records.proofs.Putting.{copied}
 use Rattle.model.specs.Basics.{zeros}
 use mathlib.Core.Path.{refl, _∙_}
 use borrow.Author.Needs.{needs}

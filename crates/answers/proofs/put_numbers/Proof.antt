@@ -1,4 +1,5 @@
-use Rattle.answers.proofs.Laws.{copied, numbers-all, numbers-next, numbers-none, numbersTo}
+use Rattle.records.proofs.Putting.{copied}
+use Rattle.answers.proofs.Laws.{numbers-all, numbers-next, numbers-none, numbersTo}
 use Rattle.model.proofs.Lists.{All-at}
 use lib.ListN.{length}
 use native.Mathlib.Omega.{arith}

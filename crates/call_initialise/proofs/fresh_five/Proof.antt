@@ -4,43 +4,55 @@ use native.Mathlib.Omega.{arith}
 use borrow.Author.Needs.{needs}
 use Rattle.call_initialise.proofs.fresh_five.Statement.{statement}
 use Rattle.call_initialise.proofs.fresh_five.Tie as tie
+use Rattle.call_initialise.proofs.fresh_five.Reads as reads
+use Rattle.call_initialise.proofs.fresh_five.Lts as lts
+use Rattle.call_initialise.proofs.put_some.Reads as put-some-reads
+use Rattle.records.proofs.blank.Reads as blank-reads
 
--- src/lib.rt:44:19
+-- src/lib.rt:45:19
 blank-requires : tie.Need-blank-requires
 blank-requires c κs = search needs
 
--- src/lib.rt:45:18
+-- src/lib.rt:46:18
 add-behind : tie.Need-add-behind
 add-behind c = search needs
 
--- src/lib.rt:46:41
+-- src/lib.rt:47:22
+slice-aggregate-put-some : tie.Need-slice-aggregate-put-some
+slice-aggregate-put-some c = search needs
+
+-- src/lib.rt:47:41
 sub-put-some : tie.Need-sub-put-some
 sub-put-some c = search needs
 
--- src/lib.rt:46:9
+-- src/lib.rt:47:9
 put-some-requires : tie.Need-put-some-requires
 put-some-requires c κs = search needs
 
--- src/lib.rt:47:38
+-- src/lib.rt:48:14
+slice-aggregate-put-some-2 : tie.Need-slice-aggregate-put-some-2
+slice-aggregate-put-some-2 c = search needs
+
+-- src/lib.rt:48:38
 mul-put-some : tie.Need-mul-put-some
 mul-put-some c = search needs
 
--- src/lib.rt:47:38
+-- src/lib.rt:48:38
 sub-put-some-2 : tie.Need-sub-put-some-2
 sub-put-some-2 c = search needs
 
--- src/lib.rt:47:5
+-- src/lib.rt:48:5
 put-some-requires-2 : tie.Need-put-some-requires-2
 put-some-requires-2 c κs =
-    let lim = c .before .before .before .before .before .before .before .pre in
+    let lim = c .before .before .before .before .before .before .before .before .pre in
     let i = lim .ends in
     let j = lim .tracksMost in
-    let e = room (geometryOf (c .before .before .before .before .before .before .before .args .g)) (c .before .before .before .before .before .before .blank .result) _ (c .before .before .put-some .result) _ _ (c .before .before .before .before .before .before .blank .ensures) (c .before .before .put-some .ensures) in
+    let e = room (geometryOf (c .before .before .before .before .before .before .before .before .args .g)) (c .before .before .before .before .before .before .before .blank .result) _ (c .before .before .before .put-some .result) _ _ (c .before .before .before .before .before .before .before .blank .ensures) (c .before .before .before .put-some .ensures) in
     (e .0, e .1, omega arith, lim)
 
--- src/lib.rt:40:1
+-- src/lib.rt:41:1
 returns : tie.Need-returns
-returns c = both (geometryOf (c .before .before .before .before .before .before .before .before .args .g)) (c .before .before .before .before .before .before .before .before .pre) (c .before .before .before .before .before .before .before .blank .result) _ _ (c .before .before .before .put-some .result) (c .put-some2 .result) (c .before .before .before .before .before .before .before .blank .ensures) (c .before .before .before .put-some .ensures) (c .put-some2 .ensures)
+returns c = both (geometryOf (c .before .before .before .before .before .before .before .before .before .before .args .g)) (c .before .before .before .before .before .before .before .before .before .before .pre) (c .before .before .before .before .before .before .before .before .before .blank .result) _ _ (c .before .before .before .before .before .put-some .result) (c .before .put-some2 .result) (c .before .before .before .before .before .before .before .before .before .blank .ensures) (c .before .before .before .before .before .put-some .ensures) (c .before .put-some2 .ensures)
 
 pub fresh-five-spec : {M : Type 1} → statement M
 fresh-five-spec =
@@ -48,8 +60,10 @@ fresh-five-spec =
     (tie.spec
     blank-requires
     add-behind
+    slice-aggregate-put-some
     sub-put-some
     put-some-requires
+    slice-aggregate-put-some-2
     mul-put-some
     sub-put-some-2
     put-some-requires-2
