@@ -15,7 +15,7 @@ use Rattle.rules.proofs.LabelBack.{length-link, lengths1}
 use Rattle.records.specs.Put.{putAt}
 use Rattle.records.proofs.Extents.{extent-more, extents-first}
 use Rattle.records.proofs.Filling.{take-snoc, take-swap}
-use Rattle.records.proofs.Putting.{Built, built-next, lengths-set, put-field, put-keeps, set-field, set-keeps}
+use Rattle.records.proofs.Putting.{Built, built-next, lengths-set, put-field, set-field}
 use Rattle.labels.specs.Labels.{Format1, added, firstExtents, newLabel, withTtr}
 
 pub part-long : (i n : ℕ) (r : List ℕ) → i + n ≤ length r → length (part i n r) ≡ n
@@ -125,10 +125,6 @@ module _ (g : Geometry) (l : Label) (r : List ℕ) (is : Format1 g l r) where
   first-past-one n c h =
       subst (λ (k : ℕ). Format1 g (firstExtents n l) (set r 59 k)) (length-take-le n (l .extents) c)
       (one-extents (take n (l .extents)) 0 [] (omega arith) (same-three g (l .extents) (take n (l .extents)) (sym (take-take 3 n (l .extents) h))) 105 refl)
-
--- a new label's record, once its name, identifier and unit are in it
-pub new-long : (r n : List ℕ) (u : ℕ) → r ≡ putAt (zeros 140) 0 n → length (set (set r 44 0xF1) 94 u) ≡ 140
-new-long r n u e = set-keeps (set r 44 0xF1) 94 u 140 (set-keeps r 44 0xF1 140 (put-keeps (zeros 140) r 0 n 140 e refl))
 
 -- A NEW LABEL: its fields put one after the other
 pub new-is : (name at : List ℕ) (unit secondary : ℕ) → length name ≡ 44 → length at ≡ 52 → (g : Geometry)

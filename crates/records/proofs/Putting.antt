@@ -39,9 +39,6 @@ put-five r i a b c d e =
     rw (two, three, four)
 
 -- the record stays as long
-pub set-keeps : (r : List ℕ) (i x n : ℕ) → length r ≡ n → length (set r i x) ≡ n
-set-keeps r i x n e = length-set r i x ∙ e
-
 put-long : (r : List ℕ) (i : ℕ) (xs : List ℕ) → length (putAt r i xs) ≡ length r
 unfolding putAt
 put-long r i [] = refl

@@ -1,11 +1,9 @@
 use mathlib.Core.Path.{_≡_}
-use Prim.Native.Nat.{_+_}
 use native.Mathlib.Omega.{arith}
-use lib.ListN.{length}
+use lib.ListN.{length, length-set}
 use borrow.Author.Needs.{needs}
 use Rattle.model.specs.Model.{extent, run}
 use Rattle.forms.specs.Forms.{geometryOf}
-use Rattle.records.proofs.Putting.{set-keeps}
 use Rattle.labels.proofs.Format1.{more-in-one, more-past-one}
 use Rattle.labels.proofs.add_extent1.Statement.{statement}
 use Rattle.labels.proofs.add_extent1.Tie as tie
@@ -30,7 +28,7 @@ put-extent-requires c κs =
     let top = c .before .before in
     let p = top .pre in
     let l : length (top .args .rec) ≡ 140 = search needs in
-    (set-keeps (top .args .rec) 59 (top .args .n + 1) 140 l, omega arith, p .0, p .1, p .2, p .3)
+    (simp length-set l, omega arith, p .0, p .1, p .2, p .3)
 
 returns : tie.Need-returns
 returns c =

@@ -1,6 +1,9 @@
+use mathlib.Core.Path.{refl}
+use native.Mathlib.Omega.{arith}
+use lib.ListN.{length-set}
 use borrow.Author.Needs.{needs}
 use Rattle.records.proofs.Putting.{put-keeps}
-use Rattle.labels.proofs.Format1.{new-is, new-long}
+use Rattle.labels.proofs.Format1.{new-is}
 use Rattle.labels.proofs.new_label.Statement.{statement}
 use Rattle.labels.proofs.new_label.Tie as tie
 
@@ -14,7 +17,7 @@ array-write-r-2 : tie.Need-array-write-r-2
 array-write-r-2 c = search needs
 
 put-three-requires : tie.Need-put-three-requires
-put-three-requires c κs = let top = c .before .before .before .before .before in (new-long _ (top .args .name .now) (top .args .unit) (c .before .put-row .ensures), search needs, top .pre .2)
+put-three-requires c κs = (simp length-set (put-keeps _ _ _ _ 140 (c .before .put-row .ensures) refl), omega arith, c .before .before .before .before .before .pre .2)
 
 sub-put-row : tie.Need-sub-put-row
 sub-put-row c = search needs
@@ -26,9 +29,7 @@ part-put-row-end : tie.Need-part-put-row-end
 part-put-row-end c = search needs
 
 put-row-requires-2 : tie.Need-put-row-requires-2
-put-row-requires-2 c κs =
-    let a = c .before .before .before .before .before .before .before .before .args in
-    (put-keeps _ _ _ _ 140 (c .before .before .put-three .ensures) (new-long _ (a .name .now) (a .unit) (c .before .before .before .before .put-row .ensures)), search needs)
+put-row-requires-2 c κs = (put-keeps _ _ _ _ 140 (c .before .before .put-three .ensures) (simp length-set (put-keeps _ _ _ _ 140 (c .before .before .before .before .put-row .ensures) refl)), search needs)
 
 sub-put-row-2 : tie.Need-sub-put-row-2
 sub-put-row-2 c = search needs
@@ -41,8 +42,7 @@ part-put-row-end-2 c = search needs
 
 put-row-requires-3 : tie.Need-put-row-requires-3
 put-row-requires-3 c κs =
-    let a = c .before .before .before .before .before .before .before .before .before .before .before .args in
-    (put-keeps _ _ _ _ 140 (c .before .before .put-row2 .ensures) (put-keeps _ _ _ _ 140 (c .before .before .before .before .before .put-three .ensures) (new-long _ (a .name .now) (a .unit) (c .before .before .before .before .before .before .before .put-row .ensures))), search needs)
+    (put-keeps _ _ _ _ 140 (c .before .before .put-row2 .ensures) (put-keeps _ _ _ _ 140 (c .before .before .before .before .before .put-three .ensures) (simp length-set (put-keeps _ _ _ _ 140 (c .before .before .before .before .before .before .before .put-row .ensures) refl))), search needs)
 
 sub-put-row-3 : tie.Need-sub-put-row-3
 sub-put-row-3 c = search needs
@@ -55,8 +55,7 @@ part-put-row-end-3 c = search needs
 
 put-row-requires-4 : tie.Need-put-row-requires-4
 put-row-requires-4 c κs =
-    let a = c .before .before .before .before .before .before .before .before .before .before .before .before .before .before .args in
-    (put-keeps _ _ _ _ 140 (c .before .before .put-row3 .ensures) (put-keeps _ _ _ _ 140 (c .before .before .before .before .before .put-row2 .ensures) (put-keeps _ _ _ _ 140 (c .before .before .before .before .before .before .before .before .put-three .ensures) (new-long _ (a .name .now) (a .unit) (c .before .before .before .before .before .before .before .before .before .before .put-row .ensures)))), search needs)
+    (put-keeps _ _ _ _ 140 (c .before .before .put-row3 .ensures) (put-keeps _ _ _ _ 140 (c .before .before .before .before .before .put-row2 .ensures) (put-keeps _ _ _ _ 140 (c .before .before .before .before .before .before .before .before .put-three .ensures) (simp length-set (put-keeps _ _ _ _ 140 (c .before .before .before .before .before .before .before .before .before .before .put-row .ensures) refl)))), search needs)
 
 returns : tie.Need-returns
 returns c =

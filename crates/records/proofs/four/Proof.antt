@@ -1,8 +1,11 @@
+use mathlib.Core.Path.{_≡_}
 use native.Mathlib.Omega.{arith}
+use lib.ListN.{length, length-set}
 use borrow.Author.Needs.{needs}
 use Rattle.forms.specs.Forms.{geometryOf}
-use Rattle.records.proofs.Format4.{counted-long, four-is, headed-long, linked-long, sized-long}
+use Rattle.records.proofs.Format4.{four-is}
 use Rattle.records.proofs.Numbers.{cylinders-small}
+use Rattle.records.proofs.Putting.{put-keeps}
 use Rattle.records.proofs.four.Statement.{statement}
 use Rattle.records.proofs.four.Tie as tie
 
@@ -18,7 +21,8 @@ cast-put-two c = search needs
 put-two-requires : tie.Need-put-two-requires
 put-two-requires c κs =
     let top = c .before .before .before .before in
-    (linked-long (geometryOf (top .args .g)) (top .args .highest) (top .args .empty) _ _ (c .before .before .before .blank .ensures) (c .before .put-link .ensures), omega arith, top .pre .1)
+    let l : length (c .before .before .before .blank .result) ≡ 140 = search needs in
+    (put-keeps _ _ _ _ 140 (c .before .put-link .ensures) l, omega arith, top .pre .1)
 
 array-write-r : tie.Need-array-write-r
 array-write-r c = search needs
@@ -26,12 +30,14 @@ array-write-r c = search needs
 put-two-requires-2 : tie.Need-put-two-requires-2
 put-two-requires-2 c κs =
     let top = c .before .before .before .before .before .before in
-    (counted-long (geometryOf (top .args .g)) (top .args .highest) (top .args .empty) _ _ (c .before .before .before .before .before .blank .ensures) (c .before .before .before .put-link .ensures) _ (c .before .put-two .ensures), omega arith, cylinders-small (geometryOf (top .args .g)) (top .pre .2))
+    let l : length (c .before .before .before .before .before .blank .result) ≡ 140 = search needs in
+    (simp length-set (put-keeps _ _ _ _ 140 (c .before .put-two .ensures) (put-keeps _ _ _ _ 140 (c .before .before .before .put-link .ensures) l)), omega arith, cylinders-small (geometryOf (top .args .g)) (top .pre .2))
 
 put-two-requires-3 : tie.Need-put-two-requires-3
 put-two-requires-3 c κs =
     let top = c .before .before .before .before .before .before .before .before in
-    (sized-long (geometryOf (top .args .g)) (top .args .highest) (top .args .empty) _ _ (c .before .before .before .before .before .before .before .blank .ensures) (c .before .before .before .before .before .put-link .ensures) _ (c .before .before .before .put-two .ensures) _ (c .before .put-two2 .ensures), omega arith, omega (arith, top .pre .2 .headsMost))
+    let l : length (c .before .before .before .before .before .before .before .blank .result) ≡ 140 = search needs in
+    (put-keeps _ _ _ _ 140 (c .before .put-two2 .ensures) (simp length-set (put-keeps _ _ _ _ 140 (c .before .before .before .put-two .ensures) (put-keeps _ _ _ _ 140 (c .before .before .before .before .before .put-link .ensures) l))), omega arith, omega (arith, top .pre .2 .headsMost))
 
 cast-r : tie.Need-cast-r
 cast-r c = search needs
@@ -42,8 +48,9 @@ array-write-r-2 c = search needs
 put-extent-requires : tie.Need-put-extent-requires
 put-extent-requires c κs =
     let top = c .before .before .before .before .before .before .before .before .before .before .before in
+    let l : length (c .before .before .before .before .before .before .before .before .before .before .blank .result) ≡ 140 = search needs in
     let lim = top .pre .2 in
-    (headed-long (geometryOf (top .args .g)) (top .args .highest) (top .args .empty) _ _ (c .before .before .before .before .before .before .before .before .before .before .blank .ensures) (c .before .before .before .before .before .before .before .before .put-link .ensures) _ (c .before .before .before .before .before .before .put-two .ensures) _ (c .before .before .before .before .put-two2 .ensures) _ (c .before .before .put-two3 .ensures), omega arith, omega arith, lim .vtoc, omega (arith, lim .ends, lim .tracksMost), lim)
+    (simp length-set (put-keeps _ _ _ _ 140 (c .before .before .put-two3 .ensures) (put-keeps _ _ _ _ 140 (c .before .before .before .before .put-two2 .ensures) (simp length-set (put-keeps _ _ _ _ 140 (c .before .before .before .before .before .before .put-two .ensures) (put-keeps _ _ _ _ 140 (c .before .before .before .before .before .before .before .before .put-link .ensures) l))))), omega arith, omega arith, lim .vtoc, omega (arith, lim .ends, lim .tracksMost), lim)
 
 returns : tie.Need-returns
 returns c =

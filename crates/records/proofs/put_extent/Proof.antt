@@ -2,12 +2,12 @@ use mathlib.Core.Path.{_∙_, ap, refl}
 use mathlib.Core.List.{List}
 use Prim.Native.Nat.{ℕ, _+_, _-_}
 use native.Mathlib.Omega.{arith}
-use lib.ListN.{set}
+use lib.ListN.{length-set}
 use borrow.Author.Needs.{needs}
 use Rattle.rules.specs.Layout.{cchh}
 use Rattle.forms.specs.Forms.{geometryOf}
 use Rattle.records.specs.Put.{putAt}
-use Rattle.records.proofs.Putting.{put-behind, put-keeps, set-keeps}
+use Rattle.records.proofs.Putting.{put-behind, put-keeps}
 use Rattle.records.proofs.put_extent.Statement.{statement}
 use Rattle.records.proofs.put_extent.Tie as tie
 
@@ -41,9 +41,7 @@ sub-put-track c = search needs
 put-track-requires-2 : tie.Need-put-track-requires-2
 put-track-requires-2 c κs =
     let top = c .before .before .before in
-    let a = top .args in
-    let two = set-keeps (set (a .rec .now) (a .at) (a .kind)) (a .at + 1) (a .number) 140 (set-keeps (a .rec .now) (a .at) (a .kind) 140 (top .pre .0)) in
-    (put-keeps _ _ _ _ 140 (c .before .put-track .ensures) two, omega arith, omega arith, top .pre .5)
+    (put-keeps _ _ _ _ 140 (c .before .put-track .ensures) (simp length-set (top .pre .0)), omega arith, omega arith, top .pre .5)
 
 returns : tie.Need-returns
 returns c =

@@ -2,11 +2,11 @@ use mathlib.Core.Path.{_≡_, _∙_, ap}
 use mathlib.Core.List.{List}
 use Prim.Native.Nat.{_≤_, _-_, ℕ, _+_}
 use native.Mathlib.Omega.{arith}
-use lib.ListN.{getD, length, set, take}
+use lib.ListN.{getD, length, length-set, set, take}
 use lib.Seq.{take-all}
 use borrow.Author.Needs.{needs}
 use Rattle.records.specs.Put.{putAt}
-use Rattle.records.proofs.Putting.{row-more, row-none, set-keeps}
+use Rattle.records.proofs.Putting.{row-more, row-none}
 use Rattle.records.proofs.put_row.Statement.{statement}
 use Rattle.records.proofs.put_row.Tie as tie
 
@@ -38,7 +38,7 @@ loop-again : tie.Need-loop-again Inv-loop μ-loop
 loop-again c =
     let a = c .before .before .before .args in
     let l = c .before .before .loop in (
-      set-keeps (l .rec) (a .at + l .i) (getD (a .s .now) (l .i) 0) 140 (l .inv .0),
+      simp length-set (l .inv .0),
       omega arith,
       ap (λ (x : List ℕ). set x (a .at + l .i) (getD (a .s .now) (l .i) 0)) (l .inv .2) ∙ row-more (a .rec .now) (a .at) (a .s .now) (l .i) (c .before .loop-test .taken),
     )

@@ -2,10 +2,10 @@ use mathlib.Core.Path.{_≡_, _∙_, ap}
 use mathlib.Core.List.{List}
 use Prim.Native.Nat.{_≤_, _-_, ℕ}
 use native.Mathlib.Omega.{arith}
-use lib.ListN.{length, replicate, set}
+use lib.ListN.{length, length-set, replicate, set}
 use borrow.Author.Needs.{needs}
 use Rattle.records.specs.Put.{putAt}
-use Rattle.records.proofs.Putting.{same-more, same-none, set-keeps}
+use Rattle.records.proofs.Putting.{same-more, same-none}
 use Rattle.records.proofs.put_same.Statement.{statement}
 use Rattle.records.proofs.put_same.Tie as tie
 
@@ -29,7 +29,7 @@ loop-less c = search needs
 
 loop-again : tie.Need-loop-again Inv-loop μ-loop
 loop-again c = (
-  set-keeps (c .before .loop .rec) (c .before .loop .i) (c .before .before .args .v) 140 (c .before .loop .inv .0),
+  simp length-set (c .before .loop .inv .0),
   omega arith,
   omega arith,
   ap (λ (l : List ℕ). set l (c .before .loop .i) (c .before .before .args .v)) (c .before .loop .inv .3) ∙ same-more (c .before .before .args .rec .now) (c .before .before .args .a) (c .before .loop .i) (c .before .before .args .v) (omega arith),
