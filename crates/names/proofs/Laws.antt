@@ -9,6 +9,7 @@ use native.Mathlib.Decide.{decLe, ℕ-discrete}
 use native.Mathlib.Omega.{arith}
 use native.Mathlib.Numerals.{add-one}
 use lib.Dec.{eqb}
+use lib.Bits.{bitXor}
 use lib.ListN.{length, getD, take, set, drop, drop-of-length-le, length-set}
 use Rattle.names.specs.declared.Found.{Found}
 use Rattle.names.specs.declared.Found.the-variants.{Slot, Nothing}
@@ -21,8 +22,8 @@ use Rattle.tracks.specs.Map.{Given, freeBit, isFree}
 use Rattle.tracks.proofs.Bits.{le-or-lt}
 use Rattle.tracks.proofs.Walk.{is-free}
 use Rattle.fields.specs.Records.{slotBytes}
-use Rattle.fields.specs.Tests.{word4}
-use Rattle.names.specs.Find.{Entered, Seen, Tagged, distinctFrom, findSlot, firstNamed, hasTag, isLabel, isNamed, isNothing, nameOf, newAt, tagOf, weightOf, wordSum}
+use Rattle.fields.specs.Tests.{word8}
+use Rattle.names.specs.Find.{Entered, Seen, Tagged, distinctFrom, findSlot, firstNamed, hasTag, isLabel, isNamed, isNothing, nameOf, mixed, newAt, tagOf}
 
 module _ (t name : List ℕ) (k n : ℕ) (h : k < n) where
   step : firstNamed t name k (n - k) ≡ cond (isNamed (slotBytes t k) name) (Slot k) (firstNamed t name (k + 1) (n - (k + 1)))
@@ -173,17 +174,13 @@ pub tag-end : (tags : List ℕ) (x i : ℕ) (b : Bool) → length tags ≤ i →
 unfolding hasTag
 tag-end tags x i b h = rw (drop-of-length-le tags {i = i} h) (or-false b)
 
-pub word-more : (name : List ℕ) (i : ℕ) → wordSum name (i + 1) ≡ wordSum name i + word4 name (4 * i) * weightOf i
-unfolding wordSum
-word-more name i = rw add-one
+pub mixed-is : (name : List ℕ) → bitXor (bitXor (bitXor (word8 name 0) (word8 name 8)) (bitXor (word8 name 16) (word8 name 24))) (bitXor (word8 name 32) (word8 name 36)) ≡ mixed name
+unfolding mixed
+mixed-is name = refl
 
-pub word-none : (name : List ℕ) → wordSum name 0 ≡ 0
-unfolding wordSum
-word-none name = refl
-
-pub tag-value : (name : List ℕ) → wordSum name 11 / 16777216 % 65536 ≡ tagOf name
+pub tag-value : (name : List ℕ) (x : ℕ) → x ≡ mixed name → (x % 4294967296 * 248687971 + x / 4294967296 * 182312209) / 16777216 % 65536 ≡ tagOf name
 unfolding tagOf
-tag-value name = refl
+tag-value name x e = ap (λ (y : ℕ). (y % 4294967296 * 248687971 + y / 4294967296 * 182312209) / 16777216 % 65536) e
 
 pub tag-first : (t tags : List ℕ) (k : ℕ) → Tagged t k tags → Tagged t k (take k tags)
 tag-first t tags k g j u e = getD-take k tags j 0 u ∙ g j u e

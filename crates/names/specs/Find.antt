@@ -4,13 +4,14 @@ use mathlib.Core.Bool.{Bool, true, false, cond, _&&_}
 use mathlib.Core.List.{List}
 use mathlib.Core.Path.{_≡_}
 use lib.ListN.{getD, length}
+use lib.Bits.{bitXor}
 use lib.Dec.{eqb}
 use Rattle.names.specs.declared.Found.{Found}
 use Rattle.names.specs.declared.Found.the-variants.{Slot, Nothing}
 use Rattle.model.specs.Basics.{any, part, same}
 use Rattle.tracks.specs.Map.{freeBit}
 use Rattle.fields.specs.Records.{slotBytes}
-use Rattle.fields.specs.Tests.{word4}
+use Rattle.fields.specs.Tests.{word8}
 
 -- the record is a format 1
 abbrev pub isLabel : List ℕ → Bool
@@ -55,16 +56,14 @@ distinct t n = distinctFrom t 0 n
 
 -- ---- a number made of a name: any function of it would do
 
-abbrev pub weightOf : ℕ → ℕ
-weightOf i = (i + 5) * 2246822519 % 268435456
+-- A number made of a name, so that most names that differ are told apart by it: any number would do, equal names have equal
+-- ones. The words of eight characters one upon the other,
+unfoldable pub mixed : List ℕ → ℕ
+mixed s = bitXor (bitXor (bitXor (word8 s 0) (word8 s 8)) (bitXor (word8 s 16) (word8 s 24))) (bitXor (word8 s 32) (word8 s 36))
 
--- the first n words, each with its weight
-unfoldable pub wordSum : List ℕ → ℕ → ℕ
-wordSum s zero = 0
-wordSum s (suc n) = wordSum s n + word4 s (4 * n) * weightOf n
-
+-- and 16 bits out of the middle of a sum of products
 unfoldable pub tagOf : List ℕ → ℕ
-tagOf name = wordSum name 11 / 16777216 % 65536
+tagOf name = (mixed name % 4294967296 * 248687971 + mixed name / 4294967296 * 182312209) / 16777216 % 65536
 
 unfoldable pub hasTag : List ℕ → ℕ → Bool
 hasTag tags t = any (λ x. eqb x t) tags

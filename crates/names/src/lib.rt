@@ -1,10 +1,9 @@
 // Names in a table: the lookup, and that no two data sets have the same one.
 use fields::*;
 ghost use mathlib.Core.Path.{_≡_};
-ghost use Prim.Native.Nat.{_+_, _*_, _%_, _≤_, _<_};
+ghost use Prim.Native.Nat.{_+_, _*_, _≤_, _<_};
 ghost use lib.ListN.{length};
-ghost use Rattle.fields.specs.Tests.{word4};
-ghost use Rattle.names.specs.Find.{isNamed, findSlot, isNothing, distinct, weightOf, tagOf, hasTag, Tagged, Seen, Entered};
+ghost use Rattle.names.specs.Find.{isNamed, findSlot, isNothing, distinct, mixed, tagOf, hasTag, Tagged, Seen, Entered};
 
 // A lookup's answer.
 pub enum Found {
@@ -38,35 +37,25 @@ pub fn find(table: &[u8], n: usize, name: &[u8]) -> Found
     Found::Nothing
 }
 
-// What word number i is multiplied by in a name's tag: 28 bits, so that the sum of 11 products fits.
-fn weight(i: usize) -> u64
-    requires { ⌜ i < 11 ⌝ }
-    ensures { λ r. ⌜ (r ≡ weightOf i) × (r ≤ 268435455) ⌝ }
+// The 44 characters as one word: the words of eight one upon the other, the last of which overlap.
+fn mixed(name: &[u8]) -> u64
+    requires { ⌜ length (now name) ≡ 44 ⌝ }
+    ensures { λ r. ⌜ r ≡ mixed (now (name .entry)) ⌝ }
 {
-    (i as u64 + 5) * 2246822519 % 268435456
+    let a = fields::word8(name, 0) ^ fields::word8(name, 8);
+    let b = fields::word8(name, 16) ^ fields::word8(name, 24);
+    let c = fields::word8(name, 32) ^ fields::word8(name, 36);
+    (a ^ b) ^ c
 }
 
-// A word's share of a tag.
-fn weighed(name: &[u8], i: usize) -> u64
-    requires { ⌜ (i < 11) × (length (now name) ≡ 44) ⌝ }
-    ensures { λ r. ⌜ (r ≡ word4 (now (name .entry)) (4 * i) * weightOf i) × (r ≤ 1152921504606846976) ⌝ }
-{
-    let x = fields::word4(name, 4 * i);
-    x * weight(i)
-}
-
-// A number made of a name, so that most names that differ are told apart by one comparison. The loop has a fixed number of
-// turns, so that the weights are constants in the end.
+// A number made of a name, so that most names that differ are told apart by one comparison: 28 bits to a factor, so that the
+// sum fits.
 fn tag(name: &[u8]) -> u16
     requires { ⌜ length (now name) ≡ 44 ⌝ }
     ensures { λ r. ⌜ r ≡ tagOf (now (name .entry)) ⌝ }
 {
-    let mut sum: u64 = 0;
-    let mut i: usize = 0;
-    while i < 11 {
-        sum += weighed(name, i);
-        i += 1;
-    }
+    let x = mixed(name);
+    let sum = (x % 4294967296) * 248687971 + (x / 4294967296) * 182312209;
     (sum / 16777216 % 65536) as u16
 }
 

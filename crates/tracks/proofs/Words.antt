@@ -211,3 +211,8 @@ module _ (m : List ℕ) (s e q : ℕ) (h : s / 64 < length m) (u : s < e) (k : s
     made = λ r. clash r refl;
     hit = λ _. hit-chunk m s (e - s) h k e (omega arith) (λ y. z (ap (bitAnd (getD m (s / 64) 0)) is ∙ y ∙ sym is));
   }
+
+  pub gave-word : Made 1 m (set m (s / 64) (bitOr (getD m (s / 64) 0) q)) s e
+  gave-word =
+      subst (λ (y : ℕ). Made 1 m (set m (s / 64) (bitOr (getD m (s / 64) 0) y)) s e) (sym is)
+      (subst (Made 1 m (set m (s / 64) (bitOr (getD m (s / 64) 0) (mask s (e - s)))) s) ends (give-chunk m s (e - s) h k))

@@ -85,8 +85,17 @@ pub fn take_range(map: &mut [u64], s: usize, e: usize) -> bool
     take_far(map, s, e)
 }
 
-// Makes the tracks from s up to e free.
-pub fn give_range(map: &mut [u64], s: usize, e: usize)
+// Makes the tracks from s up to e free, which lie in one word.
+fn give_near(map: &mut [u64], s: usize, e: usize)
+    requires { ⌜ (s < e) × (s % 64 + (e - s) ≤ 64) × (s / 64 < length (now map)) ⌝ }
+    ensures { λ _. ⌜ Given (now (map .entry)) (now (map .exit)) s e ⌝ }
+{
+    let w = s / 64;
+    map[w] = map[w] | mask(s % 64, e - s);
+}
+
+// The same for any number of tracks, word by word.
+fn give_far(map: &mut [u64], s: usize, e: usize)
     requires { ⌜ (s ≤ e) × (e ≤ 64 * length (now map)) ⌝ }
     ensures { λ _. ⌜ Given (now (map .entry)) (now (map .exit)) s e ⌝ }
 {
@@ -97,6 +106,20 @@ pub fn give_range(map: &mut [u64], s: usize, e: usize)
         map[w] = map[w] | mask(t % 64, n);
         t += n;
     }
+}
+
+// Makes the tracks from s up to e free. One track, and most extents, need no loop.
+pub fn give_range(map: &mut [u64], s: usize, e: usize)
+    requires { ⌜ (s ≤ e) × (e ≤ 64 * length (now map)) ⌝ }
+    ensures { λ _. ⌜ Given (now (map .entry)) (now (map .exit)) s e ⌝ }
+{
+    if s < e {
+        if e - s <= 64 - s % 64 {
+            give_near(map, s, e);
+            return;
+        }
+    }
+    give_far(map, s, e);
 }
 
 // A word, or its complement.

@@ -6,8 +6,8 @@ use lib.ListN.{getD, set}
 use lib.Bits.{bitOr}
 use Rattle.tracks.specs.Map.{Made}
 use Rattle.tracks.proofs.Words.{give-chunk, made-none, made-more}
-use Rattle.tracks.proofs.give_range.Statement.{statement}
-use Rattle.tracks.proofs.give_range.Tie as tie
+use Rattle.tracks.proofs.give_far.Statement.{statement}
+use Rattle.tracks.proofs.give_far.Tie as tie
 
 abbrev Inv-loop : tie.InvT-loop
 Inv-loop map₀ s e t₀ map t = (s ≤ t) × (t ≤ e) × Made 1 map₀ map s t
@@ -59,8 +59,8 @@ same-length c = search needs
 returns : tie.Need-returns Inv-loop μ-loop
 returns c = let e : c .before .loop .t ≡ c .before .before .before .args .e = omega arith in rw e at (c .before .loop .inv .2)
 
-pub give-range-spec : {M : Type 1} → statement M
-give-range-spec =
+pub give-far-spec : {M : Type 1} → statement M
+give-far-spec =
     tie.close
     (tie.spec
     Inv-loop
