@@ -102,7 +102,7 @@ fn release_set(
         return 12;
     }
     let c = cut_set(x, g, ttr, map);
-    let one = c.one;
+    let mut one = c.one;
     let three = c.three;
     giving::free_slot(empty, freed(c.few, x.third));
     if commit::put_set(
@@ -115,8 +115,8 @@ fn release_set(
         k,
         x.third,
         c.few,
-        one,
-        three,
+        &mut one,
+        &three,
     ) {} else {
         return 11;
     }

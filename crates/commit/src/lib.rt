@@ -120,12 +120,12 @@ pub fn put_set(
     slot: usize,
     third: usize,
     few: bool,
-    one: [u8; 140],
-    three: [u8; 140],
+    one: &mut [u8; 140],
+    three: &[u8; 140],
 ) -> bool
-    requires { ⌜ Limits (geometryOf g) × (length (now table) ≡ 140 * slots (geometryOf g)) × (tracks (geometryOf g) ≤ 64 * length (now map)) × (length (now empty) ≡ 8) × (was ≤ 468) × (lo ≤ tracks (geometryOf g)) × (slot < slots (geometryOf g)) × (third < slots (geometryOf g)) ⌝ }
-    requires { ⌜ Draft (geometryOf g) (now table) (now map) (now empty) was lo slot third few one three ⌝ }
-    ensures { λ r. ⌜ ((d : Draft (geometryOf g) (now (table .entry)) (now (map .entry)) (now (empty .entry)) was lo slot third few one three) → Committed d (now (table .exit)) r) ⌝ }
+    requires { ⌜ Limits (geometryOf g) × (length (now table) ≡ 140 * slots (geometryOf g)) × (tracks (geometryOf g) ≤ 64 * length (now map)) × (length (now empty) ≡ 8) × (was ≤ 468) × (lo ≤ tracks (geometryOf g)) × (slot < slots (geometryOf g)) × (third < slots (geometryOf g)) × (length (now one) ≡ 140) ⌝ }
+    requires { ⌜ Draft (geometryOf g) (now table) (now map) (now empty) was lo slot third few (now one) (now three) ⌝ }
+    ensures { λ r. ⌜ ((d : Draft (geometryOf g) (now (table .entry)) (now (map .entry)) (now (empty .entry)) was lo slot third few (now (one .entry)) (now (three .entry))) → Committed d (now (table .exit)) r) ⌝ }
 {
     let n = (g.tracks * g.records) as usize;
     let mut chain = [0u16; 468];

@@ -136,12 +136,10 @@ pub fn set_name(rec: [u8; 140], name: &[u8]) -> [u8; 140]
     r
 }
 
-// A format 1 whose format 3 is in slot k, 0 for none.
-pub fn set_link3(rec: [u8; 140], g: forms::Geometry, k: usize) -> [u8; 140]
-    requires { ⌜ (k < slots (geometryOf g)) × Limits (geometryOf g) ⌝ }
-    ensures { λ r. ⌜ ((l : Label) (slot : ℕ) → Format1 (geometryOf g) l rec → Format1 (geometryOf g) (withSlots slot k l) r) ⌝ }
+// Makes the format 1 one whose format 3 is in slot k, 0 for none.
+pub fn set_link3(rec: &mut [u8; 140], g: forms::Geometry, k: usize)
+    requires { ⌜ (length (now rec) ≡ 140) × (k < slots (geometryOf g)) × Limits (geometryOf g) ⌝ }
+    ensures { λ _. ⌜ ((l : Label) (slot : ℕ) → Format1 (geometryOf g) l (now (rec .entry)) → Format1 (geometryOf g) (withSlots slot k l) (now (rec .exit))) ⌝ }
 {
-    let mut r = rec;
-    records::put_link(&mut r, 135, g, k); // DS1PTRDS
-    r
+    records::put_link(rec, 135, g, k); // DS1PTRDS
 }

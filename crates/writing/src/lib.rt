@@ -51,16 +51,16 @@ pub fn put_label(
     g: Geometry,
     k: usize,
     q: usize,
-    one: [u8; 140],
-    three: [u8; 140],
+    one: &mut [u8; 140],
+    three: &[u8; 140],
 )
-    requires { ⌜ Limits (geometryOf g) × (length (now table) ≡ 140 * slots (geometryOf g)) × (k < slots (geometryOf g)) × (q < slots (geometryOf g)) ⌝ }
-    ensures { λ _. ⌜ ((l : Label) → Format1 (geometryOf g) l one → now (table .exit) ≡ labelPut (geometryOf g) (now (table .entry)) k q l three) ⌝ }
+    requires { ⌜ Limits (geometryOf g) × (length (now table) ≡ 140 * slots (geometryOf g)) × (k < slots (geometryOf g)) × (q < slots (geometryOf g)) × (length (now one) ≡ 140) ⌝ }
+    ensures { λ _. ⌜ ((l : Label) → Format1 (geometryOf g) l (now (one .entry)) → now (table .exit) ≡ labelPut (geometryOf g) (now (table .entry)) k q l (now (three .entry))) ⌝ }
 {
-    let linked = labels::set_link3(one, g, q);
-    fields::put_record(table, k, &linked);
+    labels::set_link3(one, g, q);
+    fields::put_record(table, k, one);
     if q != 0 {
-        fields::put_record(table, q, &three);
+        fields::put_record(table, q, three);
     }
 }
 
