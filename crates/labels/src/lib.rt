@@ -45,46 +45,42 @@ pub fn empty_three() -> [u8; 140]
     records::blank(4, 0x03, 0xF3)
 }
 
-// The format 1 of a label with n extents, with one more.
+// Makes the format 1 of a label with n extents that of the label with one more.
 pub fn add_extent1(
-    rec: [u8; 140],
+    rec: &mut [u8; 140],
     g: forms::Geometry,
     n: usize,
     kind: u8,
     start: u32,
     count: u32,
-) -> [u8; 140]
-    requires { ⌜ (n < 16) × (1 ≤ count) × (start + count ≤ 65535) × Limits (geometryOf g) ⌝ }
-    ensures { λ r. ⌜ ((l : Label) → length (l .extents) ≡ n → Format1 (geometryOf g) l rec → Format1 (geometryOf g) (added (extent kind (run start count)) l) r) ⌝ }
+)
+    requires { ⌜ (length (now rec) ≡ 140) × (n < 16) × (1 ≤ count) × (start + count ≤ 65535) × Limits (geometryOf g) ⌝ }
+    ensures { λ _. ⌜ ((l : Label) → length (l .extents) ≡ n → Format1 (geometryOf g) l (now (rec .entry)) → Format1 (geometryOf g) (added (extent kind (run start count)) l) (now (rec .exit))) × (length (now (rec .exit)) ≡ 140) ⌝ }
 {
-    let mut r = rec;
-    r[59] = (n + 1) as u8; // DS1NOEPV
+    rec[59] = (n + 1) as u8; // DS1NOEPV
     if n < 3 {
-        records::put_extent(&mut r, 105 + 10 * n, g, n, kind, start, count); // DS1EXT1
-        return r;
+        records::put_extent(rec, 105 + 10 * n, g, n, kind, start, count); // DS1EXT1
+        return;
     }
-    r
 }
 
-// The format 3 of a label with n extents, three or more, with one more.
+// Makes the format 3 of a label with n extents, three or more, that of the label with one more.
 pub fn add_extent3(
-    rec: [u8; 140],
+    rec: &mut [u8; 140],
     g: forms::Geometry,
     n: usize,
     kind: u8,
     start: u32,
     count: u32,
-) -> [u8; 140]
-    requires { ⌜ (3 ≤ n) × (n < 16) × (1 ≤ count) × (start + count ≤ 65535) × Limits (geometryOf g) ⌝ }
-    ensures { λ r. ⌜ ((l : Label) → length (l .extents) ≡ n → Format3 (geometryOf g) l rec → Format3 (geometryOf g) (added (extent kind (run start count)) l) r) ⌝ }
+)
+    requires { ⌜ (length (now rec) ≡ 140) × (3 ≤ n) × (n < 16) × (1 ≤ count) × (start + count ≤ 65535) × Limits (geometryOf g) ⌝ }
+    ensures { λ _. ⌜ ((l : Label) → length (l .extents) ≡ n → Format3 (geometryOf g) l (now (rec .entry)) → Format3 (geometryOf g) (added (extent kind (run start count)) l) (now (rec .exit))) × (length (now (rec .exit)) ≡ 140) ⌝ }
 {
-    let mut r = rec;
     if n < 7 {
-        records::put_extent(&mut r, 4 + 10 * (n - 3), g, n, kind, start, count); // DS3EXTNT
-        return r;
+        records::put_extent(rec, 4 + 10 * (n - 3), g, n, kind, start, count); // DS3EXTNT
+        return;
     }
-    records::put_extent(&mut r, 45 + 10 * (n - 7), g, n, kind, start, count); // DS3ADEXT
-    r
+    records::put_extent(rec, 45 + 10 * (n - 7), g, n, kind, start, count); // DS3ADEXT
 }
 
 // The format 1 of a label, with its first n extents only.

@@ -27,7 +27,7 @@ use Rattle.forms.proofs.Written.{read-at, read-length}
 use Rattle.listing.specs.Text.{Proper}
 use Rattle.labels.specs.Labels.{added, firstExtents}
 use Rattle.labels.proofs.Following.{keep-all, keep-part, keep-whole}
-use Rattle.set_change.specs.Change.{GaveTail, NoneBelow, Stays, partOf, shortened}
+use Rattle.set_change.specs.Change.{GaveTail, InRecords, NoneBelow, Stays, partOf, shortened}
 
 -- ---- the extents read
 
@@ -224,6 +224,7 @@ first-length n l h = length-take-le n (l .extents) h
 pub whole-only : (n s c : ℕ) (l : Label) → c ≡ 0 → firstExtents n l ≡ shortened n s c l
 whole-only n s c l z = ap (λ (x : List Extent). withExtents x (l .ttr) l) (sym (append-nil (take n (l .extents)))) ∙ ap (λ (i : ℕ). shortened n s i l) (sym z)
 
-pub with-part : (n s c : ℕ) (l : Label) → (c ≡ 0 → ⊥) → added (extent 0x01 (run s c)) (firstExtents n l) ≡ shortened n s c l
-with-part n s zero l z = absurd (z refl)
-with-part n s (suc c) l z = refl
+pub with-part : {g : Geometry} {r1 r3 : List ℕ} (n s c : ℕ) (l : Label) → (c ≡ 0 → ⊥)
+    → InRecords g (added (extent 0x01 (run s c)) (firstExtents n l)) r1 r3 → InRecords g (shortened n s c l) r1 r3
+with-part n s zero l z x = absurd (z refl)
+with-part n s (suc c) l z x = x

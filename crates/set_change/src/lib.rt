@@ -81,49 +81,45 @@ pub struct Records {
     pub three: [u8; 140],
 }
 
-// The records of a label with n extents, with one more: the first three stand in the format 1.
+// Adds one extent to the records of a label with n: the first three stand in the format 1.
 fn add_extent(
-    recs: Records,
+    one: &mut [u8; 140],
+    three: &mut [u8; 140],
     g: forms::Geometry,
     n: usize,
     kind: u8,
     start: u32,
     count: u32,
-) -> Records
-    requires { ⌜ (n < 16) × (1 ≤ count) × (start + count ≤ 65535) × Limits (geometryOf g) ⌝ }
-    ensures { λ r. ⌜ ((l : Label) → length (l .extents) ≡ n → InRecords (geometryOf g) l (recs .one) (recs .three) → InRecords (geometryOf g) (added (extent kind (run start count)) l) (r .one) (r .three)) ⌝ }
+)
+    requires { ⌜ (length (now one) ≡ 140) × (length (now three) ≡ 140) × (n < 16) × (1 ≤ count) × (start + count ≤ 65535) × Limits (geometryOf g) ⌝ }
+    ensures { λ _. ⌜ ((l : Label) → length (l .extents) ≡ n → InRecords (geometryOf g) l (now (one .entry)) (now (three .entry)) → InRecords (geometryOf g) (added (extent kind (run start count)) l) (now (one .exit)) (now (three .exit))) × (length (now (one .exit)) ≡ 140) × (length (now (three .exit)) ≡ 140) ⌝ }
 {
-    let first = recs.one;
-    let third = recs.three;
-    let one = labels::add_extent1(first, g, n, kind, start, count);
+    labels::add_extent1(one, g, n, kind, start, count);
     if n < 3 {
-        return Records { one, three: third };
+        return;
     }
-    let three = labels::add_extent3(third, g, n, kind, start, count);
-    Records { one, three }
+    labels::add_extent3(three, g, n, kind, start, count);
 }
 
-// The records of a label with n extents, with the first `count` pieces behind them.
+// Adds the first `count` pieces to the records of a label with n extents, behind them.
 pub fn add_pieces(
-    recs: Records,
+    one: &mut [u8; 140],
+    three: &mut [u8; 140],
     g: forms::Geometry,
     n: usize,
     kind: u8,
     pieces: [[u16; 2]; 5],
     count: usize,
-) -> Records
-    requires { ⌜ (count ≤ 5) × (n + count ≤ 16) × Limits (geometryOf g) × All (Piece 65535) (take count pieces) ⌝ }
-    ensures { λ r. ⌜ ((l : Label) (ps : List Run) → length (l .extents) ≡ n → take count pieces ≡ map row ps → InRecords (geometryOf g) l (recs .one) (recs .three) → InRecords (geometryOf g) (granted kind ps l) (r .one) (r .three)) ⌝ }
+)
+    requires { ⌜ (length (now one) ≡ 140) × (length (now three) ≡ 140) × (count ≤ 5) × (n + count ≤ 16) × Limits (geometryOf g) × All (Piece 65535) (take count pieces) ⌝ }
+    ensures { λ _. ⌜ ((l : Label) (ps : List Run) → length (l .extents) ≡ n → take count pieces ≡ map row ps → InRecords (geometryOf g) l (now (one .entry)) (now (three .entry)) → InRecords (geometryOf g) (granted kind ps l) (now (one .exit)) (now (three .exit))) ⌝ }
 {
-    let mut r = recs;
     let mut k: usize = 0;
     while k < count {
         let p = piece_at(pieces, k);
-        let more = add_extent(r, g, n + k, kind, p.start, p.count);
-        r = more;
+        add_extent(one, three, g, n + k, kind, p.start, p.count);
         k += 1;
     }
-    r
 }
 
 // ---- cut
@@ -260,9 +256,11 @@ pub fn cut_records(recs: Records, g: forms::Geometry, k: Kept) -> Records
     let third = recs.three;
     let one = labels::keep_extents1(first, k.whole);
     let three = keep_third(third, k.whole);
-    let r = Records { one, three };
+    let mut a = one;
+    let mut b = three;
     if k.count == 0 {
-        return r;
+        return Records { one: a, three: b };
     }
-    add_extent(r, g, k.whole, 0x01, k.start, k.count)
+    add_extent(&mut a, &mut b, g, k.whole, 0x01, k.start, k.count);
+    Records { one: a, three: b }
 }

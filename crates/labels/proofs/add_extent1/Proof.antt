@@ -1,21 +1,25 @@
-use mathlib.Core.Path.{_≡_}
+use mathlib.Core.Path.{subst, sym}
+use mathlib.Core.List.{List}
+use Prim.Native.Nat.{ℕ}
 use native.Mathlib.Omega.{arith}
-use lib.ListN.{length, length-set}
+use lib.ListN.{length-set}
 use borrow.Author.Needs.{needs}
 use Rattle.model.specs.Model.{extent, run}
 use Rattle.forms.specs.Forms.{geometryOf}
+use Rattle.records.proofs.Putting.{put-keeps}
+use Rattle.labels.specs.Labels.{Format1, added}
 use Rattle.labels.proofs.Format1.{more-in-one, more-past-one}
 use Rattle.labels.proofs.add_extent1.Statement.{statement}
 use Rattle.labels.proofs.add_extent1.Tie as tie
 
-add-r : tie.Need-add-r
-add-r c = search needs
+add-rec : tie.Need-add-rec
+add-rec c = search needs
 
-cast-r : tie.Need-cast-r
-cast-r c = search needs
+cast-rec : tie.Need-cast-rec
+cast-rec c = search needs
 
-array-write-r : tie.Need-array-write-r
-array-write-r c = search needs
+element-write-rec : tie.Need-element-write-rec
+element-write-rec c = search needs
 
 mul-put-extent : tie.Need-mul-put-extent
 mul-put-extent c = search needs
@@ -25,28 +29,33 @@ add-put-extent c = search needs
 
 put-extent-requires : tie.Need-put-extent-requires
 put-extent-requires c κs =
-    let top = c .before .before in
-    let p = top .pre in
-    let l : length (top .args .rec) ≡ 140 = search needs in
-    (simp length-set l, omega arith, p .0, p .1, p .2, p .3)
+    let p = c .before .before .pre in
+    (simp length-set (p .0), omega arith, p .1, p .2, p .3, p .4)
 
 returns : tie.Need-returns
 returns c =
-    let a = c .before .before .before .args in
-    λ l k f. rw (c .put-extent .ensures) (more-in-one (geometryOf (a .g)) l (a .rec) f (extent (a .kind) (run (a .start) (a .count))) (a .n) k (c .before .before .if1 .taken))
+    let top = c .before .before .before in
+    let a = top .args in
+    let g = geometryOf (a .g) in
+    let e = extent (a .kind) (run (a .start) (a .count)) in (
+      λ l k f. subst (λ (r : List ℕ). Format1 g (added e l) r) (sym (c .put-extent .ensures)) (more-in-one g l (a .rec .now) f e (a .n) k (c .before .before .if1 .taken)),
+      put-keeps _ _ _ _ 140 (c .put-extent .ensures) (simp length-set (top .pre .0)),
+    )
 
 returns-2 : tie.Need-returns-2
 returns-2 c =
-    let a = c .before .args in
-    λ l k f. more-past-one (geometryOf (a .g)) l (a .rec) f (extent (a .kind) (run (a .start) (a .count))) (a .n) k (c .if1 .left)
+    let a = c .before .args in (
+      λ l k f. more-past-one (geometryOf (a .g)) l (a .rec .now) f (extent (a .kind) (run (a .start) (a .count))) (a .n) k (c .if1 .left),
+      simp length-set (c .before .pre .0),
+    )
 
 pub add-extent1-spec : {M : Type 1} → statement M
 add-extent1-spec =
     tie.close
     (tie.spec
-    add-r
-    cast-r
-    array-write-r
+    add-rec
+    cast-rec
+    element-write-rec
     mul-put-extent
     add-put-extent
     put-extent-requires

@@ -1,6 +1,8 @@
+use mathlib.Core.Path.{_∙_}
 use borrow.Author.Needs.{needs}
 use Rattle.model.specs.Model.{extent, run}
 use Rattle.forms.specs.Forms.{geometryOf}
+use Rattle.records.proofs.Putting.{put-keeps}
 use Rattle.labels.proofs.Format3.{more-in-three, more-past-three}
 use Rattle.labels.proofs.add_extent3.Statement.{statement}
 use Rattle.labels.proofs.add_extent3.Tie as tie
@@ -20,8 +22,10 @@ put-extent-requires c κs = search needs
 returns : tie.Need-returns
 returns c =
     let top = c .before .before .before in
-    let a = top .args in
-    λ l k f. rw (c .put-extent .ensures) (more-in-three (geometryOf (a .g)) l (a .rec) f (extent (a .kind) (run (a .start) (a .count))) (a .n) k (top .pre .0) (c .before .before .if1 .taken))
+    let a = top .args in (
+      λ l k f. c .put-extent .ensures ∙ more-in-three (geometryOf (a .g)) l (a .rec .now) f (extent (a .kind) (run (a .start) (a .count))) (a .n) k (top .pre .1) (c .before .before .if1 .taken),
+      put-keeps _ _ _ _ 140 (c .put-extent .ensures) (top .pre .0),
+    )
 
 mul-put-extent-2 : tie.Need-mul-put-extent-2
 mul-put-extent-2 c = search needs
@@ -35,8 +39,10 @@ put-extent-requires-2 c κs = search needs
 returns-2 : tie.Need-returns-2
 returns-2 c =
     let top = c .before .before .before in
-    let a = top .args in
-    λ l k f. rw (c .put-extent2 .ensures) (more-past-three (geometryOf (a .g)) l (a .rec) f (extent (a .kind) (run (a .start) (a .count))) (a .n) k (c .before .before .if1 .left) (top .pre .1))
+    let a = top .args in (
+      λ l k f. c .put-extent2 .ensures ∙ more-past-three (geometryOf (a .g)) l (a .rec .now) f (extent (a .kind) (run (a .start) (a .count))) (a .n) k (c .before .before .if1 .left) (top .pre .2),
+      put-keeps _ _ _ _ 140 (c .put-extent2 .ensures) (top .pre .0),
+    )
 
 pub add-extent3-spec : {M : Type 1} → statement M
 add-extent3-spec =

@@ -1,30 +1,36 @@
-use Rattle.set_change.proofs.Pieces.{three-few}
-use Rattle.forms.specs.Forms.{geometryOf}
-use Rattle.model.specs.Model.{extent, run}
 use native.Mathlib.Omega.{arith}
 use borrow.Author.Needs.{needs}
+use Rattle.model.specs.Model.{extent, run}
+use Rattle.forms.specs.Forms.{geometryOf}
+use Rattle.set_change.proofs.Pieces.{three-few}
 use Rattle.set_change.proofs.add_extent.Statement.{statement}
 use Rattle.set_change.proofs.add_extent.Tie as tie
 
--- src/lib.rt:69:9
 add-extent1-requires : tie.Need-add-extent1-requires
 add-extent1-requires c κs = search needs
 
--- src/lib.rt:71:9
 returns : tie.Need-returns
-returns c = λ l h x.
-    record {
-      one = c .before .add-extent1 .ensures l h (x .one);
-      three = three-few (geometryOf (c .before .before .before .before .args .g)) l (extent (c .before .before .before .before .args .kind) (run (c .before .before .before .before .args .start) (c .before .before .before .before .args .count))) (c .before .before .before .before .args .recs .three) (omega (arith, h, c .if1 .taken)) (x .three);
-    }
+returns c =
+    let top = c .before .before .before in
+    let a = top .args in
+    let done = c .before .add-extent1 .ensures in (
+      λ l h x.
+          record {
+            one = done .0 l h (x .one);
+            three = three-few (geometryOf (a .g)) l (extent (a .kind) (run (a .start) (a .count))) (a .three .now) (omega (arith, h, c .if1 .taken)) (x .three);
+          },
+      done .1,
+      top .pre .1,
+    )
 
--- src/lib.rt:73:9
 add-extent3-requires : tie.Need-add-extent3-requires
 add-extent3-requires c κs = search needs
 
--- src/lib.rt:63:1
 returns-2 : tie.Need-returns-2
-returns-2 c = λ l h x. record { one = c .before .before .add-extent1 .ensures l h (x .one); three = c .add-extent3 .ensures l h (x .three) }
+returns-2 c =
+    let done = c .before .before .before .add-extent1 .ensures in
+    let more = c .add-extent3 .ensures in
+    (λ l h x. record { one = done .0 l h (x .one); three = more .0 l h (x .three) }, done .1, more .1)
 
 pub add-extent-spec : {M : Type 1} → statement M
 add-extent-spec = tie.close (tie.spec add-extent1-requires returns add-extent3-requires returns-2)

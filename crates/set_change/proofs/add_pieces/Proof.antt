@@ -2,62 +2,68 @@ use mathlib.Core.Path.{_≡_, subst}
 use Prim.Native.Nat.{ℕ, _-_, _≤_}
 use native.Mathlib.Omega.{arith}
 use lib.ListN.{length, take}
+use borrow.Author.Needs.{needs}
 use Rattle.forms.specs.Forms.{geometryOf}
 use Rattle.set_change.proofs.Pieces.{Adding, added-all, adding-next, adding-none, piece-in}
-use borrow.Author.Needs.{needs}
 use Rattle.set_change.proofs.add_pieces.Statement.{statement}
 use Rattle.set_change.proofs.add_pieces.Tie as tie
 
 abbrev Inv-loop : tie.InvT-loop
-Inv-loop g n kind pieces count r₀ k₀ r k = (k ≤ count) × Adding (geometryOf g) kind (take count pieces) n k (r₀ .one) (r₀ .three) (r .one) (r .three)
+Inv-loop one₀ three₀ g n kind pieces count k₀ one three k =
+    (k ≤ count) × (length pieces ≡ 5) × (length one ≡ 140) × (length three ≡ 140) × Adding (geometryOf g) kind (take count pieces) n k one₀ three₀ one three
 
 abbrev μ-loop : tie.MeasureT-loop
-μ-loop g n kind pieces count r₀ k₀ r k = count - k
+μ-loop one₀ three₀ g n kind pieces count k₀ one three k = count - k
 
--- src/lib.rt:84:5
 loop-holds : tie.Need-loop-holds Inv-loop μ-loop
-loop-holds c = (omega arith, adding-none (geometryOf (c .args .g)) (c .args .kind) (take (c .args .count) (c .args .pieces)) (c .args .n) (c .args .recs .one) (c .args .recs .three))
+loop-holds c =
+    let a = c .args in
+    (omega arith, search needs, c .pre .0, c .pre .1, adding-none (geometryOf (a .g)) (a .kind) (take (a .count) (a .pieces)) (a .n) (a .one .now) (a .three .now))
 
--- src/lib.rt:85:13
 piece-at-requires : tie.Need-piece-at-requires Inv-loop μ-loop
 piece-at-requires c κs = search needs
 
--- src/lib.rt:86:37
 add-add-extent : tie.Need-add-add-extent Inv-loop μ-loop
 add-add-extent c = search needs
 
--- src/lib.rt:86:13
 add-extent-requires : tie.Need-add-extent-requires Inv-loop μ-loop
 add-extent-requires c κs =
-    let l : length (c .before .before .before .args .pieces) ≡ 5 = search needs in
-    let p = piece-in 65535 (c .before .before .before .args .count) (c .before .before .before .args .pieces) l (c .before .before .before .pre .0) (c .before .before .before .pre .3) (c .before .before .loop .k) (c .before .loop-test .taken) in
-    let a = c .piece-at .ensures .0 in
-    let b = c .piece-at .ensures .1 in
-    (omega arith, omega (arith, p .0), omega (arith, p .1), c .before .before .before .pre .2)
+    let turn = c .before .before .before .before in
+    let top = turn .before in
+    let p = piece-in 65535 (top .args .count) (top .args .pieces) (turn .loop .inv .1) (top .pre .2) (top .pre .5) (turn .loop .k) (c .before .before .before .loop-test .taken) in
+    let a = c .before .before .piece-at .ensures .0 in
+    let b = c .before .before .piece-at .ensures .1 in
+    (turn .loop .inv .2, turn .loop .inv .3, omega arith, omega (arith, p .0), omega (arith, p .1), top .pre .4)
 
--- src/lib.rt:88:9
 add-k : tie.Need-add-k Inv-loop μ-loop
 add-k c = search needs
 
--- src/lib.rt:84:5
 loop-less : tie.Need-loop-less Inv-loop μ-loop
 loop-less c = search needs
 
--- src/lib.rt:84:5
 loop-again : tie.Need-loop-again Inv-loop μ-loop
 loop-again c =
-    let l : length (c .before .before .before .before .args .pieces) ≡ 5 = search needs in (
+    let turn = c .before .before .before .before .before in
+    let top = turn .before in
+    let a = top .args in
+    let p = c .before .before .before .piece-at in
+    let more = c .add-extent .ensures in (
       omega arith,
-      adding-next (geometryOf (c .before .before .before .before .args .g)) (c .before .before .before .before .args .kind) (c .before .before .before .before .args .count) (c .before .before .before .before .args .pieces) l (c .before .before .before .before .pre .0) (c .before .before .before .before .args .n) (c .before .before .before .before .args .recs .one) (c .before .before .before .before .args .recs .three) (c .before .before .before .loop .r .one) (c .before .before .before .loop .r .three) (c .before .before .before .loop .k) (c .before .piece-at .result .start) (c .before .piece-at .result .count) (c .before .before .loop-test .taken) (c .before .piece-at .ensures .0) (c .before .piece-at .ensures .1) (c .add-extent .result .one) (c .add-extent .result .three) (c .add-extent .ensures) (c .before .before .before .loop .inv .1),
+      turn .loop .inv .1,
+      more .1,
+      more .2,
+      adding-next (geometryOf (a .g)) (a .kind) (a .count) (a .pieces) (turn .loop .inv .1) (top .pre .2) (a .n) (a .one .now) (a .three .now) (turn .loop .one) (turn .loop .three) (turn .loop .k) (p .result .start) (p .result .count)
+          (c .before .before .before .before .loop-test .taken) (p .ensures .0) (p .ensures .1) _ _ (more .0) (turn .loop .inv .4),
     )
 
--- src/lib.rt:78:1
 returns : tie.Need-returns Inv-loop μ-loop
 returns c =
-    let l : length (c .before .before .args .pieces) ≡ 5 = search needs in
-    let e : c .before .loop .k ≡ c .before .before .args .count = omega arith in
-    added-all (geometryOf (c .before .before .args .g)) (c .before .before .args .kind) (c .before .before .args .count) (c .before .before .args .pieces) l (c .before .before .pre .0) (c .before .before .args .n) (c .before .before .args .recs .one) (c .before .before .args .recs .three) (c .before .loop .r .one) (c .before .loop .r .three)
-    (subst (λ (x : ℕ). Adding (geometryOf (c .before .before .args .g)) (c .before .before .args .kind) (take (c .before .before .args .count) (c .before .before .args .pieces)) (c .before .before .args .n) x (c .before .before .args .recs .one) (c .before .before .args .recs .three) (c .before .loop .r .one) (c .before .loop .r .three)) e (c .before .loop .inv .1))
+    let top = c .before .before in
+    let a = top .args in
+    let x = c .before .loop in
+    let e : x .k ≡ a .count = omega arith in
+    added-all (geometryOf (a .g)) (a .kind) (a .count) (a .pieces) (x .inv .1) (top .pre .2) (a .n) (a .one .now) (a .three .now) (x .one) (x .three)
+    (subst (λ (k : ℕ). Adding (geometryOf (a .g)) (a .kind) (take (a .count) (a .pieces)) (a .n) k (a .one .now) (a .three .now) (x .one) (x .three)) e (x .inv .4))
 
 pub add-pieces-spec : {M : Type 1} → statement M
 add-pieces-spec =
