@@ -2,7 +2,6 @@
 use forms::Geometry;
 use granting::Holder;
 use request::Request;
-use set_change::Records;
 ghost use Rattle.rules.specs.Contracts.{Allocates};
 ghost use Rattle.forms.specs.Forms.{geometryOf};
 ghost use Rattle.request.specs.Request.{toAmount};
@@ -30,15 +29,26 @@ fn place(
     }
     let unit = request::unit_byte(amount);
     let kind = request::type_byte(amount);
-    let one = labels::new_label(name, attributes, unit, request.secondary);
-    let three = labels::empty_three();
+    let mut one = labels::new_label(name, attributes, unit, request.secondary);
+    let mut three = labels::empty_three();
     let set = Holder {
         slot: 0,
         third: 0,
         extents: 0,
     };
-    let recs = Records { one, three };
-    granting::put_grant(table, g, map, empty, set, recs, kind, pieces, got, answer)
+    granting::put_grant(
+        table,
+        g,
+        map,
+        empty,
+        set,
+        &mut one,
+        &mut three,
+        kind,
+        pieces,
+        got,
+        answer,
+    )
 }
 
 pub fn allocate(

@@ -2,7 +2,6 @@
 use forms::Geometry;
 use granting::Holder;
 use names::Found;
-use set_change::Records;
 ghost use mathlib.Core.Path.{_≡_};
 ghost use Rattle.rules.specs.Contracts.{Extends};
 ghost use Rattle.forms.specs.Forms.{geometryOf};
@@ -21,8 +20,8 @@ fn lengthen(
     ensures { λ r. ⌜ ((d : Longer (now (table .entry)) (now (map .entry)) (now (empty .entry)) (now (answer .entry)) (geometryOf g) k) → Extended d r (now (table .exit)) (now (answer .exit))) ⌝ }
 {
     let held = set_at::set_at(table, g, k);
-    let one = held.one;
-    let three = held.three;
+    let mut one = held.one;
+    let mut three = held.three;
     let secondary = fields::three(&one, 95); // DS1SCALO
     if secondary == 0 {
         return 8;
@@ -42,8 +41,19 @@ fn lengthen(
         third: held.third,
         extents: held.count,
     };
-    let recs = Records { one, three };
-    granting::put_grant(table, g, map, empty, set, recs, kind, pieces, got, answer)
+    granting::put_grant(
+        table,
+        g,
+        map,
+        empty,
+        set,
+        &mut one,
+        &mut three,
+        kind,
+        pieces,
+        got,
+        answer,
+    )
 }
 
 pub fn extend(table: &mut [u8], name: &[u8], answer: &mut [u8]) -> u32

@@ -2,7 +2,6 @@
 // table and the answer are written. Nothing is written where the VTOC is full.
 use forms::Geometry;
 use grant::Chosen;
-use set_change::Records;
 ghost use mathlib.Core.Path.{_≡_};
 ghost use Prim.Native.Nat.{_+_, _*_, _≤_, _<_};
 ghost use lib.Dec.{leb};
@@ -34,23 +33,22 @@ pub fn put_grant(
     map: &mut [u64],
     empty: &mut [u64],
     set: Holder,
-    recs: Records,
+    one: &mut [u8; 140],
+    three: &mut [u8; 140],
     kind: u8,
     pieces: [[u16; 2]; 5],
     chosen: Chosen,
     answer: &mut [u8],
 ) -> u32
-    requires { ⌜ Limits (geometryOf g) × (length (now table) ≡ 140 * slots (geometryOf g)) × (tracks (geometryOf g) ≤ 64 * length (now map)) × (length (now empty) ≡ 8) × (length (now answer) ≡ 24) × (set .slot < slots (geometryOf g)) × (set .third < slots (geometryOf g)) × (chosen .count ≤ 5) × (set .extents + chosen .count ≤ 16) × (chosen .tracks ≤ 65535) ⌝ }
-    requires { ⌜ Grants (geometryOf g) (now table) (now map) (now empty) (set .slot) (set .third) (set .extents) kind (recs .one) (recs .three) (take (chosen .count) pieces) (chosen .count) (chosen .tracks) ⌝ }
-    ensures { λ r. ⌜ ((d : Grants (geometryOf g) (now (table .entry)) (now (map .entry)) (now (empty .entry)) (set .slot) (set .third) (set .extents) kind (recs .one) (recs .three) (take (chosen .count) pieces) (chosen .count) (chosen .tracks)) → Granted d (now (answer .entry)) (now (table .exit)) (now (answer .exit)) r) ⌝ }
+    requires { ⌜ Limits (geometryOf g) × (length (now table) ≡ 140 * slots (geometryOf g)) × (tracks (geometryOf g) ≤ 64 * length (now map)) × (length (now empty) ≡ 8) × (length (now answer) ≡ 24) × (set .slot < slots (geometryOf g)) × (set .third < slots (geometryOf g)) × (chosen .count ≤ 5) × (set .extents + chosen .count ≤ 16) × (chosen .tracks ≤ 65535) × (length (now one) ≡ 140) × (length (now three) ≡ 140) ⌝ }
+    requires { ⌜ Grants (geometryOf g) (now table) (now map) (now empty) (set .slot) (set .third) (set .extents) kind (now one) (now three) (take (chosen .count) pieces) (chosen .count) (chosen .tracks) ⌝ }
+    ensures { λ r. ⌜ ((d : Grants (geometryOf g) (now (table .entry)) (now (map .entry)) (now (empty .entry)) (set .slot) (set .third) (set .extents) kind (now (one .entry)) (now (three .entry)) (take (chosen .count) pieces) (chosen .count) (chosen .tracks)) → Granted d (now (answer .entry)) (now (table .exit)) (now (answer .exit)) r) ⌝ }
 {
     let lo = set_change::lowest_piece(pieces, chosen.count, g.cylinders * g.heads);
     let was = free_list::members(table, g);
     set_change::take_pieces(map, pieces, chosen.count);
-    let more = set_change::add_pieces(recs, g, set.extents, kind, pieces, chosen.count);
+    set_change::add_pieces(one, three, g, set.extents, kind, pieces, chosen.count);
     let small = few(set.extents, chosen.count);
-    let one = more.one;
-    let three = more.three;
     if commit::put_set(
         table,
         g,

@@ -112,7 +112,7 @@ pub fn add_pieces(
     count: usize,
 )
     requires { ⌜ (length (now one) ≡ 140) × (length (now three) ≡ 140) × (count ≤ 5) × (n + count ≤ 16) × Limits (geometryOf g) × All (Piece 65535) (take count pieces) ⌝ }
-    ensures { λ _. ⌜ ((l : Label) (ps : List Run) → length (l .extents) ≡ n → take count pieces ≡ map row ps → InRecords (geometryOf g) l (now (one .entry)) (now (three .entry)) → InRecords (geometryOf g) (granted kind ps l) (now (one .exit)) (now (three .exit))) ⌝ }
+    ensures { λ _. ⌜ ((l : Label) (ps : List Run) → length (l .extents) ≡ n → take count pieces ≡ map row ps → InRecords (geometryOf g) l (now (one .entry)) (now (three .entry)) → InRecords (geometryOf g) (granted kind ps l) (now (one .exit)) (now (three .exit))) × (length (now (one .exit)) ≡ 140) ⌝ }
 {
     let mut k: usize = 0;
     while k < count {
