@@ -106,6 +106,12 @@ module _ {t m s a : List ℕ} {g : Geometry} {k : ℕ} (d : Longer t m s a g k) 
     pub third-inside : third < slots g
     third-inside = x .inside
 
+    pub one-long : length one ≡ 140
+    one-long = it .set .long1
+
+    pub three-long : length three ≡ 140
+    three-long = it .set .long3
+
     pub extents-most : count ≤ 16
     extents-most = let a = it .many in let b = good .most in omega arith
 

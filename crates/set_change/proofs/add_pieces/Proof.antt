@@ -61,9 +61,11 @@ returns c =
     let top = c .before .before in
     let a = top .args in
     let x = c .before .loop in
-    let e : x .k ≡ a .count = omega arith in
-    (added-all (geometryOf (a .g)) (a .kind) (a .count) (a .pieces) (x .inv .1) (top .pre .2) (a .n) (a .one .now) (a .three .now) (x .one) (x .three)
-    (subst (λ (k : ℕ). Adding (geometryOf (a .g)) (a .kind) (take (a .count) (a .pieces)) (a .n) k (a .one .now) (a .three .now) (x .one) (x .three)) e (x .inv .4)), x .inv .2)
+    let e : x .k ≡ a .count = omega arith in (
+      added-all (geometryOf (a .g)) (a .kind) (a .count) (a .pieces) (x .inv .1) (top .pre .2) (a .n) (a .one .now) (a .three .now) (x .one) (x .three)
+          (subst (λ (k : ℕ). Adding (geometryOf (a .g)) (a .kind) (take (a .count) (a .pieces)) (a .n) k (a .one .now) (a .three .now) (x .one) (x .three)) e (x .inv .4)),
+      x .inv .2,
+    )
 
 pub add-pieces-spec : {M : Type 1} → statement M
 add-pieces-spec =
