@@ -213,11 +213,3 @@ module _ (g : Geometry) (pos : 1 ≤ g .heads) (i : ℕ) (e : Extent) (good : Go
       let b5 : ltb upto (tracks g) ≡ true = lt-ltb upto (tracks g) (omega arith) in
       let b6 : typeOk hd (e .typeByte) (from % hd) (upto % hd) ≡ true = is-true type-back in
       rw (a2, a4, a6, a8, s, t, b1, b2, b3, b4, b5, b6) tt
-
--- EXACTLY: the test passes where the bytes are those written for a good extent, and nowhere else
-pub ten-exactly : (g : Geometry) → 1 ≤ g .heads → (i : ℕ) (x : List ℕ) → length x ≡ 10 → Bytes x
-    → T (goodTen (g .heads) (tracks g) i x) ↔ ((extentBytes g i (readExtent (g .heads) x) ≡ x) × GoodExtent g (readExtent (g .heads) x))
-ten-exactly g pos i x len small = (
-  λ p. let s = ten→ (g .heads) (tracks g) i x p in (ten-written g i x len small s, ten-good g i x len small s),
-  λ q. subst (λ (y : List ℕ). T (goodTen (g .heads) (tracks g) i y)) (q .0) (ten-passes g pos i (readExtent (g .heads) x) (q .1)),
-)

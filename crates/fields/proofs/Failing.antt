@@ -10,7 +10,7 @@ use lib.Dec.{eqb}
 use lib.ListN.{getD}
 use Rattle.model.specs.Basics.{get2}
 use Rattle.rules.specs.Reading.{trackAt}
-use Rattle.fields.specs.Tests.{addressOk, goodTen, slotNamed, typeOk}
+use Rattle.fields.specs.Tests.{goodTen, slotNamed, typeOk}
 use Rattle.fields.proofs.Rows.{and-false}
 
 module _ (h t i : ℕ) (x : List ℕ) where
@@ -48,19 +48,6 @@ module _ (h t i : ℕ) (x : List ℕ) where
         ef,
         el,
       )
-
-module _ (h d s k : ℕ) (x : List ℕ) where
-  pub bad-cc : (get2 x 0 ≡ (s + k / d) / h → ⊥) → false ≡ addressOk h d s k x
-  unfolding addressOk
-  bad-cc u = rw (ne-eqb (get2 x 0) ((s + k / d) / h) u)
-
-  pub bad-hh : (get2 x 2 ≡ (s + k / d) % h → ⊥) → false ≡ addressOk h d s k x
-  unfolding addressOk
-  bad-hh u = rw (ne-eqb (get2 x 2) ((s + k / d) % h) u, and-false)
-
-  pub last-byte : (w : ℕ) → w ≡ getD x 4 0 → get2 x 0 ≡ (s + k / d) / h → get2 x 2 ≡ (s + k / d) % h → eqb w (k % d + 1) ≡ addressOk h d s k x
-  unfolding addressOk
-  last-byte w e a b = rw (← e, eq-eqb (get2 x 0) ((s + k / d) / h) a, eq-eqb (get2 x 2) ((s + k / d) % h) b)
 
 module _ (h d s n : ℕ) (x : List ℕ) where
   pub no-head : h ≤ get2 x 2 → 0 ≡ slotNamed h d s n x

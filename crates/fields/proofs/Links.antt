@@ -60,9 +60,6 @@ link-address g (suc k) h = refl
 pub link-is : (g : Geometry) (k : ℕ) (x : List ℕ) → length x ≡ 5 → Bytes x → 1 ≤ k → T (addressOk (g .heads) (g .records) (g .vtocStart) k x) → link g k ≡ x
 link-is g k x len small h p = link-address g k h ∙ address-is g k x len small p
 
-pub link-passes : (g : Geometry) (k : ℕ) → 1 ≤ k → T (addressOk (g .heads) (g .records) (g .vtocStart) k (link g k))
-link-passes g k h = subst (λ (y : List ℕ). T (addressOk (g .heads) (g .records) (g .vtocStart) k y)) (sym (link-address g k h)) (address-passes g k)
-
 -- ---- zeros: no slot
 
 pub none-is : (g : Geometry) (x : List ℕ) → length x ≡ 5 → T (allAre 0 x) → link g 0 ≡ x
@@ -82,9 +79,6 @@ slot-part g r i =
 
 pub slot-read : (g : Geometry) (k : ℕ) (x : List ℕ) → link g k ≡ x → slotAt g x 0 ≡ k
 slot-read g k x e = slot-back g x [] 0 k (sym e ∙ sym (append-nil (link g k)))
-
-pub link-read : (g : Geometry) (k : ℕ) (x : List ℕ) → link g k ≡ x → link g (slotAt g x 0) ≡ x
-link-read g k x e = ap (link g) (slot-read g k x e) ∙ e
 
 pick : (b : _) (k m : ℕ) → cond b m 0 ≡ k → 1 ≤ k → (b ≡ true) × (m ≡ k)
 pick true k m e h = (refl, e)
@@ -163,6 +157,3 @@ slot-below h d s n x pos =
 -- the same at its place in a record
 pub place-read : (g : Geometry) (k : ℕ) (r : List ℕ) (i : ℕ) → link g k ≡ part i 5 r → slotAt g r i ≡ k
 place-read g k r i e = sym (slot-part g r i) ∙ slot-read g k (part i 5 r) e
-
-pub place-link : (g : Geometry) (k : ℕ) (r : List ℕ) (i : ℕ) → link g k ≡ part i 5 r → link g (slotAt g r i) ≡ part i 5 r
-place-link g k r i e = ap (link g) (place-read g k r i e) ∙ e

@@ -84,16 +84,3 @@ chop-slot (suc n) t zero h = refl
 chop-slot (suc n) t (suc k) h =
     let e : 140 + 140 * k ≡ 140 * suc k = omega arith in
     chop-slot n (drop 140 t) k (omega arith) ∙ ap (take 140) (drop-drop (140 * k) 140 t ∙ ap (λ (x : ℕ). drop x t) e)
-
--- a put is a change of one record
-pub chop-put : (n : ℕ) (t : List ℕ) (k : ℕ) (r : List ℕ) → length r ≡ 140 → 140 * n ≤ length t → k < n → chop n (putRecord t k r) ≡ set (chop n t) k r
-chop-put n t k r len all h =
-    ext-getD [] (chop n (putRecord t k r)) (set (chop n t) k r) (length-chop n (putRecord t k r) ∙ sym (length-set (chop n t) k r ∙ length-chop n t))
-    (λ j u.
-    let l = length-chop n (putRecord t k r) in
-    let m = length-chop n t in
-    chop-slot n (putRecord t k r) j (omega arith)
-    ∙ elim (native.Mathlib.Decide.ℕ-discrete j k) [
-      | yes e ↦ ap (slotBytes (putRecord t k r)) e ∙ put-same t k r len (omega arith) ∙ sym (ap (λ (x : ℕ). getD (set (chop n t) k r) x []) e ∙ getD-set-same (chop n t) k r [] (omega arith))
-      | no e ↦ put-other t k r len (omega arith) j e ∙ sym (chop-slot n t j (omega arith)) ∙ sym (getD-set-other (chop n t) k j r [] e)
-    ])

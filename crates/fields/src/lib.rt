@@ -9,7 +9,7 @@ ghost use Rattle.rules.specs.Layout.{extentPart};
 ghost use Rattle.rules.specs.Reading.{trackAt};
 ghost use Rattle.rules.specs.Table.{goodName, inPart, startsPart};
 ghost use Rattle.fields.specs.Records.{putRecord, slotBytes};
-ghost use Rattle.fields.specs.Tests.{OfEight, PartEnd, addressOk, allAre, goodTen, inLow, inSet, slotNamed, typeOk, word4, word8};
+ghost use Rattle.fields.specs.Tests.{OfEight, PartEnd, allAre, goodTen, inLow, inSet, slotNamed, typeOk, word4, word8};
 
 // ---- numbers and rows of bytes
 
@@ -369,22 +369,6 @@ pub fn good_ten(x: &[u8], i: u32, h: u32, t: u32) -> bool
 }
 
 // ---- addresses
-
-// Whether the five bytes are the address CCHHR of slot k: the VTOC starts at track s and has d records a track.
-pub fn address_ok(x: &[u8], k: usize, h: u32, d: u32, s: u32) -> bool
-    requires { ⌜ (length (now x) ≡ 5) × (1 ≤ h) × (1 ≤ d) × (s < 65536) × (k < 65536) ⌝ }
-    ensures { λ r. ⌜ r ≡ addressOk h d s k (now (x .entry)) ⌝ }
-{
-    let q = k as u32;
-    let t = s + q / d;
-    if two(x, 0) != t / h {
-        return false;
-    }
-    if two(x, 2) != t % h {
-        return false;
-    }
-    wide(x[4]) == q % d + 1
-}
 
 // The slot, below n, whose address the five bytes are; 0 if they are no such slot's.
 pub fn slot_of(x: &[u8], h: u32, d: u32, s: u32, n: usize) -> usize

@@ -4,7 +4,7 @@ ghost use Prim.Native.Nat.{_+_, _-_, _*_, _≤_, _<_};
 ghost use lib.ListN.{length};
 ghost use Rattle.rules.specs.Reading.{readGeometry};
 ghost use Rattle.rules.specs.Table.{goodUnit, limits};
-ghost use Rattle.forms.specs.Forms.{extentOk, geometryOf, oneOk, threeOk};
+ghost use Rattle.forms.specs.Forms.{geometryOf, oneOk, threeOk};
 
 // ---- the geometry
 
@@ -144,17 +144,4 @@ pub fn three_ok(rec: &[u8]) -> bool
         return false;
     }
     fields::part_is(rec, 135, 5, 0)
-}
-
-// ---- extents
-
-// Whether the ten bytes x are extent number e as it must be where n are in use: good, or zeros from n on.
-pub fn extent_ok(x: &[u8], e: usize, n: usize, h: u32, t: u32) -> bool
-    requires { ⌜ (length (now x) ≡ 10) × (e < 16) × (h < 65536) ⌝ }
-    ensures { λ r. ⌜ r ≡ extentOk h t n e (now (x .entry)) ⌝ }
-{
-    if e < n {
-        return fields::good_ten(x, e as u32, h, t);
-    }
-    fields::all_are(x, 0)
 }

@@ -107,14 +107,6 @@ free-apart m n =
 abbrev pub Room : List ℕ → ℕ → List Run → Type 0
 Room m n ps = (t : ℕ) → t < n → times t ps ≤ freeBit m t
 
-pub room-free : (m : List ℕ) (n : ℕ) (ps : List Run) → ((t : ℕ) → times t ps ≤ times t (freeFrom m n 0)) → Room m n ps
-room-free m n ps h t u =
-    let a = runs-times (isFree m) 0 n t (omega arith) (omega arith) in
-    let b = bit-of m t in
-    let c = h t in
-    let d = ap (times t) (free-from-zero m n) in
-    omega arith
-
 pub room-first : (m : List ℕ) (n s c : ℕ) (ps : List Run) → Room m n (run s c ∷ ps) → s + c ≤ n → AllFree m s (s + c)
 room-first m n s c ps r h t a b = let x = hit-in (run s c) t a b in let y = r t (omega arith) in let z = free-le m t in omega arith
 

@@ -110,17 +110,3 @@ free-from-zero m n = let e : n - 0 ≡ n = omega arith in ap (runs (isFree m) 0)
 pub free-from-end : (m : List ℕ) (n : ℕ) → freeFrom m n n ≡ []
 unfolding freeFrom
 free-from-end m n = let e : n - n ≡ 0 = omega arith in ap (runs (isFree m) n) e
-
--- the track behind a run is not free: the next run may be looked for behind that track
-pub free-from-behind : {m : List ℕ} {n s a b : ℕ} → NextRun m n s a b → a < n → b < n → freeFrom m n b ≡ freeFrom m n (suc b)
-unfolding freeFrom
-free-from-behind {m} {n} {s} {a} {b} r h k =
-    let c = b - a in
-    let e1 = r .from in
-    let e2 = r .more h .0 in
-    let q : a + c ≡ b = omega arith in
-    let whole : Separate s (s + (n - s)) (run a c ∷ runs (isFree m) b (n - b)) = subst (Separate s (s + (n - s))) (r .more h .1) (runs-separate (isFree m) s (n - s)) in
-    let none : times b (runs (isFree m) b (n - b)) ≡ 0 = below (suc (a + c)) (s + (n - s)) (runs (isFree m) b (n - b)) b (whole .3) (omega arith) in
-    let seen = runs-times (isFree m) b (n - b) b (le-refl b) (omega arith) in
-    let j : n - b ≡ suc (n - suc b) = omega arith in
-    by (isFree m b) (λ t. absurd (let z = ap bit t in omega arith)) (λ f. ap (runs (isFree m) b) j ∙ ap (λ (x : Bool). joinIf x b (runs (isFree m) (suc b) (n - suc b))) f)
