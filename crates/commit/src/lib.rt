@@ -72,14 +72,7 @@ fn third_slot(slot: usize, third: usize, few: bool, given: [u16; 2]) -> usize
 
 // Where the chain begins to be written, if the tracks below `lo` stay as they are: behind the members that tell of these only;
 // with its first member where it gets longer or shorter.
-fn chain_from(
-    table: &[u8],
-    g: Geometry,
-    chain: &[u16],
-    was: usize,
-    need: usize,
-    lo: usize,
-) -> Place
+fn chain_from(table: &[u8], g: Geometry, chain: &[u16], was: usize, need: usize, lo: usize) -> Place
     requires { ⌜ Limits (geometryOf g) × (length (now table) ≡ 140 * slots (geometryOf g)) × (need ≤ length (now chain)) × All (λ k. k < slots (geometryOf g)) (take need (now chain)) ⌝ }
     ensures { λ r. ⌜ Reached (now (table .entry)) (take need (now (chain .entry))) lo (r .from) (r .at) × (1 ≤ r .from → was ≡ need) ⌝ }
 {
