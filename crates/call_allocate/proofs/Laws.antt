@@ -16,10 +16,11 @@ use Rattle.rules.specs.Entries.{lent, perform, result, written}
 use Rattle.rules.specs.Reading.{read}
 use Rattle.rules.specs.Table.{goodName, named, taken}
 use Rattle.names.specs.Find.{findSlot, isNothing}
-use Rattle.table_check.specs.Check.{Shown}
+use Rattle.table_check.specs.Check.{Roomy, Shown}
 use Rattle.opening.specs.Opening.{foundSlot, openNumber}
 use Rattle.opening.proofs.Lookup.{any-is, looked-up}
 use Rattle.opening.proofs.Numbers.{opened-good, opened-taken, passed, refused}
+use Rattle.opening.proofs.Room.{room-of}
 use Rattle.request.proofs.Laws.{unknown-kind}
 use Rattle.call_allocate.specs.Asking.{Asking, Chooses}
 
@@ -83,13 +84,13 @@ module _ (t name at : List ℕ) (kind start amount sec : ℕ) (a : List ℕ) (ok
           duplicate p = ruled (refuse 6) (amount-is ∙ rule-6 p) 6 t a refl
 
           module _ (p : known ≡ false) where
-            pub asking : (m s : List ℕ) → Shown (read t) m s → length m ≡ 1024 → length s ≡ 8 → Asking t m s name at a g q sec′
-            asking m s shown lm ls =
+            pub asking : (m₀ m s : List ℕ) → Shown (read t) m s → Roomy t m₀ → length m ≡ length m₀ → length s ≡ 8 → Asking t m s name at a g q sec′
+            asking m₀ m s shown roomy same ls =
                 record {
                   isTaken = is-taken;
                   geometryIs = eg;
                   shown = shown;
-                  longMap = lm;
+                  mapFits = room-of t m₀ (length m) is-taken g eg roomy same;
                   longSlots = ls;
                   longAnswer = eqb→eq (length a) 24 (and-l (eqb (length a) 24) _ all-long);
                   longName = eqb→eq (length name) 44 (and-l (eqb (length name) 44) (eqb (length at) 52) (and-r (eqb (length a) 24) _ all-long));

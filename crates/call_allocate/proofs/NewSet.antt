@@ -60,9 +60,6 @@ module _ {t m s name at a : List ℕ} {g : Geometry} {amount : Amount} {sec : �
   pub secondary-fits : sec < 16777216
   secondary-fits = range-secondary g sec amount (d .ranges)
 
-  pub map-fits : tracks g ≤ 64 * length m
-  map-fits = let a = limits .tracksMost in let b = d .longMap in omega arith
-
   shows : Shows m (tracks g) (held g ls)
   shows = subst (λ (y : Geometry). Shows m (tracks y) (held y ls)) (sym (d .geometryIs)) (d .shown .freeTracks)
 

@@ -1,12 +1,12 @@
 -- A request that is not refused so far: the table is opened, the name is new, the numbers lie in their ranges. Assumes nothing.
 use mathlib.Core.Path.{_≡_}
-use Prim.Native.Nat.{ℕ}
+use Prim.Native.Nat.{ℕ, _*_, _≤_}
 use mathlib.Core.Bool.{false}
 use mathlib.Core.List.{List, []}
 use lib.Dec.{T}
 use lib.ListN.{length}
 use Rattle.model.specs.Basics.{any}
-use Rattle.model.specs.Model.{Geometry}
+use Rattle.model.specs.Model.{Geometry, tracks}
 use Rattle.rules.specs.Calls.{Amount, allocate₂, grant, inRange}
 use Rattle.rules.specs.Entries.{lent, result, written}
 use Rattle.rules.specs.Reading.{read}
@@ -18,7 +18,7 @@ pub record Asking (t m s name at a : List ℕ) (g : Geometry) (amount : Amount) 
   pub isTaken : T (taken t)
   pub geometryIs : g ≡ read t .geometry
   pub shown : Shown (read t) m s
-  pub longMap : length m ≡ 1024
+  pub mapFits : tracks g ≤ 64 * length m
   pub longSlots : length s ≡ 8
   pub longAnswer : length a ≡ 24
   pub longName : length name ≡ 44

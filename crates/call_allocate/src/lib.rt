@@ -5,6 +5,7 @@ use request::Request;
 ghost use Rattle.rules.specs.Contracts.{Allocates};
 ghost use Rattle.forms.specs.Forms.{geometryOf};
 ghost use Rattle.request.specs.Request.{toAmount};
+ghost use Rattle.table_check.specs.Check.{Roomy};
 ghost use Rattle.call_allocate.specs.Asking.{Asking, Chooses};
 
 // Chooses the pieces of a request that is not refused so far, and grants them to a new data set: 0, 9 or 11.
@@ -51,7 +52,8 @@ fn place(
     )
 }
 
-pub fn allocate(
+// The call with a map to work in.
+fn allocate_in(
     table: &mut [u8],
     name: &[u8],
     attributes: &[u8],
@@ -60,13 +62,14 @@ pub fn allocate(
     amount: u32,
     secondary: u32,
     answer: &mut [u8],
+    map: &mut [u64],
 ) -> u32
+    requires { ⌜ Roomy (now table) (now map) ⌝ }
     ensures { λ r. ⌜ Allocates (now (table .entry)) (now (name .entry)) (now (attributes .entry)) kind start amount secondary (now (answer .entry)) r (now (table .exit)) (now (answer .exit)) ⌝ }
 {
-    let mut map = [0u64; 1024];
     let mut empty = [0u64; 8];
     let lengths = opening::and_another(answer.len(), name.len(), attributes.len(), 52);
-    let r = opening::open(table, lengths, &mut map, &mut empty);
+    let r = opening::open(table, lengths, map, &mut empty);
     if r != 0 {
         return r;
     }
@@ -84,14 +87,46 @@ pub fn allocate(
     if opening::on_volume(table, (g.tracks * g.records) as usize, name) {
         return 6;
     }
-    place(
+    place(table, g, map, &mut empty, name, attributes, request, answer)
+}
+
+// The call. A small volume has a small map: to clear the large one would be much of the call's time.
+pub fn allocate(
+    table: &mut [u8],
+    name: &[u8],
+    attributes: &[u8],
+    kind: u32,
+    start: u32,
+    amount: u32,
+    secondary: u32,
+    answer: &mut [u8],
+) -> u32
+    ensures { λ r. ⌜ Allocates (now (table .entry)) (now (name .entry)) (now (attributes .entry)) kind start amount secondary (now (answer .entry)) r (now (table .exit)) (now (answer .exit)) ⌝ }
+{
+    if opening::few_tracks(table) {
+        let mut map = [0u64; 64];
+        return allocate_in(
+            table,
+            name,
+            attributes,
+            kind,
+            start,
+            amount,
+            secondary,
+            answer,
+            &mut map,
+        );
+    }
+    let mut map = [0u64; 1024];
+    allocate_in(
         table,
-        g,
-        &mut map,
-        &mut empty,
         name,
         attributes,
-        request,
+        kind,
+        start,
+        amount,
+        secondary,
         answer,
+        &mut map,
     )
 }

@@ -15,10 +15,11 @@ use Rattle.rules.specs.Reading.{read}
 use Rattle.rules.specs.Slots.{found}
 use Rattle.rules.specs.Table.{goodName, taken}
 use Rattle.names.specs.Find.{findSlot}
-use Rattle.table_check.specs.Check.{Shown}
+use Rattle.table_check.specs.Check.{Roomy, Shown}
 use Rattle.opening.specs.Opening.{openNumber}
 use Rattle.opening.proofs.Lookup.{FoundAt, not-there, there}
 use Rattle.opening.proofs.Numbers.{opened-good, opened-taken, passed, refused}
+use Rattle.opening.proofs.Room.{room-of}
 use Rattle.call_extend.specs.Longer.{Extended, Longer}
 
 module _ (t name a : List ℕ) (ok : Bool) (r : ℕ) (lengths : ok ≡ (eqb (length a) 24 && eqb (length name) 44)) (number : r ≡ openNumber t ok) where
@@ -53,7 +54,7 @@ module _ (t name a : List ℕ) (ok : Bool) (r : ℕ) (lengths : ok ≡ (eqb (len
       pub not-found : Nothing ≡ findSlot t name (slots g) → Comes 5 t a
       not-found e = ruled (refuse 5) (rule-is ∙ ap (extend₁ (read t) name) (not-there t is-taken g eg name e)) 5 t a refl
 
-      module _ (k : ℕ) (e : Slot k ≡ findSlot t name (slots g)) (m s : List ℕ) (shown : Shown (read t) m s) (lm : length m ≡ 1024) (ls : length s ≡ 8) where
+      module _ (k : ℕ) (e : Slot k ≡ findSlot t name (slots g)) (m₀ m s : List ℕ) (shown : Shown (read t) m s) (roomy : Roomy t m₀) (same : length m ≡ length m₀) (ls : length s ≡ 8) where
         pub longer : Longer t m s a g k
         longer =
             record {
@@ -61,7 +62,7 @@ module _ (t name a : List ℕ) (ok : Bool) (r : ℕ) (lengths : ok ≡ (eqb (len
               isTaken = is-taken;
               geometryIs = eg;
               shown = shown;
-              longMap = lm;
+              mapFits = room-of t m₀ (length m) is-taken g eg roomy same;
               longSlots = ls;
               longAnswer = eqb→eq (length a) 24 (and-l (eqb (length a) 24) (eqb (length name) 44) (true-is (sym lengths ∙ opened-good t ok (sym z ∙ number))));
               there = there t is-taken g eg name k e;

@@ -82,9 +82,6 @@ module _ {t m s a : List ℕ} {g : Geometry} {k : ℕ} (d : Longer t m s a g k) 
   pub inside : k < slots g
   inside = let x = d .there .records .inside in let y = d .there .slot in let z = ap slots (d .geometryIs) in omega arith
 
-  pub map-fits : tracks g ≤ 64 * length m
-  map-fits = let a = limits .tracksMost in let b = d .longMap in omega arith
-
   shows : Shows m (tracks g) (held g (v .labels))
   shows = subst (λ (y : Geometry). Shows m (tracks y) (held y (v .labels))) (sym (d .geometryIs)) (d .shown .freeTracks)
 

@@ -1,11 +1,11 @@
 -- A data set that is found and is to be extended. Assumes nothing.
 use mathlib.Core.Path.{_≡_}
-use Prim.Native.Nat.{ℕ}
+use Prim.Native.Nat.{ℕ, _*_, _≤_}
 use mathlib.Core.Option.{some}
 use mathlib.Core.List.{List, []}
 use lib.Dec.{T}
 use lib.ListN.{length}
-use Rattle.model.specs.Model.{Geometry}
+use Rattle.model.specs.Model.{Geometry, tracks}
 use Rattle.rules.specs.Calls.{extend₁}
 use Rattle.rules.specs.Entries.{lent, result, written}
 use Rattle.rules.specs.Reading.{read}
@@ -19,7 +19,7 @@ pub record Longer (t m s a : List ℕ) (g : Geometry) (k : ℕ) : Type 0 where
   pub isTaken : T (taken t)
   pub geometryIs : g ≡ read t .geometry
   pub shown : Shown (read t) m s
-  pub longMap : length m ≡ 1024
+  pub mapFits : tracks g ≤ 64 * length m
   pub longSlots : length s ≡ 8
   pub longAnswer : length a ≡ 24
   pub there : FoundAt t (read t) name k

@@ -5,6 +5,7 @@ use names::Found;
 ghost use mathlib.Core.Path.{_≡_};
 ghost use Rattle.rules.specs.Contracts.{Extends};
 ghost use Rattle.forms.specs.Forms.{geometryOf};
+ghost use Rattle.table_check.specs.Check.{Roomy};
 ghost use Rattle.call_extend.specs.Longer.{Extended, Longer};
 
 // Grants the data set whose format 1 is in slot k its secondary amount: 0, 8, 9, 10 or 11.
@@ -56,13 +57,14 @@ fn lengthen(
     )
 }
 
-pub fn extend(table: &mut [u8], name: &[u8], answer: &mut [u8]) -> u32
+// The call with a map to work in.
+fn extend_in(table: &mut [u8], name: &[u8], answer: &mut [u8], map: &mut [u64]) -> u32
+    requires { ⌜ Roomy (now table) (now map) ⌝ }
     ensures { λ r. ⌜ Extends (now (table .entry)) (now (name .entry)) (now (answer .entry)) r (now (table .exit)) (now (answer .exit)) ⌝ }
 {
-    let mut map = [0u64; 1024];
     let mut empty = [0u64; 8];
     let lengths = opening::answer_and_name(answer.len(), name.len());
-    let r = opening::open(table, lengths, &mut map, &mut empty);
+    let r = opening::open(table, lengths, map, &mut empty);
     if r != 0 {
         return r;
     }
@@ -74,5 +76,17 @@ pub fn extend(table: &mut [u8], name: &[u8], answer: &mut [u8]) -> u32
     let Found::Slot(k) = names::find(table, n, name) else {
         return 5;
     };
-    lengthen(table, g, &mut map, &mut empty, k, answer)
+    lengthen(table, g, map, &mut empty, k, answer)
+}
+
+// The call. A small volume has a small map: to clear the large one would be much of the call's time.
+pub fn extend(table: &mut [u8], name: &[u8], answer: &mut [u8]) -> u32
+    ensures { λ r. ⌜ Extends (now (table .entry)) (now (name .entry)) (now (answer .entry)) r (now (table .exit)) (now (answer .exit)) ⌝ }
+{
+    if opening::few_tracks(table) {
+        let mut map = [0u64; 64];
+        return extend_in(table, name, answer, &mut map);
+    }
+    let mut map = [0u64; 1024];
+    extend_in(table, name, answer, &mut map)
 }

@@ -95,10 +95,8 @@ fn space(table: &[u8], g: Geometry, empty: u32) -> [u32; 6]
 pub fn lspace(table: &[u8], answer: &mut [u8]) -> u32
     ensures { λ r. ⌜ Inquires (now (table .entry)) (now (answer .entry)) r (now (answer .exit)) ⌝ }
 {
-    let mut map = [0u64; 1024];
-    let mut empty = [0u64; 8];
     let lengths = answer.len() == 24;
-    let r = opening::open(table, lengths, &mut map, &mut empty);
+    let r = opening::open_to_read(table, lengths);
     if r != 0 {
         return r;
     }

@@ -40,10 +40,8 @@ fn put_labels(table: &[u8], g: Geometry, k: usize, out: &mut [u8])
 pub fn obtain(table: &[u8], name: &[u8], labels: &mut [u8], answer: &mut [u8]) -> u32
     ensures { λ r. ⌜ Obtains (now (table .entry)) (now (name .entry)) (now (labels .entry)) (now (answer .entry)) r (now (labels .exit)) (now (answer .exit)) ⌝ }
 {
-    let mut map = [0u64; 1024];
-    let mut empty = [0u64; 8];
     let lengths = opening::and_another(answer.len(), name.len(), labels.len(), 280);
-    let r = opening::open(table, lengths, &mut map, &mut empty);
+    let r = opening::open_to_read(table, lengths);
     if r != 0 {
         return r;
     }

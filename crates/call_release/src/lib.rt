@@ -20,6 +20,7 @@ ghost use Rattle.forms.specs.Forms.{geometryOf};
 ghost use Rattle.set_change.specs.Change.{SetIn, extentsIn, partOf};
 ghost use Rattle.set_at.proofs.Laws.{Known};
 ghost use Rattle.giving.specs.Giving.{At};
+ghost use Rattle.table_check.specs.Check.{Roomy};
 ghost use Rattle.call_release.specs.Shorter.{CutTo};
 
 // Whether a data set with so many tracks may end with the block TTR.
@@ -124,13 +125,14 @@ fn release_set(
     0
 }
 
-pub fn release(table: &mut [u8], name: &[u8], ttr: u32, answer: &mut [u8]) -> u32
+// The call with a map to work in.
+fn release_in(table: &mut [u8], name: &[u8], ttr: u32, answer: &mut [u8], map: &mut [u64]) -> u32
+    requires { ⌜ Roomy (now table) (now map) ⌝ }
     ensures { λ r. ⌜ Releases (now (table .entry)) (now (name .entry)) ttr (now (answer .entry)) r (now (table .exit)) (now (answer .exit)) ⌝ }
 {
-    let mut map = [0u64; 1024];
     let mut empty = [0u64; 8];
     let lengths = opening::answer_and_name(answer.len(), name.len());
-    let r = opening::open(table, lengths, &mut map, &mut empty);
+    let r = opening::open(table, lengths, map, &mut empty);
     if r != 0 {
         return r;
     }
@@ -141,5 +143,17 @@ pub fn release(table: &mut [u8], name: &[u8], ttr: u32, answer: &mut [u8]) -> u3
     let Found::Slot(k) = names::find(table, (g.tracks * g.records) as usize, name) else {
         return 5;
     };
-    release_set(table, g, &mut map, &mut empty, k, ttr, answer)
+    release_set(table, g, map, &mut empty, k, ttr, answer)
+}
+
+// The call. A small volume has a small map: to clear the large one would be much of the call's time.
+pub fn release(table: &mut [u8], name: &[u8], ttr: u32, answer: &mut [u8]) -> u32
+    ensures { λ r. ⌜ Releases (now (table .entry)) (now (name .entry)) ttr (now (answer .entry)) r (now (table .exit)) (now (answer .exit)) ⌝ }
+{
+    if opening::few_tracks(table) {
+        let mut map = [0u64; 64];
+        return release_in(table, name, ttr, answer, &mut map);
+    }
+    let mut map = [0u64; 1024];
+    release_in(table, name, ttr, answer, &mut map)
 }

@@ -15,10 +15,8 @@ ghost use Rattle.call_rename.specs.Refusal.{earlyNumber};
 fn early(table: &[u8], old: &[u8], new: &[u8], answer: usize) -> u32
     ensures { λ r. ⌜ r ≡ earlyNumber (now (table .entry)) (now (old .entry)) (now (new .entry)) answer ⌝ }
 {
-    let mut map = [0u64; 1024];
-    let mut empty = [0u64; 8];
     let lengths = opening::and_another(answer, old.len(), new.len(), 44);
-    let r = opening::open(table, lengths, &mut map, &mut empty);
+    let r = opening::open_to_read(table, lengths);
     if r != 0 {
         return r;
     }

@@ -12,6 +12,7 @@ ghost use Rattle.rules.specs.Contracts.{Scratches};
 ghost use Rattle.rules.specs.Entries.{lent, result, written};
 ghost use Rattle.rules.proofs.Valid.{Limits};
 ghost use Rattle.forms.specs.Forms.{geometryOf};
+ghost use Rattle.table_check.specs.Check.{Roomy};
 ghost use Rattle.giving.specs.Giving.{At};
 
 // Takes out the data set in slot k. Its tracks and slots are free before new format 5s are placed.
@@ -40,13 +41,14 @@ fn scratch_set(
     0
 }
 
-pub fn scratch(table: &mut [u8], name: &[u8], answer: &mut [u8]) -> u32
+// The call with a map to work in.
+fn scratch_in(table: &mut [u8], name: &[u8], answer: &mut [u8], map: &mut [u64]) -> u32
+    requires { ⌜ Roomy (now table) (now map) ⌝ }
     ensures { λ r. ⌜ Scratches (now (table .entry)) (now (name .entry)) (now (answer .entry)) r (now (table .exit)) (now (answer .exit)) ⌝ }
 {
-    let mut map = [0u64; 1024];
     let mut empty = [0u64; 8];
     let lengths = opening::answer_and_name(answer.len(), name.len());
-    let r = opening::open(table, lengths, &mut map, &mut empty);
+    let r = opening::open(table, lengths, map, &mut empty);
     if r != 0 {
         return r;
     }
@@ -57,5 +59,17 @@ pub fn scratch(table: &mut [u8], name: &[u8], answer: &mut [u8]) -> u32
     let Found::Slot(k) = names::find(table, (g.tracks * g.records) as usize, name) else {
         return 5;
     };
-    scratch_set(table, g, &mut map, &mut empty, k, answer)
+    scratch_set(table, g, map, &mut empty, k, answer)
+}
+
+// The call. A small volume has a small map: to clear the large one would be much of the call's time.
+pub fn scratch(table: &mut [u8], name: &[u8], answer: &mut [u8]) -> u32
+    ensures { λ r. ⌜ Scratches (now (table .entry)) (now (name .entry)) (now (answer .entry)) r (now (table .exit)) (now (answer .exit)) ⌝ }
+{
+    if opening::few_tracks(table) {
+        let mut map = [0u64; 64];
+        return scratch_in(table, name, answer, &mut map);
+    }
+    let mut map = [0u64; 1024];
+    scratch_in(table, name, answer, &mut map)
 }

@@ -1,3 +1,4 @@
 pub mod Laws
 pub mod Lookup
 pub mod Numbers
+pub mod Room

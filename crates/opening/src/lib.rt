@@ -2,18 +2,20 @@
 use forms::Geometry;
 use names::Found;
 ghost use mathlib.Core.Path.{_≡_};
-ghost use mathlib.Core.Bool.{not, _&&_};
+ghost use mathlib.Core.Bool.{not, true, _&&_};
 ghost use Prim.Native.Nat.{_*_, _≤_, _<_};
 ghost use lib.Dec.{T, eqb};
 ghost use lib.ListN.{length};
-ghost use Rattle.model.specs.Model.{slots};
-ghost use Rattle.rules.specs.Reading.{read};
+ghost use Rattle.model.specs.Model.{slots, tracks};
+ghost use Rattle.rules.specs.Reading.{read, readGeometry};
 ghost use Rattle.rules.specs.Table.{taken};
 ghost use Rattle.rules.proofs.Valid.{Limits};
+ghost use Rattle.fields.specs.Records.{slotBytes};
 ghost use Rattle.names.specs.Find.{findSlot, isNothing};
 ghost use Rattle.forms.specs.Forms.{geometryOf};
 ghost use Rattle.label_check.specs.Label.{namedThird};
-ghost use Rattle.opening.specs.Opening.{Opened};
+ghost use Rattle.table_check.specs.Check.{Roomy};
+ghost use Rattle.opening.specs.Opening.{Opened, openNumber};
 
 // Whether the answer and a name have the lengths that they must have.
 pub fn answer_and_name(answer: usize, name: usize) -> bool
@@ -35,10 +37,22 @@ pub fn and_another(answer: usize, name: usize, other: usize, n: usize) -> bool
     other == n
 }
 
+// Whether the format 4 tells of so few tracks that 64 words are map enough. A call clears its map first, and 1,024 words, room
+// for the largest volume, would be much of its time on a small one.
+pub fn few_tracks(table: &[u8]) -> bool
+    ensures { λ r. ⌜ (r ≡ true → tracks (readGeometry (slotBytes (now (table .entry)) 0)) ≤ 4096) ⌝ }
+{
+    if table.len() < 140 {
+        return false;
+    }
+    let rec = fields::record_at(table, 0);
+    fields::two(rec, 62) * fields::two(rec, 64) <= 4096
+}
+
 // 0 for a taken table, 2 for a wrong length, else 3; `lengths` tells whether the other buffers have theirs. The maps show
 // the free tracks and slots where it is 0, and hold nothing of use where it is not.
 pub fn open(table: &[u8], lengths: bool, map: &mut [u64], empty: &mut [u64]) -> u32
-    requires { ⌜ (length (now map) ≡ 1024) × (length (now empty) ≡ 8) ⌝ }
+    requires { ⌜ Roomy (now table) (now map) × (length (now empty) ≡ 8) ⌝ }
     ensures { λ r. ⌜ Opened (now (table .entry)) lengths (now (map .entry)) (now (map .exit)) (now (empty .entry)) (now (empty .exit)) r ⌝ }
 {
     if table_check::good_length(table) {} else {
@@ -51,6 +65,19 @@ pub fn open(table: &[u8], lengths: bool, map: &mut [u64], empty: &mut [u64]) -> 
         return 3;
     }
     0
+}
+
+// The same for a call that only reads: it needs no map when the table is taken.
+pub fn open_to_read(table: &[u8], lengths: bool) -> u32
+    ensures { λ r. ⌜ r ≡ openNumber (now (table .entry)) lengths ⌝ }
+{
+    let mut empty = [0u64; 8];
+    if few_tracks(table) {
+        let mut map = [0u64; 64];
+        return open(table, lengths, &mut map, &mut empty);
+    }
+    let mut map = [0u64; 1024];
+    open(table, lengths, &mut map, &mut empty)
 }
 
 // The geometry of a taken table, from its format 4.

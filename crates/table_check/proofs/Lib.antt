@@ -3,3 +3,4 @@ pub mod Read
 pub mod Pieces
 pub mod Whole
 pub mod Free
+pub mod Room

@@ -2,15 +2,15 @@
 use forms::Geometry;
 ghost use mathlib.Core.Path.{_≡_};
 ghost use mathlib.Core.Bool.{false};
-ghost use Prim.Native.Nat.{_*_};
+ghost use Prim.Native.Nat.{_*_, _≤_};
 ghost use lib.ListN.{length};
-ghost use Rattle.model.specs.Model.{slots};
+ghost use Rattle.model.specs.Model.{slots, tracks};
 ghost use Rattle.rules.specs.Table.{goodLength};
 ghost use Rattle.rules.proofs.Valid.{Limits};
 ghost use Rattle.fields.specs.Records.{slotBytes};
 ghost use Rattle.forms.specs.Forms.{geometryOf};
 ghost use Rattle.names.specs.Find.{isLabel};
-ghost use Rattle.table_check.specs.Check.{Checked, Contents, MapsBegun, RestTold};
+ghost use Rattle.table_check.specs.Check.{Checked, Contents, MapsBegun, RestTold, Roomy};
 
 // Whether a table has a length that a table can have.
 pub fn good_length(table: &[u8]) -> bool
@@ -28,7 +28,7 @@ pub fn good_length(table: &[u8]) -> bool
 
 // Begins the maps of free tracks and free slots: the label track, the VTOC and slot 0 are not free.
 pub fn begin_maps(g: Geometry, map: &mut [u64], empty: &mut [u64])
-    requires { ⌜ Limits (geometryOf g) × (length (now map) ≡ 1024) × (length (now empty) ≡ 8) ⌝ }
+    requires { ⌜ Limits (geometryOf g) × (length (now map) ≤ 1024) × (tracks (geometryOf g) ≤ 64 * length (now map)) × (length (now empty) ≡ 8) ⌝ }
     ensures { λ _. ⌜ MapsBegun (geometryOf g) (now (map .entry)) (now (map .exit)) (now (empty .entry)) (now (empty .exit)) ⌝ }
 {
     tracks::free_below(map, (g.cylinders * g.heads) as usize);
@@ -57,7 +57,7 @@ fn rest_ok(table: &[u8], g: Geometry, empty: &[u64]) -> bool
 
 // Whether a table of geometry g holds what it must.
 fn contents_ok(table: &[u8], g: Geometry, map: &mut [u64], empty: &mut [u64]) -> bool
-    requires { ⌜ Limits (geometryOf g) × (length (now table) ≡ 140 * slots (geometryOf g)) × (isLabel (slotBytes (now table) 0) ≡ false) × (length (now map) ≡ 1024) × (length (now empty) ≡ 8) ⌝ }
+    requires { ⌜ Limits (geometryOf g) × (length (now table) ≡ 140 * slots (geometryOf g)) × (isLabel (slotBytes (now table) 0) ≡ false) × (length (now map) ≤ 1024) × (tracks (geometryOf g) ≤ 64 * length (now map)) × (length (now empty) ≡ 8) ⌝ }
     ensures { λ r. ⌜ Contents (geometryOf g) (now (table .entry)) (now (map .entry)) (now (map .exit)) (now (empty .entry)) (now (empty .exit)) r ⌝ }
 {
     begin_maps(g, map, empty);
@@ -75,7 +75,7 @@ fn contents_ok(table: &[u8], g: Geometry, map: &mut [u64], empty: &mut [u64]) ->
 
 // Whether a table is taken. Where it is, the maps show its free tracks and its free slots.
 pub fn check(table: &[u8], map: &mut [u64], empty: &mut [u64]) -> bool
-    requires { ⌜ (length (now map) ≡ 1024) × (length (now empty) ≡ 8) ⌝ }
+    requires { ⌜ Roomy (now table) (now map) × (length (now empty) ≡ 8) ⌝ }
     ensures { λ r. ⌜ Checked (now (table .entry)) (now (map .entry)) (now (map .exit)) (now (empty .entry)) (now (empty .exit)) r ⌝ }
 {
     if table.len() < 140 {

@@ -1,132 +1,65 @@
-use mathlib.Core.Path.{sym, _∙_}
-use native.Mathlib.Omega.{arith}
-use Rattle.request.specs.Request.{toAmount}
-use Rattle.forms.specs.Forms.{geometryOf}
-use Rattle.opening.proofs.Lookup.{limits-of, table-long}
-use Rattle.call_allocate.proofs.Laws.{asking, bad-name, duplicate, is-taken, not-begun, out-of-range, placed, unknown}
+use Rattle.table_check.proofs.Room.{roomy-large, roomy-small}
+use mathlib.Core.Path.{refl}
 use borrow.Author.Needs.{needs}
 use Rattle.call_allocate.proofs.allocate.Statement.{statement}
 use Rattle.call_allocate.proofs.allocate.Tie as tie
-use Rattle.call_allocate.proofs.allocate.Reads as reads
-use Rattle.call_allocate.proofs.allocate.Lts as lts
-use Rattle.opening.proofs.on_volume.Reads as on-volume-reads
-use Rattle.call_allocate.proofs.place.Reads as place-reads
-use Rattle.fields.proofs.name_ok.Reads as name-ok-reads
-use Rattle.opening.proofs.and_another.Reads as and-another-reads
-use Rattle.opening.proofs.geometry.Reads as geometry-reads
-use Rattle.opening.proofs.open.Reads as open-reads
-use Rattle.request.proofs.in_range.Reads as in-range-reads
-use Rattle.request.proofs.read_request.Reads as read-request-reads
 
-and-another-requires : tie.Need-and-another-requires
-and-another-requires c κs = search needs
+-- src/lib.rt:105:8
+few-tracks-requires : tie.Need-few-tracks-requires
+few-tracks-requires c κs = search needs
 
-slice-aggregate-open : tie.Need-slice-aggregate-open
-slice-aggregate-open c = search needs
+-- src/lib.rt:107:93
+slice-aggregate-allocate-in : tie.Need-slice-aggregate-allocate-in
+slice-aggregate-allocate-in c = search needs
 
-slice-aggregate-open-2 : tie.Need-slice-aggregate-open-2
-slice-aggregate-open-2 c = search needs
+-- src/lib.rt:107:9
+allocate-in-requires : tie.Need-allocate-in-requires
+allocate-in-requires c κs = roomy-small (c .before .before .before .before .before .before .before .before .before .before .args .table .now) _ (c .before .before .before .before .few-tracks .ensures (c .before .before .before .if1 .taken)) refl
 
-open-requires : tie.Need-open-requires
-open-requires c κs = search needs
-
+-- src/lib.rt:107:9
 same-length : tie.Need-same-length
 same-length c = search needs
 
-returns : tie.Need-returns
-returns c = not-begun (c .before .before .before .before .before .before .before .before .before .before .before .before .args .table .now) (c .before .before .before .before .before .before .before .before .before .before .before .before .args .name .now) (c .before .before .before .before .before .before .before .before .before .before .before .before .args .attributes .now) (c .before .before .before .before .before .before .before .before .before .before .before .before .args .kind) (c .before .before .before .before .before .before .before .before .before .before .before .before .args .start) (c .before .before .before .before .before .before .before .before .before .before .before .before .args .amount) (c .before .before .before .before .before .before .before .before .before .before .before .before .args .secondary) (c .before .before .before .before .before .before .before .before .before .before .before .before .args .answer .now) _ _ (c .before .before .before .before .before .before .before .and-another .ensures) (c .before .before .before .«open» .ensures .number) (c .if1 .taken)
-
-name-ok-requires : tie.Need-name-ok-requires
-name-ok-requires c κs = search needs
-
+-- src/lib.rt:107:9
 same-length-2 : tie.Need-same-length-2
 same-length-2 c = search needs
 
-returns-2 : tie.Need-returns-2
-returns-2 c = bad-name (c .before .before .before .before .before .before .before .before .before .before .before .before .before .before .args .table .now) (c .before .before .before .before .before .before .before .before .before .before .before .before .before .before .args .name .now) (c .before .before .before .before .before .before .before .before .before .before .before .before .before .before .args .attributes .now) (c .before .before .before .before .before .before .before .before .before .before .before .before .before .before .args .kind) (c .before .before .before .before .before .before .before .before .before .before .before .before .before .before .args .start) (c .before .before .before .before .before .before .before .before .before .before .before .before .before .before .args .amount) (c .before .before .before .before .before .before .before .before .before .before .before .before .before .before .args .secondary) (c .before .before .before .before .before .before .before .before .before .before .before .before .before .before .args .answer .now) _ _ (c .before .before .before .before .before .before .before .before .before .and-another .ensures) (c .before .before .before .before .before .«open» .ensures .number) (c .before .before .if1 .left) (sym (c .before .name-ok .ensures) ∙ c .if2 .left)
+-- src/lib.rt:107:9
+returns : tie.Need-returns
+returns c = search needs
 
+-- src/lib.rt:110:82
+slice-aggregate-allocate-in-2 : tie.Need-slice-aggregate-allocate-in-2
+slice-aggregate-allocate-in-2 c = search needs
+
+-- src/lib.rt:110:5
+allocate-in-requires-2 : tie.Need-allocate-in-requires-2
+allocate-in-requires-2 c κs = roomy-large (c .before .before .before .before .before .before .before .before .before .before .args .table .now) _ refl
+
+-- src/lib.rt:93:1
 same-length-3 : tie.Need-same-length-3
 same-length-3 c = search needs
 
-returns-3 : tie.Need-returns-3
-returns-3 c = unknown (c .before .before .before .before .before .before .before .before .before .before .before .before .before .before .before .args .table .now) (c .before .before .before .before .before .before .before .before .before .before .before .before .before .before .before .args .name .now) (c .before .before .before .before .before .before .before .before .before .before .before .before .before .before .before .args .attributes .now) (c .before .before .before .before .before .before .before .before .before .before .before .before .before .before .before .args .kind) (c .before .before .before .before .before .before .before .before .before .before .before .before .before .before .before .args .start) (c .before .before .before .before .before .before .before .before .before .before .before .before .before .before .before .args .amount) (c .before .before .before .before .before .before .before .before .before .before .before .before .before .before .before .args .secondary) (c .before .before .before .before .before .before .before .before .before .before .before .before .before .before .before .args .answer .now) _ _ (c .before .before .before .before .before .before .before .before .before .before .and-another .ensures) (c .before .before .before .before .before .before .«open» .ensures .number) (c .before .before .before .if1 .left) (sym (c .before .before .name-ok .ensures) ∙ c .before .if2 .taken) (omega (arith, c .if3 .taken))
-
-read-request-requires : tie.Need-read-request-requires
-read-request-requires c κs = search needs
-
-geometry-requires : tie.Need-geometry-requires
-geometry-requires c κs = is-taken (c .before .before .before .before .before .before .before .before .before .before .before .before .before .before .before .before .before .args .table .now) (c .before .before .before .before .before .before .before .before .before .before .before .before .before .before .before .before .before .args .name .now) (c .before .before .before .before .before .before .before .before .before .before .before .before .before .before .before .before .before .args .attributes .now) (c .before .before .before .before .before .before .before .before .before .before .before .before .before .before .before .before .before .args .kind) (c .before .before .before .before .before .before .before .before .before .before .before .before .before .before .before .before .before .args .start) (c .before .before .before .before .before .before .before .before .before .before .before .before .before .before .before .before .before .args .amount) (c .before .before .before .before .before .before .before .before .before .before .before .before .before .before .before .before .before .args .secondary) (c .before .before .before .before .before .before .before .before .before .before .before .before .before .before .before .before .before .args .answer .now) _ _ (c .before .before .before .before .before .before .before .before .before .before .before .before .and-another .ensures) (c .before .before .before .before .before .before .before .before .«open» .ensures .number) (c .before .before .before .before .before .if1 .left)
-
-in-range-requires : tie.Need-in-range-requires
-in-range-requires c κs = limits-of (c .before .before .before .before .before .before .before .before .before .before .before .before .before .before .before .before .before .before .args .table .now) (is-taken (c .before .before .before .before .before .before .before .before .before .before .before .before .before .before .before .before .before .before .args .table .now) (c .before .before .before .before .before .before .before .before .before .before .before .before .before .before .before .before .before .before .args .name .now) (c .before .before .before .before .before .before .before .before .before .before .before .before .before .before .before .before .before .before .args .attributes .now) (c .before .before .before .before .before .before .before .before .before .before .before .before .before .before .before .before .before .before .args .kind) (c .before .before .before .before .before .before .before .before .before .before .before .before .before .before .before .before .before .before .args .start) (c .before .before .before .before .before .before .before .before .before .before .before .before .before .before .before .before .before .before .args .amount) (c .before .before .before .before .before .before .before .before .before .before .before .before .before .before .before .before .before .before .args .secondary) (c .before .before .before .before .before .before .before .before .before .before .before .before .before .before .before .before .before .before .args .answer .now) _ _ (c .before .before .before .before .before .before .before .before .before .before .before .before .before .and-another .ensures) (c .before .before .before .before .before .before .before .before .before .«open» .ensures .number) (c .before .before .before .before .before .before .if1 .left)) (geometryOf (c .geometry .result)) (c .geometry .ensures)
-
+-- src/lib.rt:93:1
 same-length-4 : tie.Need-same-length-4
 same-length-4 c = search needs
 
-returns-4 : tie.Need-returns-4
-returns-4 c = out-of-range (c .before .before .before .before .before .before .before .before .before .before .before .before .before .before .before .before .before .before .before .before .args .table .now) (c .before .before .before .before .before .before .before .before .before .before .before .before .before .before .before .before .before .before .before .before .args .name .now) (c .before .before .before .before .before .before .before .before .before .before .before .before .before .before .before .before .before .before .before .before .args .attributes .now) (c .before .before .before .before .before .before .before .before .before .before .before .before .before .before .before .before .before .before .before .before .args .kind) (c .before .before .before .before .before .before .before .before .before .before .before .before .before .before .before .before .before .before .before .before .args .start) (c .before .before .before .before .before .before .before .before .before .before .before .before .before .before .before .before .before .before .before .before .args .amount) (c .before .before .before .before .before .before .before .before .before .before .before .before .before .before .before .before .before .before .before .before .args .secondary) (c .before .before .before .before .before .before .before .before .before .before .before .before .before .before .before .before .before .before .before .before .args .answer .now) _ _ (c .before .before .before .before .before .before .before .before .before .before .before .before .before .before .before .and-another .ensures) (c .before .before .before .before .before .before .before .before .before .before .before .«open» .ensures .number) (c .before .before .before .before .before .before .before .before .if1 .left) (sym (c .before .before .before .before .before .before .before .name-ok .ensures) ∙ c .before .before .before .before .before .before .if2 .taken) (toAmount (c .before .before .before .before .read-request .result .amount)) (c .before .before .before .before .read-request .ensures .0) _ (c .before .before .before .before .read-request .ensures .2) (geometryOf (c .before .before .geometry .result)) (c .before .before .geometry .ensures) (sym (c .before .in-range .ensures) ∙ c .if4 .left)
-
-mul-on-volume : tie.Need-mul-on-volume
-mul-on-volume c = omega (arith, limits-of (c .before .before .before .before .before .before .before .before .before .before .before .before .before .before .before .before .before .before .before .before .before .before .args .table .now) (is-taken (c .before .before .before .before .before .before .before .before .before .before .before .before .before .before .before .before .before .before .before .before .before .before .args .table .now) (c .before .before .before .before .before .before .before .before .before .before .before .before .before .before .before .before .before .before .before .before .before .before .args .name .now) (c .before .before .before .before .before .before .before .before .before .before .before .before .before .before .before .before .before .before .before .before .before .before .args .attributes .now) (c .before .before .before .before .before .before .before .before .before .before .before .before .before .before .before .before .before .before .before .before .before .before .args .kind) (c .before .before .before .before .before .before .before .before .before .before .before .before .before .before .before .before .before .before .before .before .before .before .args .start) (c .before .before .before .before .before .before .before .before .before .before .before .before .before .before .before .before .before .before .before .before .before .before .args .amount) (c .before .before .before .before .before .before .before .before .before .before .before .before .before .before .before .before .before .before .before .before .before .before .args .secondary) (c .before .before .before .before .before .before .before .before .before .before .before .before .before .before .before .before .before .before .before .before .before .before .args .answer .now) _ _ (c .before .before .before .before .before .before .before .before .before .before .before .before .before .before .before .before .before .and-another .ensures) (c .before .before .before .before .before .before .before .before .before .before .before .before .before .«open» .ensures .number) (c .before .before .before .before .before .before .before .before .before .before .if1 .left)) (geometryOf (c .before .before .before .before .geometry .result)) (c .before .before .before .before .geometry .ensures) .most)
-
-cast-on-volume : tie.Need-cast-on-volume
-cast-on-volume c = omega (arith, limits-of (c .before .before .before .before .before .before .before .before .before .before .before .before .before .before .before .before .before .before .before .before .before .before .args .table .now) (is-taken (c .before .before .before .before .before .before .before .before .before .before .before .before .before .before .before .before .before .before .before .before .before .before .args .table .now) (c .before .before .before .before .before .before .before .before .before .before .before .before .before .before .before .before .before .before .before .before .before .before .args .name .now) (c .before .before .before .before .before .before .before .before .before .before .before .before .before .before .before .before .before .before .before .before .before .before .args .attributes .now) (c .before .before .before .before .before .before .before .before .before .before .before .before .before .before .before .before .before .before .before .before .before .before .args .kind) (c .before .before .before .before .before .before .before .before .before .before .before .before .before .before .before .before .before .before .before .before .before .before .args .start) (c .before .before .before .before .before .before .before .before .before .before .before .before .before .before .before .before .before .before .before .before .before .before .args .amount) (c .before .before .before .before .before .before .before .before .before .before .before .before .before .before .before .before .before .before .before .before .before .before .args .secondary) (c .before .before .before .before .before .before .before .before .before .before .before .before .before .before .before .before .before .before .before .before .before .before .args .answer .now) _ _ (c .before .before .before .before .before .before .before .before .before .before .before .before .before .before .before .before .before .and-another .ensures) (c .before .before .before .before .before .before .before .before .before .before .before .before .before .«open» .ensures .number) (c .before .before .before .before .before .before .before .before .before .before .if1 .left)) (geometryOf (c .before .before .before .before .geometry .result)) (c .before .before .before .before .geometry .ensures) .most)
-
-on-volume-requires : tie.Need-on-volume-requires
-on-volume-requires c κs = omega (arith, table-long (c .before .before .before .before .before .before .before .before .before .before .before .before .before .before .before .before .before .before .before .before .before .before .args .table .now) (is-taken (c .before .before .before .before .before .before .before .before .before .before .before .before .before .before .before .before .before .before .before .before .before .before .args .table .now) (c .before .before .before .before .before .before .before .before .before .before .before .before .before .before .before .before .before .before .before .before .before .before .args .name .now) (c .before .before .before .before .before .before .before .before .before .before .before .before .before .before .before .before .before .before .before .before .before .before .args .attributes .now) (c .before .before .before .before .before .before .before .before .before .before .before .before .before .before .before .before .before .before .before .before .before .before .args .kind) (c .before .before .before .before .before .before .before .before .before .before .before .before .before .before .before .before .before .before .before .before .before .before .args .start) (c .before .before .before .before .before .before .before .before .before .before .before .before .before .before .before .before .before .before .before .before .before .before .args .amount) (c .before .before .before .before .before .before .before .before .before .before .before .before .before .before .before .before .before .before .before .before .before .before .args .secondary) (c .before .before .before .before .before .before .before .before .before .before .before .before .before .before .before .before .before .before .before .before .before .before .args .answer .now) _ _ (c .before .before .before .before .before .before .before .before .before .before .before .before .before .before .before .before .before .and-another .ensures) (c .before .before .before .before .before .before .before .before .before .before .before .before .before .«open» .ensures .number) (c .before .before .before .before .before .before .before .before .before .before .if1 .left)) (geometryOf (c .before .before .before .before .geometry .result)) (c .before .before .before .before .geometry .ensures))
-
-same-length-5 : tie.Need-same-length-5
-same-length-5 c = search needs
-
-returns-5 : tie.Need-returns-5
-returns-5 c = duplicate (c .before .before .before .before .before .before .before .before .before .before .before .before .before .before .before .before .before .before .before .before .before .before .before .before .args .table .now) (c .before .before .before .before .before .before .before .before .before .before .before .before .before .before .before .before .before .before .before .before .before .before .before .before .args .name .now) (c .before .before .before .before .before .before .before .before .before .before .before .before .before .before .before .before .before .before .before .before .before .before .before .before .args .attributes .now) (c .before .before .before .before .before .before .before .before .before .before .before .before .before .before .before .before .before .before .before .before .before .before .before .before .args .kind) (c .before .before .before .before .before .before .before .before .before .before .before .before .before .before .before .before .before .before .before .before .before .before .before .before .args .start) (c .before .before .before .before .before .before .before .before .before .before .before .before .before .before .before .before .before .before .before .before .before .before .before .before .args .amount) (c .before .before .before .before .before .before .before .before .before .before .before .before .before .before .before .before .before .before .before .before .before .before .before .before .args .secondary) (c .before .before .before .before .before .before .before .before .before .before .before .before .before .before .before .before .before .before .before .before .before .before .before .before .args .answer .now) _ _ (c .before .before .before .before .before .before .before .before .before .before .before .before .before .before .before .before .before .before .before .and-another .ensures) (c .before .before .before .before .before .before .before .before .before .before .before .before .before .before .before .«open» .ensures .number) (c .before .before .before .before .before .before .before .before .before .before .before .before .if1 .left) (sym (c .before .before .before .before .before .before .before .before .before .before .before .name-ok .ensures) ∙ c .before .before .before .before .before .before .before .before .before .before .if2 .taken) (toAmount (c .before .before .before .before .before .before .before .before .read-request .result .amount)) (c .before .before .before .before .before .before .before .before .read-request .ensures .0) _ (c .before .before .before .before .before .before .before .before .read-request .ensures .2) (geometryOf (c .before .before .before .before .before .before .geometry .result)) (c .before .before .before .before .before .before .geometry .ensures) (sym (c .before .before .before .before .before .in-range .ensures) ∙ c .before .before .before .before .if4 .taken) _ (c .before .on-volume .ensures) (c .if5 .taken)
-
-slice-aggregate-place : tie.Need-slice-aggregate-place
-slice-aggregate-place c = search needs
-
-slice-aggregate-place-2 : tie.Need-slice-aggregate-place-2
-slice-aggregate-place-2 c = search needs
-
-place-requires : tie.Need-place-requires
-place-requires c κs = asking (c .before .before .before .before .before .before .before .before .before .before .before .before .before .before .before .before .before .before .before .before .before .before .before .before .before .before .before .before .args .table .now) (c .before .before .before .before .before .before .before .before .before .before .before .before .before .before .before .before .before .before .before .before .before .before .before .before .before .before .before .before .args .name .now) (c .before .before .before .before .before .before .before .before .before .before .before .before .before .before .before .before .before .before .before .before .before .before .before .before .before .before .before .before .args .attributes .now) (c .before .before .before .before .before .before .before .before .before .before .before .before .before .before .before .before .before .before .before .before .before .before .before .before .before .before .before .before .args .kind) (c .before .before .before .before .before .before .before .before .before .before .before .before .before .before .before .before .before .before .before .before .before .before .before .before .before .before .before .before .args .start) (c .before .before .before .before .before .before .before .before .before .before .before .before .before .before .before .before .before .before .before .before .before .before .before .before .before .before .before .before .args .amount) (c .before .before .before .before .before .before .before .before .before .before .before .before .before .before .before .before .before .before .before .before .before .before .before .before .before .before .before .before .args .secondary) (c .before .before .before .before .before .before .before .before .before .before .before .before .before .before .before .before .before .before .before .before .before .before .before .before .before .before .before .before .args .answer .now) _ _ (c .before .before .before .before .before .before .before .before .before .before .before .before .before .before .before .before .before .before .before .before .before .before .before .and-another .ensures) (c .before .before .before .before .before .before .before .before .before .before .before .before .before .before .before .before .before .before .before .«open» .ensures .number) (c .before .before .before .before .before .before .before .before .before .before .before .before .before .before .before .before .if1 .left) (sym (c .before .before .before .before .before .before .before .before .before .before .before .before .before .before .before .name-ok .ensures) ∙ c .before .before .before .before .before .before .before .before .before .before .before .before .before .before .if2 .taken) (toAmount (c .before .before .before .before .before .before .before .before .before .before .before .before .read-request .result .amount)) (c .before .before .before .before .before .before .before .before .before .before .before .before .read-request .ensures .0) _ (c .before .before .before .before .before .before .before .before .before .before .before .before .read-request .ensures .2) (geometryOf (c .before .before .before .before .before .before .before .before .before .before .geometry .result)) (c .before .before .before .before .before .before .before .before .before .before .geometry .ensures) (sym (c .before .before .before .before .before .before .before .before .before .in-range .ensures) ∙ c .before .before .before .before .before .before .before .before .if4 .taken) _ (c .before .before .before .before .before .on-volume .ensures) (c .before .before .before .before .if5 .left) _ _ (c .before .before .before .before .before .before .before .before .before .before .before .before .before .before .before .before .before .before .before .«open» .ensures .shown (c .before .before .before .before .before .before .before .before .before .before .before .before .before .before .before .before .if1 .left)) (c .before .before .before .before .before .before .before .before .before .before .before .before .before .before .before .before .before .before .before .«open» .ensures .longMap ∙ search needs) (c .before .before .before .before .before .before .before .before .before .before .before .before .before .before .before .before .before .before .before .«open» .ensures .longSlots ∙ search needs)
-
-same-length-6 : tie.Need-same-length-6
-same-length-6 c = search needs
-
-same-length-7 : tie.Need-same-length-7
-same-length-7 c = search needs
-
-returns-6 : tie.Need-returns-6
-returns-6 c = placed (c .before .before .before .before .before .before .before .before .before .before .before .before .before .before .before .before .before .before .before .before .before .before .before .before .before .before .before .before .before .before .before .before .before .before .before .args .table .now) (c .before .before .before .before .before .before .before .before .before .before .before .before .before .before .before .before .before .before .before .before .before .before .before .before .before .before .before .before .before .before .before .before .before .before .before .args .name .now) (c .before .before .before .before .before .before .before .before .before .before .before .before .before .before .before .before .before .before .before .before .before .before .before .before .before .before .before .before .before .before .before .before .before .before .before .args .attributes .now) (c .before .before .before .before .before .before .before .before .before .before .before .before .before .before .before .before .before .before .before .before .before .before .before .before .before .before .before .before .before .before .before .before .before .before .before .args .kind) (c .before .before .before .before .before .before .before .before .before .before .before .before .before .before .before .before .before .before .before .before .before .before .before .before .before .before .before .before .before .before .before .before .before .before .before .args .start) (c .before .before .before .before .before .before .before .before .before .before .before .before .before .before .before .before .before .before .before .before .before .before .before .before .before .before .before .before .before .before .before .before .before .before .before .args .amount) (c .before .before .before .before .before .before .before .before .before .before .before .before .before .before .before .before .before .before .before .before .before .before .before .before .before .before .before .before .before .before .before .before .before .before .before .args .secondary) (c .before .before .before .before .before .before .before .before .before .before .before .before .before .before .before .before .before .before .before .before .before .before .before .before .before .before .before .before .before .before .before .before .before .before .before .args .answer .now) _ _ (c .before .before .before .before .before .before .before .before .before .before .before .before .before .before .before .before .before .before .before .before .before .before .before .before .before .before .before .before .before .before .and-another .ensures) (c .before .before .before .before .before .before .before .before .before .before .before .before .before .before .before .before .before .before .before .before .before .before .before .before .before .before .«open» .ensures .number) (c .before .before .before .before .before .before .before .before .before .before .before .before .before .before .before .before .before .before .before .before .before .before .before .if1 .left) (sym (c .before .before .before .before .before .before .before .before .before .before .before .before .before .before .before .before .before .before .before .before .before .before .name-ok .ensures) ∙ c .before .before .before .before .before .before .before .before .before .before .before .before .before .before .before .before .before .before .before .before .before .if2 .taken) (toAmount (c .before .before .before .before .before .before .before .before .before .before .before .before .before .before .before .before .before .before .before .read-request .result .amount)) (c .before .before .before .before .before .before .before .before .before .before .before .before .before .before .before .before .before .before .before .read-request .ensures .0) _ (c .before .before .before .before .before .before .before .before .before .before .before .before .before .before .before .before .before .before .before .read-request .ensures .2) (geometryOf (c .before .before .before .before .before .before .before .before .before .before .before .before .before .before .before .before .before .geometry .result)) (c .before .before .before .before .before .before .before .before .before .before .before .before .before .before .before .before .before .geometry .ensures) (sym (c .before .before .before .before .before .before .before .before .before .before .before .before .before .before .before .before .in-range .ensures) ∙ c .before .before .before .before .before .before .before .before .before .before .before .before .before .before .before .if4 .taken) _ (c .before .before .before .before .before .before .before .before .before .before .before .before .on-volume .ensures) (c .before .before .before .before .before .before .before .before .before .before .before .if5 .left) _ _ _ (c .before .before .before .before .before .before .place .ensures)
+-- src/lib.rt:93:1
+returns-2 : tie.Need-returns-2
+returns-2 c = search needs
 
 pub allocate-spec : {M : Type 1} → statement M
 allocate-spec =
     tie.close
     (tie.spec
-    and-another-requires
-    slice-aggregate-open
-    slice-aggregate-open-2
-    open-requires
+    few-tracks-requires
+    slice-aggregate-allocate-in
+    allocate-in-requires
     same-length
-    returns
-    name-ok-requires
     same-length-2
-    returns-2
+    returns
+    slice-aggregate-allocate-in-2
+    allocate-in-requires-2
     same-length-3
-    returns-3
-    read-request-requires
-    geometry-requires
-    in-range-requires
     same-length-4
-    returns-4
-    mul-on-volume
-    cast-on-volume
-    on-volume-requires
-    same-length-5
-    returns-5
-    slice-aggregate-place
-    slice-aggregate-place-2
-    place-requires
-    same-length-6
-    same-length-7
-    returns-6)
+    returns-2)

@@ -1,5 +1,5 @@
 use native.Mathlib.Omega.{arith}
-use Rattle.call_allocate.proofs.NewSet.{askable, count-most, grants, limits, lists, long, map-fits, no-space, put, secondary-fits, sum-most}
+use Rattle.call_allocate.proofs.NewSet.{askable, count-most, grants, limits, lists, long, no-space, put, secondary-fits, sum-most}
 use borrow.Author.Needs.{needs}
 use Rattle.call_allocate.proofs.place.Statement.{statement}
 use Rattle.call_allocate.proofs.place.Tie as tie
@@ -13,7 +13,7 @@ use Rattle.request.proofs.type_byte.Reads as type-byte-reads
 use Rattle.request.proofs.unit_byte.Reads as unit-byte-reads
 
 fulfil-requires : tie.Need-fulfil-requires
-fulfil-requires c κs = (limits (c .before .before .before .before .before .before .before .before .before .pre), map-fits (c .before .before .before .before .before .before .before .before .before .pre), askable (c .before .before .before .before .before .before .before .before .before .pre), search needs, long (c .before .before .before .before .before .before .before .before .before .pre), (_, lists (c .before .before .before .before .before .before .before .before .before .pre)))
+fulfil-requires c κs = (limits (c .before .before .before .before .before .before .before .before .before .pre), c .before .before .before .before .before .before .before .before .before .pre .mapFits, askable (c .before .before .before .before .before .before .before .before .before .pre), search needs, long (c .before .before .before .before .before .before .before .before .before .pre), (_, lists (c .before .before .before .before .before .before .before .before .before .pre)))
 
 same-length : tie.Need-same-length
 same-length c = search needs
@@ -40,7 +40,7 @@ put-grant-requires : tie.Need-put-grant-requires
 put-grant-requires c κs =
     let least = limits (c .before .before .before .before .before .before .before .before .before .before .before .before .before .before .before .before .before .before .before .before .before .before .pre) .least in
     let most = count-most (c .before .before .before .before .before .before .before .before .before .before .before .before .before .before .before .before .before .before .before .before .before .before .pre) _ _ _ _ (c .before .before .before .before .before .before .before .before .before .before .before .before .fulfil .ensures) (c .before .before .before .before .before .before .before .before .before .before .if1 .left) in (
-      (limits (c .before .before .before .before .before .before .before .before .before .before .before .before .before .before .before .before .before .before .before .before .before .before .pre), long (c .before .before .before .before .before .before .before .before .before .before .before .before .before .before .before .before .before .before .before .before .before .before .pre), map-fits (c .before .before .before .before .before .before .before .before .before .before .before .before .before .before .before .before .before .before .before .before .before .before .pre), c .before .before .before .before .before .before .before .before .before .before .before .before .before .before .before .before .before .before .before .before .before .before .pre .longSlots, c .before .before .before .before .before .before .before .before .before .before .before .before .before .before .before .before .before .before .before .before .before .before .pre .longAnswer, omega arith, omega arith, most, omega arith, sum-most (c .before .before .before .before .before .before .before .before .before .before .before .before .before .before .before .before .before .before .before .before .before .before .pre) _ _ _ _ (c .before .before .before .before .before .before .before .before .before .before .before .before .fulfil .ensures) (c .before .before .before .before .before .before .before .before .before .before .if1 .left), search needs, search needs),
+      (limits (c .before .before .before .before .before .before .before .before .before .before .before .before .before .before .before .before .before .before .before .before .before .before .pre), long (c .before .before .before .before .before .before .before .before .before .before .before .before .before .before .before .before .before .before .before .before .before .before .pre), c .before .before .before .before .before .before .before .before .before .before .before .before .before .before .before .before .before .before .before .before .before .before .pre .mapFits, c .before .before .before .before .before .before .before .before .before .before .before .before .before .before .before .before .before .before .before .before .before .before .pre .longSlots, c .before .before .before .before .before .before .before .before .before .before .before .before .before .before .before .before .before .before .before .before .before .before .pre .longAnswer, omega arith, omega arith, most, omega arith, sum-most (c .before .before .before .before .before .before .before .before .before .before .before .before .before .before .before .before .before .before .before .before .before .before .pre) _ _ _ _ (c .before .before .before .before .before .before .before .before .before .before .before .before .fulfil .ensures) (c .before .before .before .before .before .before .before .before .before .before .if1 .left), search needs, search needs),
       grants (c .before .before .before .before .before .before .before .before .before .before .before .before .before .before .before .before .before .before .before .before .before .before .pre) _ _ _ _ (c .before .before .before .before .before .before .before .before .before .before .before .before .fulfil .ensures) (c .before .before .before .before .before .before .before .before .before .before .if1 .left) _ _ (c .before .before .before .before .before .before .before .before .before .unit-byte .ensures) (c .before .before .before .before .before .before .before .before .type-byte .ensures) _ _ (c .before .before .before .before .before .before .before .new-label .ensures) (c .before .before .before .before .before .before .empty-three .ensures),
     )
 

@@ -1,113 +1,65 @@
-use mathlib.Core.Path.{sym, _∙_}
-use native.Mathlib.Omega.{arith}
-use Rattle.forms.specs.Forms.{geometryOf}
-use Rattle.opening.proofs.Lookup.{limits-of, table-long}
-use Rattle.call_extend.proofs.Laws.{bad-name, is-taken, lengthened, longer, not-begun, not-found}
+use Rattle.table_check.proofs.Room.{roomy-large, roomy-small}
+use mathlib.Core.Path.{refl}
 use borrow.Author.Needs.{needs}
 use Rattle.call_extend.proofs.extend.Statement.{statement}
 use Rattle.call_extend.proofs.extend.Tie as tie
-use Rattle.call_extend.proofs.extend.Reads as reads
-use Rattle.call_extend.proofs.extend.Lts as lts
-use Rattle.call_extend.proofs.lengthen.Reads as lengthen-reads
-use Rattle.fields.proofs.name_ok.Reads as name-ok-reads
-use Rattle.names.proofs.find.Reads as find-reads
-use Rattle.opening.proofs.answer_and_name.Reads as answer-and-name-reads
-use Rattle.opening.proofs.geometry.Reads as geometry-reads
-use Rattle.opening.proofs.open.Reads as open-reads
 
-answer-and-name-requires : tie.Need-answer-and-name-requires
-answer-and-name-requires c κs = search needs
+-- src/lib.rt:76:8
+few-tracks-requires : tie.Need-few-tracks-requires
+few-tracks-requires c κs = search needs
 
-slice-aggregate-open : tie.Need-slice-aggregate-open
-slice-aggregate-open c = search needs
+-- src/lib.rt:78:47
+slice-aggregate-extend-in : tie.Need-slice-aggregate-extend-in
+slice-aggregate-extend-in c = search needs
 
-slice-aggregate-open-2 : tie.Need-slice-aggregate-open-2
-slice-aggregate-open-2 c = search needs
+-- src/lib.rt:78:9
+extend-in-requires : tie.Need-extend-in-requires
+extend-in-requires c κs = roomy-small (c .before .before .before .before .before .before .before .before .before .args .table .now) _ (c .before .before .before .before .few-tracks .ensures (c .before .before .before .if1 .taken)) refl
 
-open-requires : tie.Need-open-requires
-open-requires c κs = search needs
-
+-- src/lib.rt:78:9
 same-length : tie.Need-same-length
 same-length c = search needs
 
-returns : tie.Need-returns
-returns c = not-begun (c .before .before .before .before .before .before .before .before .before .before .before .args .table .now) (c .before .before .before .before .before .before .before .before .before .before .before .args .name .now) (c .before .before .before .before .before .before .before .before .before .before .before .args .answer .now) _ _ (c .before .before .before .before .before .before .before .answer-and-name .ensures) (c .before .before .before .«open» .ensures .number) (c .if1 .taken)
-
-name-ok-requires : tie.Need-name-ok-requires
-name-ok-requires c κs = search needs
-
+-- src/lib.rt:78:9
 same-length-2 : tie.Need-same-length-2
 same-length-2 c = search needs
 
-returns-2 : tie.Need-returns-2
-returns-2 c = bad-name (c .before .before .before .before .before .before .before .before .before .before .before .before .before .args .table .now) (c .before .before .before .before .before .before .before .before .before .before .before .before .before .args .name .now) (c .before .before .before .before .before .before .before .before .before .before .before .before .before .args .answer .now) _ _ (c .before .before .before .before .before .before .before .before .before .answer-and-name .ensures) (c .before .before .before .before .before .«open» .ensures .number) (c .before .before .if1 .left) (sym (c .before .name-ok .ensures) ∙ c .if2 .left)
+-- src/lib.rt:78:9
+returns : tie.Need-returns
+returns c = search needs
 
-geometry-requires : tie.Need-geometry-requires
-geometry-requires c κs = is-taken (c .before .before .before .before .before .before .before .before .before .before .before .before .before .before .args .table .now) (c .before .before .before .before .before .before .before .before .before .before .before .before .before .before .args .name .now) (c .before .before .before .before .before .before .before .before .before .before .before .before .before .before .args .answer .now) _ _ (c .before .before .before .before .before .before .before .before .before .before .answer-and-name .ensures) (c .before .before .before .before .before .before .«open» .ensures .number) (c .before .before .before .if1 .left)
+-- src/lib.rt:81:36
+slice-aggregate-extend-in-2 : tie.Need-slice-aggregate-extend-in-2
+slice-aggregate-extend-in-2 c = search needs
 
-mul-n : tie.Need-mul-n
-mul-n c = omega (arith, limits-of (c .before .before .before .before .before .before .before .before .before .before .before .before .before .before .before .before .args .table .now) (is-taken (c .before .before .before .before .before .before .before .before .before .before .before .before .before .before .before .before .args .table .now) (c .before .before .before .before .before .before .before .before .before .before .before .before .before .before .before .before .args .name .now) (c .before .before .before .before .before .before .before .before .before .before .before .before .before .before .before .before .args .answer .now) _ _ (c .before .before .before .before .before .before .before .before .before .before .before .before .answer-and-name .ensures) (c .before .before .before .before .before .before .before .before .«open» .ensures .number) (c .before .before .before .before .before .if1 .left)) (geometryOf (c .before .geometry .result)) (c .before .geometry .ensures) .most)
+-- src/lib.rt:81:5
+extend-in-requires-2 : tie.Need-extend-in-requires-2
+extend-in-requires-2 c κs = roomy-large (c .before .before .before .before .before .before .before .before .before .args .table .now) _ refl
 
-cast-n : tie.Need-cast-n
-cast-n c = omega (arith, limits-of (c .before .before .before .before .before .before .before .before .before .before .before .before .before .before .before .before .args .table .now) (is-taken (c .before .before .before .before .before .before .before .before .before .before .before .before .before .before .before .before .args .table .now) (c .before .before .before .before .before .before .before .before .before .before .before .before .before .before .before .before .args .name .now) (c .before .before .before .before .before .before .before .before .before .before .before .before .before .before .before .before .args .answer .now) _ _ (c .before .before .before .before .before .before .before .before .before .before .before .before .answer-and-name .ensures) (c .before .before .before .before .before .before .before .before .«open» .ensures .number) (c .before .before .before .before .before .if1 .left)) (geometryOf (c .before .geometry .result)) (c .before .geometry .ensures) .most)
-
-find-requires : tie.Need-find-requires
-find-requires c κs = omega (arith, table-long (c .before .before .before .before .before .before .before .before .before .before .before .before .before .before .before .before .before .args .table .now) (is-taken (c .before .before .before .before .before .before .before .before .before .before .before .before .before .before .before .before .before .args .table .now) (c .before .before .before .before .before .before .before .before .before .before .before .before .before .before .before .before .before .args .name .now) (c .before .before .before .before .before .before .before .before .before .before .before .before .before .before .before .before .before .args .answer .now) _ _ (c .before .before .before .before .before .before .before .before .before .before .before .before .before .answer-and-name .ensures) (c .before .before .before .before .before .before .before .before .before .«open» .ensures .number) (c .before .before .before .before .before .before .if1 .left)) (geometryOf (c .before .before .geometry .result)) (c .before .before .geometry .ensures))
-
-enum-known-k : tie.Need-enum-known-k
-enum-known-k c = search needs
-
-enum-told : tie.Need-enum-told
-enum-told c = search needs
-
+-- src/lib.rt:73:1
 same-length-3 : tie.Need-same-length-3
 same-length-3 c = search needs
 
-returns-3 : tie.Need-returns-3
-returns-3 c = not-found (c .before .before .before .before .before .before .before .before .before .before .before .before .before .before .before .before .before .before .before .before .args .table .now) (c .before .before .before .before .before .before .before .before .before .before .before .before .before .before .before .before .before .before .before .before .args .name .now) (c .before .before .before .before .before .before .before .before .before .before .before .before .before .before .before .before .before .before .before .before .args .answer .now) _ _ (c .before .before .before .before .before .before .before .before .before .before .before .before .before .before .before .before .answer-and-name .ensures) (c .before .before .before .before .before .before .before .before .before .before .before .before .«open» .ensures .number) (c .before .before .before .before .before .before .before .before .before .if1 .left) (sym (c .before .before .before .before .before .before .before .before .name-ok .ensures) ∙ c .before .before .before .before .before .before .before .if2 .taken) (geometryOf (c .before .before .before .before .before .geometry .result)) (c .before .before .before .before .before .geometry .ensures) (sym (c .enum-told .given .1) ∙ c .before .before .find .ensures)
-
-slice-aggregate-lengthen : tie.Need-slice-aggregate-lengthen
-slice-aggregate-lengthen c = search needs
-
-slice-aggregate-lengthen-2 : tie.Need-slice-aggregate-lengthen-2
-slice-aggregate-lengthen-2 c = search needs
-
-lengthen-requires : tie.Need-lengthen-requires
-lengthen-requires c κs = longer (c .before .before .before .before .before .before .before .before .before .before .before .before .before .before .before .before .before .before .before .before .before .before .before .before .before .args .table .now) (c .before .before .before .before .before .before .before .before .before .before .before .before .before .before .before .before .before .before .before .before .before .before .before .before .before .args .name .now) (c .before .before .before .before .before .before .before .before .before .before .before .before .before .before .before .before .before .before .before .before .before .before .before .before .before .args .answer .now) _ _ (c .before .before .before .before .before .before .before .before .before .before .before .before .before .before .before .before .before .before .before .before .before .answer-and-name .ensures) (c .before .before .before .before .before .before .before .before .before .before .before .before .before .before .before .before .before .«open» .ensures .number) (c .before .before .before .before .before .before .before .before .before .before .before .before .before .before .if1 .left) (sym (c .before .before .before .before .before .before .before .before .before .before .before .before .before .name-ok .ensures) ∙ c .before .before .before .before .before .before .before .before .before .before .before .before .if2 .taken) (geometryOf (c .before .before .before .before .before .before .before .before .before .before .geometry .result)) (c .before .before .before .before .before .before .before .before .before .before .geometry .ensures) _ (sym (c .before .before .before .before .before .k .given .1) ∙ c .before .before .before .before .before .before .before .find .ensures) _ _ (c .before .before .before .before .before .before .before .before .before .before .before .before .before .before .before .before .before .«open» .ensures .shown (c .before .before .before .before .before .before .before .before .before .before .before .before .before .before .if1 .left)) (c .before .before .before .before .before .before .before .before .before .before .before .before .before .before .before .before .before .«open» .ensures .longMap ∙ search needs) (c .before .before .before .before .before .before .before .before .before .before .before .before .before .before .before .before .before .«open» .ensures .longSlots ∙ search needs)
-
+-- src/lib.rt:73:1
 same-length-4 : tie.Need-same-length-4
 same-length-4 c = search needs
 
-same-length-5 : tie.Need-same-length-5
-same-length-5 c = search needs
-
-returns-4 : tie.Need-returns-4
-returns-4 c = lengthened (c .before .before .before .before .before .before .before .before .before .before .before .before .before .before .before .before .before .before .before .before .before .before .before .before .before .before .before .before .before .before .before .before .args .table .now) (c .before .before .before .before .before .before .before .before .before .before .before .before .before .before .before .before .before .before .before .before .before .before .before .before .before .before .before .before .before .before .before .before .args .name .now) (c .before .before .before .before .before .before .before .before .before .before .before .before .before .before .before .before .before .before .before .before .before .before .before .before .before .before .before .before .before .before .before .before .args .answer .now) _ _ (c .before .before .before .before .before .before .before .before .before .before .before .before .before .before .before .before .before .before .before .before .before .before .before .before .before .before .before .before .answer-and-name .ensures) (c .before .before .before .before .before .before .before .before .before .before .before .before .before .before .before .before .before .before .before .before .before .before .before .before .«open» .ensures .number) (c .before .before .before .before .before .before .before .before .before .before .before .before .before .before .before .before .before .before .before .before .before .if1 .left) (sym (c .before .before .before .before .before .before .before .before .before .before .before .before .before .before .before .before .before .before .before .before .name-ok .ensures) ∙ c .before .before .before .before .before .before .before .before .before .before .before .before .before .before .before .before .before .before .before .if2 .taken) (geometryOf (c .before .before .before .before .before .before .before .before .before .before .before .before .before .before .before .before .before .geometry .result)) (c .before .before .before .before .before .before .before .before .before .before .before .before .before .before .before .before .before .geometry .ensures) _ (sym (c .before .before .before .before .before .before .before .before .before .before .before .before .k .given .1) ∙ c .before .before .before .before .before .before .before .before .before .before .before .before .before .before .find .ensures) _ _ (c .before .before .before .before .before .before .before .before .before .before .before .before .before .before .before .before .before .before .before .before .before .before .before .before .«open» .ensures .shown (c .before .before .before .before .before .before .before .before .before .before .before .before .before .before .before .before .before .before .before .before .before .if1 .left)) (c .before .before .before .before .before .before .before .before .before .before .before .before .before .before .before .before .before .before .before .before .before .before .before .before .«open» .ensures .longMap ∙ search needs) (c .before .before .before .before .before .before .before .before .before .before .before .before .before .before .before .before .before .before .before .before .before .before .before .before .«open» .ensures .longSlots ∙ search needs) _ _ _ (c .before .before .before .before .before .before .lengthen .ensures (longer (c .before .before .before .before .before .before .before .before .before .before .before .before .before .before .before .before .before .before .before .before .before .before .before .before .before .before .before .before .before .before .before .before .args .table .now) (c .before .before .before .before .before .before .before .before .before .before .before .before .before .before .before .before .before .before .before .before .before .before .before .before .before .before .before .before .before .before .before .before .args .name .now) (c .before .before .before .before .before .before .before .before .before .before .before .before .before .before .before .before .before .before .before .before .before .before .before .before .before .before .before .before .before .before .before .before .args .answer .now) _ _ (c .before .before .before .before .before .before .before .before .before .before .before .before .before .before .before .before .before .before .before .before .before .before .before .before .before .before .before .before .answer-and-name .ensures) (c .before .before .before .before .before .before .before .before .before .before .before .before .before .before .before .before .before .before .before .before .before .before .before .before .«open» .ensures .number) (c .before .before .before .before .before .before .before .before .before .before .before .before .before .before .before .before .before .before .before .before .before .if1 .left) (sym (c .before .before .before .before .before .before .before .before .before .before .before .before .before .before .before .before .before .before .before .before .name-ok .ensures) ∙ c .before .before .before .before .before .before .before .before .before .before .before .before .before .before .before .before .before .before .before .if2 .taken) (geometryOf (c .before .before .before .before .before .before .before .before .before .before .before .before .before .before .before .before .before .geometry .result)) (c .before .before .before .before .before .before .before .before .before .before .before .before .before .before .before .before .before .geometry .ensures) _ (sym (c .before .before .before .before .before .before .before .before .before .before .before .before .k .given .1) ∙ c .before .before .before .before .before .before .before .before .before .before .before .before .before .before .find .ensures) _ _ (c .before .before .before .before .before .before .before .before .before .before .before .before .before .before .before .before .before .before .before .before .before .before .before .before .«open» .ensures .shown (c .before .before .before .before .before .before .before .before .before .before .before .before .before .before .before .before .before .before .before .before .before .if1 .left)) (c .before .before .before .before .before .before .before .before .before .before .before .before .before .before .before .before .before .before .before .before .before .before .before .before .«open» .ensures .longMap ∙ search needs) (c .before .before .before .before .before .before .before .before .before .before .before .before .before .before .before .before .before .before .before .before .before .before .before .before .«open» .ensures .longSlots ∙ search needs)))
+-- src/lib.rt:73:1
+returns-2 : tie.Need-returns-2
+returns-2 c = search needs
 
 pub extend-spec : {M : Type 1} → statement M
 extend-spec =
     tie.close
     (tie.spec
-    answer-and-name-requires
-    slice-aggregate-open
-    slice-aggregate-open-2
-    open-requires
+    few-tracks-requires
+    slice-aggregate-extend-in
+    extend-in-requires
     same-length
-    returns
-    name-ok-requires
     same-length-2
-    returns-2
-    geometry-requires
-    mul-n
-    cast-n
-    find-requires
-    enum-known-k
-    enum-told
+    returns
+    slice-aggregate-extend-in-2
+    extend-in-requires-2
     same-length-3
-    returns-3
-    slice-aggregate-lengthen
-    slice-aggregate-lengthen-2
-    lengthen-requires
     same-length-4
-    same-length-5
-    returns-4)
+    returns-2)

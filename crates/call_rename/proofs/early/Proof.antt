@@ -5,54 +5,44 @@ use borrow.Author.Needs.{needs}
 use Rattle.call_rename.proofs.early.Statement.{statement}
 use Rattle.call_rename.proofs.early.Tie as tie
 
--- src/lib.rt:22:9
+-- src/lib.rt:18:9
 and-another-requires : tie.Need-and-another-requires
 and-another-requires c κs = search needs
 
--- src/lib.rt:23:43
-slice-aggregate-open : tie.Need-slice-aggregate-open
-slice-aggregate-open c = search needs
+-- src/lib.rt:19:9
+open-to-read-requires : tie.Need-open-to-read-requires
+open-to-read-requires c κs = search needs
 
--- src/lib.rt:23:53
-slice-aggregate-open-2 : tie.Need-slice-aggregate-open-2
-slice-aggregate-open-2 c = search needs
-
--- src/lib.rt:23:9
-open-requires : tie.Need-open-requires
-open-requires c κs = search needs
-
--- src/lib.rt:25:9
+-- src/lib.rt:21:9
 returns : tie.Need-returns
-returns c = stopped (c .before .before .before .before .before .before .before .before .before .before .args .table .now) (c .before .before .before .before .before .before .before .before .before .before .args .old .now) (c .before .before .before .before .before .before .before .before .before .before .args .new .now) (c .before .before .before .before .before .before .before .before .before .before .args .answer) (c .before .before .before .«open» .result) (c .before .before .before .«open» .ensures .number ∙ ap (openNumber (c .before .before .before .before .before .before .before .before .before .before .args .table .now)) (c .before .before .before .before .before .before .and-another .ensures)) (c .if1 .taken)
+returns c = stopped (c .before .before .before .before .before .before .args .table .now) (c .before .before .before .before .before .before .args .old .now) (c .before .before .before .before .before .before .args .new .now) (c .before .before .before .before .before .before .args .answer) (c .before .open-to-read .result) (c .before .open-to-read .ensures ∙ ap (openNumber (c .before .before .before .before .before .before .args .table .now)) (c .before .before .and-another .ensures)) (c .if1 .taken)
 
--- src/lib.rt:27:8
+-- src/lib.rt:23:8
 name-ok-requires : tie.Need-name-ok-requires
 name-ok-requires c κs = search needs
 
--- src/lib.rt:28:9
+-- src/lib.rt:24:9
 returns-2 : tie.Need-returns-2
-returns-2 c = bad-old (c .before .before .before .before .before .before .before .before .before .before .before .before .args .table .now) (c .before .before .before .before .before .before .before .before .before .before .before .before .args .old .now) (c .before .before .before .before .before .before .before .before .before .before .before .before .args .new .now) (c .before .before .before .before .before .before .before .before .before .before .before .before .args .answer) (c .before .before .before .before .before .«open» .result) (c .before .before .before .before .before .«open» .ensures .number ∙ ap (openNumber (c .before .before .before .before .before .before .before .before .before .before .before .before .args .table .now)) (c .before .before .before .before .before .before .before .before .and-another .ensures)) (c .before .before .if1 .left) (sym (c .before .name-ok .ensures) ∙ c .if2 .left)
+returns-2 c = bad-old (c .before .before .before .before .before .before .before .before .args .table .now) (c .before .before .before .before .before .before .before .before .args .old .now) (c .before .before .before .before .before .before .before .before .args .new .now) (c .before .before .before .before .before .before .before .before .args .answer) (c .before .before .before .open-to-read .result) (c .before .before .before .open-to-read .ensures ∙ ap (openNumber (c .before .before .before .before .before .before .before .before .args .table .now)) (c .before .before .before .before .and-another .ensures)) (c .before .before .if1 .left) (sym (c .before .name-ok .ensures) ∙ c .if2 .left)
 
--- src/lib.rt:30:8
+-- src/lib.rt:26:8
 name-ok-requires-2 : tie.Need-name-ok-requires-2
 name-ok-requires-2 c κs = search needs
 
--- src/lib.rt:31:9
+-- src/lib.rt:27:9
 returns-3 : tie.Need-returns-3
-returns-3 c = bad-new (c .before .before .before .before .before .before .before .before .before .before .before .before .before .before .args .table .now) (c .before .before .before .before .before .before .before .before .before .before .before .before .before .before .args .old .now) (c .before .before .before .before .before .before .before .before .before .before .before .before .before .before .args .new .now) (c .before .before .before .before .before .before .before .before .before .before .before .before .before .before .args .answer) (c .before .before .before .before .before .before .before .«open» .result) (c .before .before .before .before .before .before .before .«open» .ensures .number ∙ ap (openNumber (c .before .before .before .before .before .before .before .before .before .before .before .before .before .before .args .table .now)) (c .before .before .before .before .before .before .before .before .before .before .and-another .ensures)) (c .before .before .before .before .if1 .left) (sym (c .before .before .before .name-ok .ensures) ∙ c .before .before .if2 .taken) (sym (c .before .name-ok2 .ensures) ∙ c .if3 .left)
+returns-3 c = bad-new (c .before .before .before .before .before .before .before .before .before .before .args .table .now) (c .before .before .before .before .before .before .before .before .before .before .args .old .now) (c .before .before .before .before .before .before .before .before .before .before .args .new .now) (c .before .before .before .before .before .before .before .before .before .before .args .answer) (c .before .before .before .before .before .open-to-read .result) (c .before .before .before .before .before .open-to-read .ensures ∙ ap (openNumber (c .before .before .before .before .before .before .before .before .before .before .args .table .now)) (c .before .before .before .before .before .before .and-another .ensures)) (c .before .before .before .before .if1 .left) (sym (c .before .before .before .name-ok .ensures) ∙ c .before .before .if2 .taken) (sym (c .before .name-ok2 .ensures) ∙ c .if3 .left)
 
--- src/lib.rt:17:1
+-- src/lib.rt:15:1
 returns-4 : tie.Need-returns-4
-returns-4 c = none-so-far (c .before .before .before .before .before .before .before .before .before .before .before .before .before .before .args .table .now) (c .before .before .before .before .before .before .before .before .before .before .before .before .before .before .args .old .now) (c .before .before .before .before .before .before .before .before .before .before .before .before .before .before .args .new .now) (c .before .before .before .before .before .before .before .before .before .before .before .before .before .before .args .answer) (c .before .before .before .before .before .before .before .«open» .result) (c .before .before .before .before .before .before .before .«open» .ensures .number ∙ ap (openNumber (c .before .before .before .before .before .before .before .before .before .before .before .before .before .before .args .table .now)) (c .before .before .before .before .before .before .before .before .before .before .and-another .ensures)) (c .before .before .before .before .if1 .left) (sym (c .before .before .before .name-ok .ensures) ∙ c .before .before .if2 .taken) (sym (c .before .name-ok2 .ensures) ∙ c .if3 .taken)
+returns-4 c = none-so-far (c .before .before .before .before .before .before .before .before .before .before .args .table .now) (c .before .before .before .before .before .before .before .before .before .before .args .old .now) (c .before .before .before .before .before .before .before .before .before .before .args .new .now) (c .before .before .before .before .before .before .before .before .before .before .args .answer) (c .before .before .before .before .before .open-to-read .result) (c .before .before .before .before .before .open-to-read .ensures ∙ ap (openNumber (c .before .before .before .before .before .before .before .before .before .before .args .table .now)) (c .before .before .before .before .before .before .and-another .ensures)) (c .before .before .before .before .if1 .left) (sym (c .before .before .before .name-ok .ensures) ∙ c .before .before .if2 .taken) (sym (c .before .name-ok2 .ensures) ∙ c .if3 .taken)
 
 pub early-spec : {M : Type 1} → statement M
 early-spec =
     tie.close
     (tie.spec
     and-another-requires
-    slice-aggregate-open
-    slice-aggregate-open-2
-    open-requires
+    open-to-read-requires
     returns
     name-ok-requires
     returns-2

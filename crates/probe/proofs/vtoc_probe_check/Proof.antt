@@ -1,6 +1,7 @@
 -- `probe::vtoc_probe_check` meets its contract: each return gives the number that the tests before it leave. Assumes nothing.
 use Rattle.probe.proofs.Numbers.{sound, unsound, wrong-length}
-use mathlib.Core.Path.{sym, _∙_}
+use Rattle.table_check.proofs.Room.{roomy-large}
+use mathlib.Core.Path.{refl, sym, _∙_}
 use borrow.Author.Needs.{needs}
 use Rattle.probe.proofs.vtoc_probe_check.Statement.{statement}
 use Rattle.probe.proofs.vtoc_probe_check.Tie as tie
@@ -23,7 +24,7 @@ slice-aggregate-check-2 c = search needs
 
 -- src/lib.rt:15:8
 check-requires : tie.Need-check-requires
-check-requires c κs = search needs
+check-requires c κs = (roomy-large (c .before .before .before .before .before .args .table .now) _ refl, refl)
 
 -- src/lib.rt:16:9
 returns-2 : tie.Need-returns-2

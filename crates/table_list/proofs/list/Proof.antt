@@ -5,6 +5,7 @@ use Rattle.model.proofs.Lists.{true-is}
 use Rattle.rules.specs.Reading.{readGeometry}
 use Rattle.table_list.proofs.Prepared.{is-taken, not-taken, ready, wrong-length}
 use Rattle.table_check.proofs.Lengths.{good-long}
+use Rattle.table_check.proofs.Room.{roomy-large}
 use borrow.Author.Needs.{needs}
 use Rattle.table_list.proofs.list.Statement.{statement}
 use Rattle.table_list.proofs.list.Tie as tie
@@ -35,7 +36,7 @@ returns c = (c .before .before .refusal-line .ensures .long, c .before .before .
 
 -- src/lib.rt:159:8
 check-requires : tie.Need-check-requires
-check-requires c κs = search needs
+check-requires c κs = (roomy-large (c .before .before .before .before .before .before .before .before .args .table .now) _ (c .before .before .before .before .before .before .before .before .pre .0), c .before .before .before .before .before .before .before .before .pre .1)
 
 -- src/lib.rt:160:9
 refusal-line-requires-2 : tie.Need-refusal-line-requires-2
