@@ -5,7 +5,7 @@ use names::Found;
 use set_change::Kept;
 use set_change::Records;
 ghost use mathlib.Core.Path.{_≡_};
-ghost use mathlib.Core.Bool.{true, cond};
+ghost use mathlib.Core.Bool.{true};
 ghost use mathlib.Core.Option.{some};
 ghost use mathlib.Core.List.{List, [], _++_};
 ghost use Prim.Native.Nat.{_*_, _≤_, _<_};
@@ -47,16 +47,6 @@ fn few_stay(k: Kept) -> bool
         return k.whole <= 3;
     }
     k.whole <= 2
-}
-
-// The slot that is freed, 0 for none.
-fn freed(few: bool, third: usize) -> usize
-    ensures { λ r. ⌜ r ≡ cond few third 0 ⌝ }
-{
-    if few {
-        return third;
-    }
-    0
 }
 
 // A data set cut: its records then, and whether it has three extents or fewer.
@@ -105,7 +95,7 @@ fn release_set(
     let c = cut_set(x, g, ttr, map);
     let mut one = c.one;
     let three = c.three;
-    giving::free_slot(empty, freed(c.few, x.third));
+    giving::free_slot(empty, commit::if_few(c.few, x.third));
     if commit::put_set(
         table,
         g,

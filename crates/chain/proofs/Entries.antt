@@ -11,7 +11,7 @@ use lib.ListN.{drop, getD, length, length-drop, length-take, replicate, take, ta
 use lib.Seq.{drop-cons, drop-drop, drop-nil, take-nil, take-take}
 use Rattle.model.specs.Basics.{be2, fill, flat, get2, part, zeros}
 use Rattle.model.specs.Model.{Geometry, Run, run}
-use Rattle.model.proofs.Lists.{and-l, and-r, by, clash, is-true, true-is}
+use Rattle.model.proofs.Lists.{and-l, and-r, by, clash, drop-take, is-true, true-is}
 use Rattle.rules.specs.Layout.{entry, fields5, format5, link, whole}
 use Rattle.rules.proofs.Bytes.{be2-back}
 use Rattle.rules.proofs.Fields.{field-at}
@@ -24,7 +24,7 @@ use Rattle.fields.proofs.Bytes10.{cyl-of, five-of, head-of, two-back}
 use Rattle.fields.proofs.Rows.{are→, →are}
 use Rattle.fields.proofs.Slots.{length-part}
 use Rattle.forms.proofs.Cutting.{cutAt, whole-cut}
-use Rattle.chain.specs.Entries.{Listed, Rows, entriesOf, entryOk}
+use Rattle.chain.specs.Entries.{HoldsRuns, Rows, entriesOf, entryOk}
 
 -- ---- one entry
 
@@ -148,16 +148,11 @@ header = replicate 4 0x05
 byte-part : (r : List ℕ) (i : ℕ) → i < length r → part i 1 r ≡ getD r i 0 ∷ []
 byte-part r i h = ap (take 1) (drop-cons r i 0 h)
 
-drop-take : {A : Type 0} (a b : ℕ) (l : List A) → drop a (take (a + b) l) ≡ take b (drop a l)
-drop-take zero b l = ap (λ (k : ℕ). take k l) (native.Mathlib.Nat.zero-add b)
-drop-take (suc a) b [] = ap (drop (suc a)) (take-nil (suc a + b)) ∙ sym (take-nil b)
-drop-take (suc a) b (x ∷ l) = let e : suc a + b ≡ suc (a + b) = omega arith in ap (λ (k : ℕ). drop (suc a) (take k (x ∷ l))) e ∙ drop-take a b l
-
 module _ (g : Geometry) (m : List ℕ) (n at : ℕ) (r : List ℕ) where
   abbrev F : List Run
   F = freeFrom m n at
 
-  listed-bad : (next : ℕ) → ((k : ℕ) → format5 g (take 26 F) k ≡ r → ⊥) → Listed g m n at r false next
+  listed-bad : (next : ℕ) → ((k : ℕ) → format5 g (take 26 F) k ≡ r → ⊥) → HoldsRuns g m n at r false next
   listed-bad next f =
       record { upTo = λ q. clash {b = false} q refl; rest = λ q. clash {b = false} q refl; yes = λ q. clash {b = false} q refl; no = λ q. f }
 
@@ -170,15 +165,15 @@ module _ (g : Geometry) (m : List ℕ) (n at : ℕ) (r : List ℕ) where
   front-is = ap (λ (l : List Run). fill 40 (flat (entry g) l)) (sym (take-take 8 26 F (omega arith)))
 
   rear-is : entriesOf g 18 (drop 8 F) ≡ fill 90 (flat (entry g) (drop 8 (take 26 F)))
-  rear-is = ap (λ (l : List Run). fill 90 (flat (entry g) l)) (sym (drop-take 8 18 F))
+  rear-is = ap (λ (l : List Run). fill 90 (flat (entry g) l)) (sym (drop-take 8 26 F))
 
-  pub header-bad : allAre 0x05 (part 0 4 r) ≡ false → (next : ℕ) → Listed g m n at r false next
+  pub header-bad : allAre 0x05 (part 0 4 r) ≡ false → (next : ℕ) → HoldsRuns g m n at r false next
   header-bad e next = listed-bad next (λ k q. clash (ap (allAre 0x05) (at-field 0 (omega arith) k q) ∙ is-true (→are 0x05 4)) e)
 
-  pub id-bad : length r ≡ 140 → (getD r 44 0 ≡ 0xF5 → ⊥) → (next : ℕ) → Listed g m n at r false next
+  pub id-bad : length r ≡ 140 → (getD r 44 0 ≡ 0xF5 → ⊥) → (next : ℕ) → HoldsRuns g m n at r false next
   id-bad l e next = listed-bad next (λ k q. e (ap (λ (x : List ℕ). getD x 0 0) (sym (byte-part r 44 (omega arith)) ∙ at-field 2 (omega arith) k q)))
 
-  pub front-bad : (ok : Bool) (t next : ℕ) → ok ≡ false → Rows g m n at 8 (part 4 40 r) ok t → Listed g m n at r false next
+  pub front-bad : (ok : Bool) (t next : ℕ) → ok ≡ false → Rows g m n at 8 (part 4 40 r) ok t → HoldsRuns g m n at r false next
   front-bad ok t next e x = listed-bad next (λ k q. x .no e (front-is ∙ sym (at-field 1 (omega arith) k q)))
 
   module _ (l : length r ≡ 140) (a : allAre 0x05 (part 0 4 r) ≡ true) (i : getD r 44 0 ≡ 0xF5) (t : ℕ) (x : Rows g m n at 8 (part 4 40 r) true t)
@@ -186,7 +181,7 @@ module _ (g : Geometry) (m : List ℕ) (n at : ℕ) (r : List ℕ) where
     rear : entriesOf g 18 (freeFrom m n t) ≡ fill 90 (flat (entry g) (drop 8 (take 26 F)))
     rear = ap (entriesOf g 18) (x .rest refl) ∙ rear-is
 
-    pub listed : Listed g m n at r ok next
+    pub listed : HoldsRuns g m n at r ok next
     unfolding format5
     listed =
         record {
@@ -206,5 +201,5 @@ module _ (g : Geometry) (m : List ℕ) (n at : ℕ) (r : List ℕ) where
           no = λ q k e. y .no q (rear ∙ sym (at-field 3 (omega arith) k e));
         }
 
-pub listed-at : (g : Geometry) (m : List ℕ) (n at : ℕ) (r r′ : List ℕ) (ok ok′ : Bool) (next : ℕ) → r ≡ r′ → ok ≡ ok′ → Listed g m n at r ok next → Listed g m n at r′ ok′ next
-listed-at g m n at r r′ ok ok′ next e o x = subst (λ (y : List ℕ). Listed g m n at y ok′ next) e (subst (λ (b : Bool). Listed g m n at r b next) o x)
+pub listed-at : (g : Geometry) (m : List ℕ) (n at : ℕ) (r r′ : List ℕ) (ok ok′ : Bool) (next : ℕ) → r ≡ r′ → ok ≡ ok′ → HoldsRuns g m n at r ok next → HoldsRuns g m n at r′ ok′ next
+listed-at g m n at r r′ ok ok′ next e o x = subst (λ (y : List ℕ). HoldsRuns g m n at y ok′ next) e (subst (λ (b : Bool). HoldsRuns g m n at r b next) o x)

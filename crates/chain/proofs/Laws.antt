@@ -27,7 +27,7 @@ use Rattle.label_check.specs.Marks.{units}
 use Rattle.label_check.proofs.Taking.{took-no, took-yes}
 use Rattle.chain.specs.declared.Member.{Member}
 use Rattle.chain.specs.Chain.{ChainGone, Held, chainFrom, isNone, nextOf}
-use Rattle.chain.specs.Entries.{Listed, linkOk}
+use Rattle.chain.specs.Entries.{HoldsRuns, linkOk}
 
 -- ---- the slots of a chain
 
@@ -231,7 +231,7 @@ module _ (g : Geometry) (limit : Limits g) (t m : List ℕ) (at k : ℕ) (s s′
   linked = part 135 5 record5
 
   -- the entries are not those of the free extents
-  pub held-bad : (r : Member) (rec : List ℕ) (ok : Bool) (next : ℕ) → rec ≡ record5 → Listed g m (tracks g) at rec ok next → ok ≡ false → r .ok ≡ false → Held g t m f5 k s s′ r
+  pub held-bad : (r : Member) (rec : List ℕ) (ok : Bool) (next : ℕ) → rec ≡ record5 → HoldsRuns g m (tracks g) at rec ok next → ok ≡ false → r .ok ≡ false → Held g t m f5 k s s′ r
   held-bad r rec ok next z y f o =
       record {
         long = x .long;
@@ -245,7 +245,7 @@ module _ (g : Geometry) (limit : Limits g) (t m : List ℕ) (at k : ℕ) (s s′
         no = λ q us w c i h. y .no f (nextOf g (drop 26 f5) record5) (h ∙ sym z);
       }
 
-  module _ (bytes : Bytes t) (long : length record5 ≡ 140) (behind : ℕ) (y : Listed g m (tracks g) at record5 true behind) where
+  module _ (bytes : Bytes t) (long : length record5 ≡ 140) (behind : ℕ) (y : HoldsRuns g m (tracks g) at record5 true behind) where
     long-link : length linked ≡ 5
     long-link = length-part 135 5 record5 (omega arith)
 

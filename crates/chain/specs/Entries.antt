@@ -27,7 +27,7 @@ pub record Rows (g : Geometry) (m : List ℕ) (n at w : ℕ) (x : List ℕ) (ok 
   pub no : ok ≡ false → entriesOf g w (freeFrom m n at) ≡ x → ⊥
 
 -- whether the record r is, but for its link, the format 5 of the first 26 runs from track `at` on
-pub record Listed (g : Geometry) (m : List ℕ) (n at : ℕ) (r : List ℕ) (ok : Bool) (next : ℕ) : Type 0 where
+pub record HoldsRuns (g : Geometry) (m : List ℕ) (n at : ℕ) (r : List ℕ) (ok : Bool) (next : ℕ) : Type 0 where
   pub upTo : ok ≡ true → next ≤ n
   pub rest : ok ≡ true → freeFrom m n next ≡ drop 26 (freeFrom m n at)
   pub yes : ok ≡ true → (k : ℕ) → link g k ≡ part 135 5 r → format5 g (take 26 (freeFrom m n at)) k ≡ r

@@ -10,7 +10,7 @@ ghost use Rattle.rules.proofs.Valid.{Limits};
 ghost use Rattle.tracks.specs.Map.{freeFrom};
 ghost use Rattle.forms.specs.Forms.{geometryOf};
 ghost use Rattle.chain.specs.Chain.{ChainGone, Held};
-ghost use Rattle.chain.specs.Entries.{Listed, Rows, entryOk, linkOk};
+ghost use Rattle.chain.specs.Entries.{HoldsRuns, Rows, entryOk, linkOk};
 
 // One format 5: whether it holds what it must, whether it is the last, and where the chain goes on: the slot, and the
 // track whose free extents are the first there.
@@ -86,7 +86,7 @@ fn entries_are(x: &[u8], w: usize, map: &[u64], n: usize, at: usize, g: Geometry
 // Whether the record is, but for its link, the format 5 of the first 26 runs of free tracks from track `at` on.
 fn compare(rec: &[u8], map: &[u64], n: usize, at: usize, g: Geometry) -> Compared
     requires { ⌜ (length (now rec) ≡ 140) × (at ≤ n) × (n ≤ 64 * length (now map)) × (n ≤ 65535) × Limits (geometryOf g) ⌝ }
-    ensures { λ r. ⌜ Listed (geometryOf g) (now (map .entry)) n at (now (rec .entry)) (r .ok) (r .next) ⌝ }
+    ensures { λ r. ⌜ HoldsRuns (geometryOf g) (now (map .entry)) n at (now (rec .entry)) (r .ok) (r .next) ⌝ }
 {
     if fields::part_is(rec, 0, 4, 0x05) {} else {
         return Compared { ok: false, next: n };

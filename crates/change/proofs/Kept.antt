@@ -7,10 +7,10 @@ use native.Mathlib.Nat.{lt-of-not-le, zero-add}
 use native.Mathlib.Decide.{decLe}
 use native.Mathlib.Omega.{arith}
 use lib.ListN.{length, take, drop}
-use lib.Seq.{drop-drop, take-nil, take-take}
+use lib.Seq.{drop-drop, take-take}
 use Rattle.model.specs.Basics.{bit}
 use Rattle.model.specs.Model.{Geometry, Run, Separate, covers, run, runs, times}
-use Rattle.model.proofs.Lists.{All, sum-append}
+use Rattle.model.proofs.Lists.{All, drop-take, sum-append}
 use Rattle.model.proofs.Runs.{above, below, canonical, hit-above, runs-separate, runs-times}
 use Rattle.rules.specs.Layout.{fives, format5, headOr0}
 use Rattle.rules.specs.Reading.{recordAt}
@@ -94,11 +94,6 @@ module _ (p q : ℕ → Bool) (n k a c : ℕ) (rest : List Run) (e : drop k (run
       sym (canonical q 0 n (take k old ++ new)
       (subst (λ (h : ℕ). Separate 0 h (take k old ++ new)) (sym (zero-add n)) (joined n a c rest 0 k old new old-apart e new-apart)) covered)
 
-drop-take : {A : Type 0} (a b : ℕ) (l : List A) → drop a (take (a + b) l) ≡ take b (drop a l)
-drop-take zero b l = ap (λ (k : ℕ). take k l) (zero-add b)
-drop-take (suc a) b [] = ap (drop (suc a)) (take-nil (suc a + b)) ∙ sym (take-nil b)
-drop-take (suc a) b (x ∷ l) = let e : suc a + b ≡ suc (a + b) = omega arith in ap (λ (k : ℕ). drop (suc a) (take k (x ∷ l))) e ∙ drop-take a b l
-
 -- ---- members of a chain that hold the same free extents in two tables
 
 pub fives-drop : (i : ℕ) (ks : List ℕ) (f : List Run) → fives (drop i ks) (drop (26 * i) f) ≡ drop i (fives ks f)
@@ -131,4 +126,4 @@ same-members g rs rs′ (suc i) (k ∷ ks) f f′ e a b = (
     later = back f ∙ ap (drop 26) e ∙ sym (back f′)
       where
         back : (x : List Run) → take (26 * i) (drop 26 x) ≡ drop 26 (take (26 * suc i) x)
-        back x = let n : 26 * suc i ≡ 26 + 26 * i = omega arith in sym (ap (λ (j : ℕ). drop 26 (take j x)) n ∙ drop-take 26 (26 * i) x)
+        back x = let n : 26 * suc i - 26 ≡ 26 * i = omega arith in sym (drop-take 26 (26 * suc i) x ∙ ap (λ (j : ℕ). take j (drop 26 x)) n)

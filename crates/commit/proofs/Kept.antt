@@ -28,15 +28,12 @@ use Rattle.change.specs.Pending.{recordOf}
 use Rattle.change.proofs.Kept.{fives-drop, runs-kept, same-members}
 use Rattle.change.proofs.Laws.{fives-of, slot-of}
 use Rattle.writing.specs.Writing.{Reached, chainEntry}
+use Rattle.writing.proofs.Slots.{entry-is}
 
 -- where a format 5 has an entry, it starts with the first track of that
 first-start : (g : Geometry) (f : List Run) (next : ℕ) → get2 (format5 g f next) 4 ≡ getD f 0 (run 0 0) .start
 unfolding format5
 first-start g f next = ap (λ (r : Run). r .start) (entry-at g f next 0 (omega arith))
-
-entry-is : (ks : List ℕ) (i : ℕ) → chainEntry ks i ≡ getD ks i 0
-unfolding chainEntry
-entry-is ks i = refl
 
 bits-same : (a b : Bool) → bit a ≡ bit b → a ≡ b
 bits-same true true e = refl
@@ -104,7 +101,7 @@ module _ (v w : Volume) (hv : Valid v) (hw : Valid w) (geo : w .geometry ≡ v .
   at-is : at ≡ first .start
   at-is =
       start
-      ∙ ap (λ (j : ℕ). get2 (slotBytes (encode v) j) 4) (entry-is (w .chain) from ∙ ap (λ (ks : List ℕ). getD ks from 0) (sym same))
+      ∙ ap (λ (j : ℕ). get2 (slotBytes (encode v) j) 4) (sym (entry-is (w .chain) from) ∙ ap (λ (ks : List ℕ). getD ks from 0) (sym same))
       ∙ ap (λ (r : List ℕ). get2 r 4) (slot-of v hv k k-inside ∙ sym five)
       ∙ first-start g (take 26 (drop (26 * from) f)) (headOr0 (drop (suc from) (v .chain)))
       ∙ ap (λ (fs : List Run). getD (take 26 fs) 0 (run 0 0) .start) split

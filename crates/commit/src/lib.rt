@@ -38,7 +38,7 @@ fn asked_for(slot: usize, third: usize, few: bool) -> usize
 }
 
 // The slot of a format 3 that is freed, since three extents or fewer need none.
-fn if_few(few: bool, third: usize) -> usize
+pub fn if_few(few: bool, third: usize) -> usize
     ensures { λ r. ⌜ r ≡ cond few third 0 ⌝ }
 {
     if few {

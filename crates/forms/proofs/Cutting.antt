@@ -2,11 +2,11 @@
 use mathlib.Core.Path.{_≡_, sym, ap, _∙_, subst}
 use mathlib.Core.List.{List, [], _∷_, _++_}
 use Prim.Native.Nat.{ℕ, zero, suc, _+_, _-_, _≤_, _<_, _/_, _%_}
-use native.Mathlib.Nat.{sub-zero}
 use native.Mathlib.Omega.{arith}
 use lib.Dec.{T}
 use lib.ListN.{length, getD, take, drop, replicate, drop-of-length-le, length-replicate, take-append-drop, replicate-append-replicate}
 use lib.Seq.{drop-at, drop-cons, drop-drop, getD-drop, take-at, take-nil, take-take}
+use Rattle.model.proofs.Lists.{drop-take}
 use Rattle.model.specs.Basics.{be2, be3, get2, get3, part, sumOf, zeros}
 use Rattle.rules.specs.Layout.{whole}
 use Rattle.fields.specs.Records.{Bytes}
@@ -69,12 +69,6 @@ pub alike-is : (v n : ℕ) (xs : List ℕ) → xs ≡ replicate n v → T (allAr
 alike-is v n xs e = subst (λ (y : List ℕ). T (allAre v y)) (sym e) (→are v n)
 
 -- ---- parts of parts
-
-drop-take : (j n : ℕ) (l : List ℕ) → drop j (take n l) ≡ take (n - j) (drop j l)
-drop-take zero n l = ap (λ (k : ℕ). take k l) (sym (sub-zero n))
-drop-take (suc j) zero l = let e : 0 - suc j ≡ 0 = omega arith in ap (λ (k : ℕ). take k (drop (suc j) l)) (sym e)
-drop-take (suc j) (suc n) [] = sym (take-nil (suc n - suc j))
-drop-take (suc j) (suc n) (x ∷ l) = let e : n - j ≡ suc n - suc j = omega arith in drop-take j n l ∙ ap (λ (k : ℕ). take k (drop j l)) e
 
 pub part-part : (i n j m : ℕ) (r : List ℕ) → j + m ≤ n → part j m (part i n r) ≡ part (i + j) m r
 part-part i n j m r h = ap (take m) (drop-take j n (drop i r)) ∙ take-take m (n - j) (drop j (drop i r)) (omega arith) ∙ ap (take m) (drop-drop j i r)

@@ -7,6 +7,7 @@ use lib.Seq.{take-append-le, take-all, take-take, drop-append-le}
 use lib.ListN.{length, drop-of-length-le, drop, set, take, length-replicate, length-drop}
 use Rattle.model.specs.Basics.{fill, zeros}
 use Rattle.model.specs.Model.{Extent, Geometry, Label}
+use Rattle.model.proofs.Lists.{drop-take}
 use Rattle.rules.specs.Layout.{extentBytes, extentsBytes, fields3, format3, whole}
 use Rattle.rules.specs.Slots.{withExtents}
 use Rattle.rules.proofs.Bytes.{length-fill}
@@ -14,7 +15,7 @@ use Rattle.rules.proofs.LabelBack.{lengths3, lens3}
 use Rattle.records.specs.Blank.{blank}
 use Rattle.records.specs.Put.{putAt}
 use Rattle.records.proofs.Extents.{extent-more, extents-first}
-use Rattle.records.proofs.Filling.{drop-snoc, drop-take, take-snoc, take-swap}
+use Rattle.records.proofs.Filling.{drop-snoc, take-snoc, take-swap}
 use Rattle.records.proofs.Putting.{lengths-set, put-field}
 use Rattle.labels.specs.Labels.{Format3, added, firstExtents}
 

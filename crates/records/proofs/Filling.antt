@@ -120,13 +120,6 @@ module _ {A : Type 0} where
   drop-snoc n xs x h =
       drop-of-length-le (xs ++ x ∷ []) {i = n} (simp length-append (omega arith)) ∙ sym (drop-of-length-le xs {i = n} (omega arith))
 
-  -- a part of the first n
-  pub drop-take : (k n : ℕ) (xs : List A) → drop k (take n xs) ≡ take (n - k) (drop k xs)
-  drop-take zero n xs = let e : n ≡ n - 0 = omega arith in ap (λ (m : ℕ). take m xs) e
-  drop-take (suc k) zero xs = let e : 0 ≡ 0 - suc k = omega arith in ap (λ (m : ℕ). take m (drop (suc k) xs)) e
-  drop-take (suc k) (suc n) [] = sym (take-nil (suc n - suc k))
-  drop-take (suc k) (suc n) (x ∷ xs) = let e : n - k ≡ suc n - suc k = omega arith in drop-take k n xs ∙ ap (λ (m : ℕ). take m (drop k xs)) e
-
   pub take-swap : (k n : ℕ) (xs : List A) → take k (take n xs) ≡ take n (take k xs)
   take-swap zero n xs = sym (take-nil n)
   take-swap (suc k) zero xs = refl

@@ -94,7 +94,7 @@ pub record Chaining (g : Geometry) (m ks t₀ t : List ℕ) (from start at i : �
 pub chain-begin : (g : Geometry) (m ks t : List ℕ) (from start : ℕ) → from ≤ length ks → start ≤ tracks g → Chaining g m ks t t from start start from
 chain-begin g m ks t from start u v = record { upTo = u; atUp = v; long = refl; rest = refl }
 
-entry-is : (ks : List ℕ) (i : ℕ) → getD ks i 0 ≡ chainEntry ks i
+pub entry-is : (ks : List ℕ) (i : ℕ) → getD ks i 0 ≡ chainEntry ks i
 unfolding chainEntry
 entry-is ks i = refl
 

@@ -9,7 +9,7 @@ use Rattle.call_release.proofs.release_set.Reads as reads
 use Rattle.call_release.proofs.release_set.Lts as lts
 use Rattle.answers.proofs.put_back.Reads as put-back-reads
 use Rattle.call_release.proofs.cut_set.Reads as cut-set-reads
-use Rattle.call_release.proofs.freed.Reads as freed-reads
+use Rattle.commit.proofs.if_few.Reads as if-few-reads
 use Rattle.call_release.proofs.good_ttr.Reads as good-ttr-reads
 use Rattle.commit.proofs.put_set.Reads as put-set-reads
 use Rattle.giving.proofs.free_slot.Reads as free-slot-reads
@@ -38,12 +38,12 @@ cut-set-requires c κs =
     (ttr-fits (c .before .before .before .before .before .before .before .before .before .args .ttr) (c .before .before .before .measure .result .tracks) (sym (c .before .before .good-ttr .ensures) ∙ c .before .if1 .taken) .0, c .before .before .before .before .before .before .before .before .before .pre .0 .2, x .known .set, cut-fits _ _ _ _ _ _ (x .known))
 
 -- src/lib.rt:107:30
-freed-requires : tie.Need-freed-requires
-freed-requires c κs = search needs
+if-few-requires : tie.Need-if-few-requires
+if-few-requires c κs = search needs
 
 -- src/lib.rt:107:5
 free-slot-requires : tie.Need-free-slot-requires
-free-slot-requires c κs = (c .before .before .before .before .before .before .before .before .before .before .before .before .before .before .before .before .pre .0 .3, freed-small (c .before .before .before .before .before .before .cut-set .result .few) (c .before .before .before .before .before .before .before .before .before .before .measure .result .third) (c .freed .result) _ _ (c .freed .ensures) (c .before .before .before .before .before .before .before .before .before .before .measure .ensures _ _ (c .before .before .before .before .before .before .before .before .before .before .before .before .before .before .before .before .pre .1) .known .slot3) (third-small _ _ _ _ _ (c .before .before .before .before .before .before .before .before .before .before .before .before .before .before .before .before .pre .1)) (c .before .before .before .before .before .before .before .before .before .before .before .before .before .before .before .before .pre .0 .0 .most))
+free-slot-requires c κs = (c .before .before .before .before .before .before .before .before .before .before .before .before .before .before .before .before .pre .0 .3, freed-small (c .before .before .before .before .before .before .cut-set .result .few) (c .before .before .before .before .before .before .before .before .before .before .measure .result .third) (c .if-few .result) _ _ (c .if-few .ensures) (c .before .before .before .before .before .before .before .before .before .before .measure .ensures _ _ (c .before .before .before .before .before .before .before .before .before .before .before .before .before .before .before .before .pre .1) .known .slot3) (third-small _ _ _ _ _ (c .before .before .before .before .before .before .before .before .before .before .before .before .before .before .before .before .pre .1)) (c .before .before .before .before .before .before .before .before .before .before .before .before .before .before .before .before .pre .0 .0 .most))
 
 cast-put-set : tie.Need-cast-put-set
 cast-put-set c = search needs
@@ -55,7 +55,7 @@ put-set-requires c κs =
     let y = c .before .before .before .before .before .before .before .before .before .before .before .before .before .before .before .cut-set .ensures _ (x .known) in
     let z = fits _ _ _ _ _ (c .before .before .before .before .before .before .before .before .before .before .before .before .before .before .before .before .before .before .before .before .before .before .before .before .before .pre .1) (c .before .before .before .before .before .before .before .before .before .before .before .before .before .before .before .before .before .before .before .before .before .before .before .before .before .pre .0 .3) (c .before .before .before .before .before .before .before .before .before .before .before .before .before .before .before .before .before .before .before .before .before .before .before .before .before .pre .0 .2) _ _ _ _ _ _ _ x (c .before .before .before .before .before .before .before .before .before .before .before .before .before .before .before .cut-set .last .1 .1 .1 .0) (c .before .before .before .before .before .before .before .before .free-slot .last .0) (y .long) (c .before .before .before .before .before .before .before .before .free-slot .ensures .long) in (
       (z .0, z .1, z .2, z .3, z .4, z .5, z .6, z .7, search needs),
-      draft _ _ _ _ _ (c .before .before .before .before .before .before .before .before .before .before .before .before .before .before .before .before .before .before .before .before .before .before .before .before .before .pre .1) (c .before .before .before .before .before .before .before .before .before .before .before .before .before .before .before .before .before .before .before .before .before .before .before .before .before .args .ttr) _ _ _ _ _ _ _ x (sym (c .before .before .before .before .before .before .before .before .before .before .before .before .before .before .before .before .before .before .good-ttr .ensures) ∙ c .before .before .before .before .before .before .before .before .before .before .before .before .before .before .before .before .before .if1 .taken) _ _ _ _ y _ _ (c .before .before .before .before .before .before .before .before .before .freed .ensures) (c .before .before .before .before .before .before .before .before .free-slot .ensures),
+      draft _ _ _ _ _ (c .before .before .before .before .before .before .before .before .before .before .before .before .before .before .before .before .before .before .before .before .before .before .before .before .before .pre .1) (c .before .before .before .before .before .before .before .before .before .before .before .before .before .before .before .before .before .before .before .before .before .before .before .before .before .args .ttr) _ _ _ _ _ _ _ x (sym (c .before .before .before .before .before .before .before .before .before .before .before .before .before .before .before .before .before .before .good-ttr .ensures) ∙ c .before .before .before .before .before .before .before .before .before .before .before .before .before .before .before .before .before .if1 .taken) _ _ _ _ y _ _ (c .before .before .before .before .before .before .before .before .before .if-few .ensures) (c .before .before .before .before .before .before .before .before .free-slot .ensures),
     )
 
 -- src/lib.rt:109:9
@@ -72,7 +72,7 @@ same-length-4 c = search needs
 
 -- src/lib.rt:109:9
 returns-2 : tie.Need-returns-2
-returns-2 c = λ d. full _ _ _ _ _ d (c .before .before .before .before .before .before .before .before .before .before .before .before .before .before .before .before .before .before .before .before .before .before .before .before .before .before .before .before .before .before .before .args .ttr) _ _ _ _ _ _ _ (c .before .before .before .before .before .before .before .before .before .before .before .before .before .before .before .before .before .before .before .before .before .before .before .before .before .measure .ensures _ _ d) (sym (c .before .before .before .before .before .before .before .before .before .before .before .before .before .before .before .before .before .before .before .before .before .before .before .before .good-ttr .ensures) ∙ c .before .before .before .before .before .before .before .before .before .before .before .before .before .before .before .before .before .before .before .before .before .before .before .if1 .taken) _ _ _ _ (c .before .before .before .before .before .before .before .before .before .before .before .before .before .before .before .before .before .before .before .before .before .cut-set .ensures _ (c .before .before .before .before .before .before .before .before .before .before .before .before .before .before .before .before .before .before .before .before .before .before .before .before .before .measure .ensures _ _ d .known)) _ _ (c .before .before .before .before .before .before .before .before .before .before .before .before .before .before .before .freed .ensures) (c .before .before .before .before .before .before .before .before .before .before .before .before .before .before .free-slot .ensures) _ _ _ (c .before .before .before .before .before .put-set .ensures) (c .if2 .left)
+returns-2 c = λ d. full _ _ _ _ _ d (c .before .before .before .before .before .before .before .before .before .before .before .before .before .before .before .before .before .before .before .before .before .before .before .before .before .before .before .before .before .before .before .args .ttr) _ _ _ _ _ _ _ (c .before .before .before .before .before .before .before .before .before .before .before .before .before .before .before .before .before .before .before .before .before .before .before .before .before .measure .ensures _ _ d) (sym (c .before .before .before .before .before .before .before .before .before .before .before .before .before .before .before .before .before .before .before .before .before .before .before .before .good-ttr .ensures) ∙ c .before .before .before .before .before .before .before .before .before .before .before .before .before .before .before .before .before .before .before .before .before .before .before .if1 .taken) _ _ _ _ (c .before .before .before .before .before .before .before .before .before .before .before .before .before .before .before .before .before .before .before .before .before .cut-set .ensures _ (c .before .before .before .before .before .before .before .before .before .before .before .before .before .before .before .before .before .before .before .before .before .before .before .before .before .measure .ensures _ _ d .known)) _ _ (c .before .before .before .before .before .before .before .before .before .before .before .before .before .before .before .if-few .ensures) (c .before .before .before .before .before .before .before .before .before .before .before .before .before .before .free-slot .ensures) _ _ _ (c .before .before .before .before .before .put-set .ensures) (c .if2 .left)
 
 -- src/lib.rt:111:43
 add-put-back : tie.Need-add-put-back
@@ -107,7 +107,7 @@ same-length-8 c = search needs
 
 -- src/lib.rt:87:1
 returns-3 : tie.Need-returns-3
-returns-3 c = λ d. cut-done _ _ _ _ _ d (c .before .before .before .before .before .before .before .before .before .before .before .before .before .before .before .before .before .before .before .before .before .before .before .before .before .before .before .before .before .before .before .before .before .before .before .before .args .ttr) _ _ _ _ _ _ _ (c .before .before .before .before .before .before .before .before .before .before .before .before .before .before .before .before .before .before .before .before .before .before .before .before .before .before .before .before .before .before .measure .ensures _ _ d) (sym (c .before .before .before .before .before .before .before .before .before .before .before .before .before .before .before .before .before .before .before .before .before .before .before .before .before .before .before .before .before .good-ttr .ensures) ∙ c .before .before .before .before .before .before .before .before .before .before .before .before .before .before .before .before .before .before .before .before .before .before .before .before .before .before .before .before .if1 .taken) _ _ _ _ (c .before .before .before .before .before .before .before .before .before .before .before .before .before .before .before .before .before .before .before .before .before .before .before .before .before .before .cut-set .ensures _ (c .before .before .before .before .before .before .before .before .before .before .before .before .before .before .before .before .before .before .before .before .before .before .before .before .before .before .before .before .before .before .measure .ensures _ _ d .known)) _ _ (c .before .before .before .before .before .before .before .before .before .before .before .before .before .before .before .before .before .before .before .before .freed .ensures) (c .before .before .before .before .before .before .before .before .before .before .before .before .before .before .before .before .before .before .before .free-slot .ensures) _ _ _ (c .before .before .before .before .before .before .before .before .before .before .put-set .ensures) (c .before .before .before .before .before .if2 .taken) _ (c .before .before .put-back .ensures)
+returns-3 c = λ d. cut-done _ _ _ _ _ d (c .before .before .before .before .before .before .before .before .before .before .before .before .before .before .before .before .before .before .before .before .before .before .before .before .before .before .before .before .before .before .before .before .before .before .before .before .args .ttr) _ _ _ _ _ _ _ (c .before .before .before .before .before .before .before .before .before .before .before .before .before .before .before .before .before .before .before .before .before .before .before .before .before .before .before .before .before .before .measure .ensures _ _ d) (sym (c .before .before .before .before .before .before .before .before .before .before .before .before .before .before .before .before .before .before .before .before .before .before .before .before .before .before .before .before .before .good-ttr .ensures) ∙ c .before .before .before .before .before .before .before .before .before .before .before .before .before .before .before .before .before .before .before .before .before .before .before .before .before .before .before .before .if1 .taken) _ _ _ _ (c .before .before .before .before .before .before .before .before .before .before .before .before .before .before .before .before .before .before .before .before .before .before .before .before .before .before .cut-set .ensures _ (c .before .before .before .before .before .before .before .before .before .before .before .before .before .before .before .before .before .before .before .before .before .before .before .before .before .before .before .before .before .before .measure .ensures _ _ d .known)) _ _ (c .before .before .before .before .before .before .before .before .before .before .before .before .before .before .before .before .before .before .before .before .if-few .ensures) (c .before .before .before .before .before .before .before .before .before .before .before .before .before .before .before .before .before .before .before .free-slot .ensures) _ _ _ (c .before .before .before .before .before .before .before .before .before .before .put-set .ensures) (c .before .before .before .before .before .if2 .taken) _ (c .before .before .put-back .ensures)
 
 pub release-set-spec : {M : Type 1} → statement M
 release-set-spec =
@@ -118,7 +118,7 @@ release-set-spec =
     same-length
     returns
     cut-set-requires
-    freed-requires
+    if-few-requires
     free-slot-requires
     cast-put-set
     put-set-requires
