@@ -16,7 +16,8 @@ use Rattle.opening.proofs.Laws.{Ready}
 use Rattle.change.proofs.Begin.{Alike}
 
 -- Beside the labels `others` of the volume that table t holds stands `label`, new or changed. It has the slots `slot` and
--- `third`, 0 for none; its records are `one` and `three`; the maps m and s show what the volume holds with it, and m below track lo what it held before.
+-- `third`, 0 for none; its records are `one` and `three`; the maps m and s show what the volume holds with it, and m below
+-- track lo what it held before.
 pub record Draft (g : Geometry) (t m s : List ℕ) (was lo slot third : ℕ) (few : Bool) (one three : List ℕ) : Type 0 where
   pub volume : Volume
   pub others : List Label

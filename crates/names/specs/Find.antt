@@ -54,10 +54,9 @@ distinctFrom t k (suc n) = newAt t k && distinctFrom t (suc k) n
 unfoldable pub distinct : List ℕ → ℕ → Bool
 distinct t n = distinctFrom t 0 n
 
--- ---- a number made of a name: any function of it would do
+-- ---- a number made of a name: any function of it would do, it tells most names apart that differ
 
--- A number made of a name, so that most names that differ are told apart by it: any number would do, equal names have equal
--- ones. The words of eight characters one upon the other,
+-- the words of eight characters one upon the other,
 unfoldable pub mixed : List ℕ → ℕ
 mixed s = bitXor (bitXor (bitXor (word8 s 0) (word8 s 8)) (bitXor (word8 s 16) (word8 s 24))) (bitXor (word8 s 32) (word8 s 36))
 

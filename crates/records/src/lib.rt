@@ -208,7 +208,7 @@ fn empty_five(g: Geometry, k: usize) -> [u8; 140]
 
 // Makes the record the format 5 for the first 26 runs of free tracks from track `at` on and below n, with slot k as the next
 // one, 0 for none; the result is the track from which the runs go on that it has no room for. It is made where it stands in
-// the table: a record that is built elsewhere and copied costs as much as ten entries.
+// the table: to build it elsewhere and copy it costs more.
 pub fn five(rec: &mut [u8], map: &[u64], n: usize, at: usize, g: Geometry, k: usize) -> usize
     requires { ⌜ (length (now rec) ≡ 140) × (at ≤ n) × (n ≤ 64 * length (now map)) × (n ≤ 65535) × (k < slots (geometryOf g)) × Limits (geometryOf g) ⌝ }
     ensures { λ r. ⌜ Fills (geometryOf g) (now (map .entry)) n at k (now (rec .exit)) r ⌝ }
