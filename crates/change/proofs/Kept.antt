@@ -1,5 +1,5 @@
 -- The beginning of a chain that a change leaves alone: the free extents before the first track that changes. Assumes nothing.
-use mathlib.Core.Path.{_≡_, refl, sym, ap, _∙_, subst}
+use mathlib.Core.Path.{_≡_, refl, sym, ap, ap₂, _∙_, subst}
 use mathlib.Core.Bool.{Bool}
 use mathlib.Core.List.{List, [], _∷_, _++_}
 use Prim.Native.Nat.{ℕ, zero, suc, _+_, _-_, _*_, _≤_, _<_}
@@ -107,15 +107,33 @@ fives-drop (suc i) (k ∷ ks) f = ap (fives (drop i ks)) more ∙ fives-drop i k
     more : drop (26 * suc i) f ≡ drop (26 * i) (drop 26 f)
     more = ap (λ (n : ℕ). drop n f) twenty-six ∙ sym (drop-drop (26 * i) 26 f)
 
-pub same-members : (g : Geometry) (rs rs′ : List (List ℕ)) (i : ℕ) (ks : List ℕ) (f f′ : List Run) → take (26 * i) f ≡ take (26 * i) f′
-    → All (FiveOk g rs) (fives ks f) → All (FiveOk g rs′) (fives ks f′) → All (λ k. recordAt rs k ≡ recordAt rs′ k) (take i ks)
-same-members g rs rs′ zero ks f f′ e a b = tt
-same-members g rs rs′ (suc i) [] f f′ e a b = tt
-same-members g rs rs′ (suc i) (k ∷ ks) f f′ e a b = (
-  sym (a .0) ∙ ap (λ (x : List Run). format5 g x (headOr0 ks)) first ∙ b .0,
-  same-members g rs rs′ i ks (drop 26 f) (drop 26 f′) later (a .1) (b .1),
+-- two chains that begin alike link their first members alike
+next-alike : (i : ℕ) (ks ks′ : List ℕ) → take (suc i) ks ≡ take (suc i) ks′ → headOr0 ks ≡ headOr0 ks′
+next-alike i ks ks′ e = sym (front ks) ∙ ap headOr0 e ∙ front ks′
+  where
+    front : (x : List ℕ) → headOr0 (take (suc i) x) ≡ headOr0 x
+    front [] = refl
+    front (k ∷ x) = refl
+
+pub same-members : (g : Geometry) (rs rs′ : List (List ℕ)) (i : ℕ) (ks ks′ : List ℕ) (f f′ : List Run) → take (suc i) ks ≡ take (suc i) ks′ → take (26 * i) f ≡ take (26 * i) f′
+    → All (FiveOk g rs) (fives ks f) → All (FiveOk g rs′) (fives ks′ f′) → All (λ k. recordAt rs k ≡ recordAt rs′ k) (take i ks)
+same-members g rs rs′ zero ks ks′ f f′ c e a b = tt
+same-members g rs rs′ (suc i) [] ks′ f f′ c e a b = tt
+same-members g rs rs′ (suc i) (k ∷ ks) [] f f′ c e a b = absurd (let z : _≡_ {A = ℕ} (suc (length (take (suc i) ks))) 0 = ap length c in omega arith)
+same-members g rs rs′ (suc i) (k ∷ ks) (k′ ∷ ks′) f f′ c e a b = (
+  sym (a .0)
+      ∙ ap₂ (λ (x : List Run) (n : ℕ). format5 g x n) first (next-alike i ks ks′ rest)
+      ∙ b .0
+      ∙ ap (recordAt rs′) (sym head),
+  same-members g rs rs′ i ks ks′ (drop 26 f) (drop 26 f′) rest later (a .1) (b .1),
 )
   where
+    head : k ≡ k′
+    head = ap headOr0 c
+
+    rest : take (suc i) ks ≡ take (suc i) ks′
+    rest = ap (drop 1) c
+
     first : take 26 f ≡ take 26 f′
     first = sym (front f) ∙ ap (take 26) e ∙ front f′
       where

@@ -1,12 +1,12 @@
 -- A data set taken out: slots settled and records written make the volume that `settle` leaves. Assumes nothing.
-use mathlib.Core.Path.{_≡_, refl, sym, ap, ap₂, _∙_, subst}
+use mathlib.Core.Path.{_≡_, refl, sym, ap, _∙_, subst}
 use mathlib.Core.Bool.{Bool, true, false, cond}
 use mathlib.Core.Option.{none, some}
 use mathlib.Core.List.{List, [], _∷_, _++_}
-use Prim.Native.Nat.{ℕ, _+_, _≤_, _<_}
+use Prim.Native.Nat.{ℕ, _+_, _≤_, _<_, min}
 use native.Mathlib.Omega.{arith}
 use lib.ListN.{length, take, drop}
-use lib.Seq.{slice}
+use lib.Seq.{slice, take-take}
 use lib.Dec.{eqb}
 use Rattle.model.specs.Basics.{bit}
 use Rattle.model.specs.Model.{Geometry, Label, Run, Volume, fivesFor, free, held, oneSlot, slots, slotsOf, tally, total, tracks, used}
@@ -23,7 +23,7 @@ use Rattle.change.proofs.Begin.{Alike}
 use Rattle.settling.specs.Settling.{Chained, Settles}
 use Rattle.writing.specs.Writing.{Reached, cleared, fivesPut, fourPut}
 use Rattle.commit.specs.Commit.{Becomes, Left}
-use Rattle.commit.proofs.Kept.{Stay, stay}
+use Rattle.commit.proofs.Kept.{Stay, same-chain, stay}
 use Rattle.commit.proofs.Core.{cleared-both, emptied, finished, settled-chain}
 use Rattle.commit.proofs.Put.{chain-tail, empty-of, free-of, slots-eq}
 
@@ -68,14 +68,15 @@ module _ (g : Geometry) (t m s : List ℕ) (was lo slot third : ℕ) (d : Left g
         let b = sum-append (λ y. bit (eqb y x)) (oneSlot slot) (oneSlot third) in
         omega arith
 
-    module _ (from at : ℕ) (reached : Reached t (take need c′) lo from at) (when : 1 ≤ from → was ≡ need) where
+    module _ (from at : ℕ) (reached : Reached t (take (min was need) c′) lo from at) where
       staying : Stay v w m need from at
       staying =
-          stay v w (d .ready .valid) hw (sym (d .geometryIs)) m lo need (subst (λ (x : Geometry). Shows m lo (held x (v .labels))) (sym (d .geometryIs)) (d .below))
-          (free-of g m (d .others) (d .shownTracks)) from at
-          (subst (λ (x : List ℕ). Reached x (take need c′) lo from at) (d .ready .bytes) reached)
-          (λ p. sym read-chain ∙ ap₂ (λ (n : ℕ) (x : List ℕ). take n x) (when p) (sym (st .tail (let e = when p in omega arith))))
-          (λ p. sym (d .members) ∙ when p)
+          stay v w (d .ready .valid) hw (sym (d .geometryIs)) m lo (min was need) need (omega arith) (subst (λ (x : Geometry). Shows m lo (held x (v .labels))) (sym (d .geometryIs)) (d .below))
+          (free-of g m (d .others) (d .shownTracks))
+          (same-chain c c′ (v .chain) was need read-chain (st .first))
+          from at
+          (subst (λ (ks : List ℕ). Reached (encode v) ks lo from at) (sym (take-take (min was need) need c′ (omega arith)))
+          (subst (λ (x : List ℕ). Reached x (take (min was need) c′) lo from at) (d .ready .bytes) reached))
 
       pub drop-done : (t₁ t₂ t₃ t₄ : List ℕ) → t₁ ≡ cleared t (slice need was c′) → t₂ ≡ cleared t₁ (oneSlot slot) → t₃ ≡ cleared t₂ (oneSlot third)
           → t₄ ≡ fourPut g (fivesPut g t₃ (fives (drop from (take need c′)) (freeFrom m (tracks g) at))) (total (freeFrom s′ (slots g) 0))

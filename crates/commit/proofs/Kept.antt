@@ -3,14 +3,14 @@
 use mathlib.Core.Path.{_≡_, refl, sym, ap, ap₂, _∙_, subst}
 use mathlib.Core.Bool.{Bool, true, false}
 use mathlib.Core.List.{List, [], _∷_, _++_}
-use Prim.Native.Nat.{ℕ, zero, suc, _+_, _-_, _*_, _≤_, _<_}
+use Prim.Native.Nat.{ℕ, zero, suc, _+_, _-_, _*_, _≤_, _<_, min}
 use native.Mathlib.Omega.{arith}
 use lib.ListN.{length, take, drop, getD, length-take}
-use lib.Seq.{drop-append-seam, drop-cons, take-append-seam, take-length}
+use lib.Seq.{drop-append-seam, drop-cons, getD-take, take-append-seam, take-take}
 use lib.Dec.{eqb}
 use Rattle.model.specs.Basics.{bit, get2}
 use Rattle.model.specs.Model.{Geometry, Label, Run, Volume, fivesFor, free, gaps, held, run, runs, slots, tally, times, tracks, used}
-use Rattle.model.proofs.Lists.{All, All-at, All-drop, sum-take}
+use Rattle.model.proofs.Lists.{All, All-at, All-drop, All-take, sum-take}
 use Rattle.model.proofs.Runs.{bit-zero, runs-separate}
 use Rattle.rules.specs.Demand3.{readEntry}
 use Rattle.rules.specs.Layout.{Five, encode, fives, format5, headOr0, records}
@@ -60,10 +60,11 @@ from-is : (m : List ℕ) (n a : ℕ) → freeFrom m n a ≡ runs (isFree m) a (n
 unfolding freeFrom
 from-is m n a = refl
 
-module _ (v w : Volume) (hv : Valid v) (hw : Valid w) (geo : w .geometry ≡ v .geometry) (m : List ℕ) (lo from at : ℕ)
+-- the two chains have their first j members in common
+module _ (v w : Volume) (hv : Valid v) (hw : Valid w) (geo : w .geometry ≡ v .geometry) (m : List ℕ) (lo j from at : ℕ)
     (below : Shows m lo (held (v .geometry) (v .labels))) (now : freeFrom m (tracks (w .geometry)) 0 ≡ free (w .geometry) (w .labels))
-    (same : v .chain ≡ w .chain) (later : 1 ≤ from) (inside : from < length (w .chain))
-    (start : at ≡ get2 (slotBytes (encode v) (chainEntry (w .chain) from)) 4) (low : at ≤ lo) where
+    (same : take j (v .chain) ≡ take j (w .chain)) (later : 1 ≤ from) (inside : from < length (take j (w .chain)))
+    (start : at ≡ get2 (slotBytes (encode v) (chainEntry (take j (w .chain)) from)) 4) (low : at ≤ lo) where
   abbrev g : Geometry
   g = v .geometry
 
@@ -76,8 +77,15 @@ module _ (v w : Volume) (hv : Valid v) (hw : Valid w) (geo : w .geometry ≡ v .
   abbrev k : ℕ
   k = getD (v .chain) from 0
 
+  in-common : from < j
+  in-common = let l = length-take j (w .chain) in omega (arith, inside)
+
   in-chain : from < length (v .chain)
-  in-chain = omega (arith, inside, ap length same)
+  in-chain = let l = length-take j (v .chain) in omega (arith, inside, ap length same)
+
+  -- fewer members are in common too
+  pub common : (i : ℕ) → i ≤ j → take i (v .chain) ≡ take i (w .chain)
+  common i u = sym (take-take i j (v .chain) u) ∙ ap (take i) same ∙ take-take i j (w .chain) u
 
   -- there are more free extents than the members before hold
   more : 26 * from < length f
@@ -101,7 +109,8 @@ module _ (v w : Volume) (hv : Valid v) (hw : Valid w) (geo : w .geometry ≡ v .
   at-is : at ≡ first .start
   at-is =
       start
-      ∙ ap (λ (j : ℕ). get2 (slotBytes (encode v) j) 4) (sym (entry-is (w .chain) from) ∙ ap (λ (ks : List ℕ). getD ks from 0) (sym same))
+      ∙ ap (λ (q : ℕ). get2 (slotBytes (encode v) q) 4)
+      (sym (entry-is (take j (w .chain)) from) ∙ ap (λ (ks : List ℕ). getD ks from 0) (sym same) ∙ getD-take j (v .chain) from 0 in-common)
       ∙ ap (λ (r : List ℕ). get2 r 4) (slot-of v hv k k-inside ∙ sym five)
       ∙ first-start g (take 26 (drop (26 * from) f)) (headOr0 (drop (suc from) (v .chain)))
       ∙ ap (λ (fs : List Run). getD (take 26 fs) 0 (run 0 0) .start) split
@@ -128,11 +137,12 @@ module _ (v w : Volume) (hv : Valid v) (hw : Valid w) (geo : w .geometry ≡ v .
   front = sym (ap (take (26 * from)) joined ∙ ap (λ (j : ℕ). take j (take (26 * from) f ++ freeFrom m n at)) (sym full) ∙ take-append-seam (take (26 * from) f) (freeFrom m n at))
 
   -- the members before are right as they stand
-  pub chain-kept : All (λ j. recordOf v j ≡ recordOf w j) (take from (w .chain))
+  pub chain-kept : All (λ k. recordOf v k ≡ recordOf w k) (take from (w .chain))
   chain-kept =
-      same-members g (records v) (records w) from (w .chain) f (free (w .geometry) (w .labels)) front
-      (subst (λ (ks : List ℕ). All (FiveOk g (records v)) (fives ks f)) same (fives-of v hv))
-      (subst (λ (x : Geometry). All (FiveOk x (records w)) (fives (w .chain) (free (w .geometry) (w .labels)))) geo (fives-of w hw))
+      subst (All (λ k. recordOf v k ≡ recordOf w k)) (common from (omega (arith, in-common)))
+      (same-members g (records v) (records w) from (v .chain) (w .chain) f (free (w .geometry) (w .labels)) (common (suc from) (omega (arith, in-common))) front
+      (fives-of v hv)
+      (subst (λ (x : Geometry). All (FiveOk x (records w)) (fives (w .chain) (free (w .geometry) (w .labels)))) geo (fives-of w hw)))
 
 -- the members before number `from` stay as they are, the others get the free extents from track `at` on
 pub record Stay (v w : Volume) (m : List ℕ) (need from at : ℕ) : Type 0 where
@@ -140,31 +150,47 @@ pub record Stay (v w : Volume) (m : List ℕ) (need from at : ℕ) : Type 0 wher
   pub kept : All (λ j. recordOf v j ≡ recordOf w j) (take from (w .chain))
   pub old : (k : ℕ) → tally k (take from (w .chain)) ≤ tally k (take need (v .chain))
 
-module _ (v w : Volume) (hv : Valid v) (hw : Valid w) (geo : w .geometry ≡ v .geometry) (m : List ℕ) (lo need : ℕ)
-    (below : Shows m lo (held (v .geometry) (v .labels))) (now : freeFrom m (tracks (w .geometry)) 0 ≡ free (w .geometry) (w .labels)) where
-  pub stay : (from at : ℕ) → Reached (encode v) (w .chain) lo from at → (1 ≤ from → v .chain ≡ w .chain) → (1 ≤ from → length (v .chain) ≡ need) → Stay v w m need from at
-  stay zero at r same long =
+module _ (v w : Volume) (hv : Valid v) (hw : Valid w) (geo : w .geometry ≡ v .geometry) (m : List ℕ) (lo j need : ℕ) (fits : j ≤ need)
+    (below : Shows m lo (held (v .geometry) (v .labels))) (now : freeFrom m (tracks (w .geometry)) 0 ≡ free (w .geometry) (w .labels))
+    (same : take j (v .chain) ≡ take j (w .chain)) where
+  pub stay : (from at : ℕ) → Reached (encode v) (take j (w .chain)) lo from at → Stay v w m need from at
+  stay zero at r =
       record {
         rest = ap (freeFrom m (tracks (w .geometry))) (r .none refl) ∙ now;
         kept = tt;
         old = λ k. omega arith;
       }
-  stay (suc i) at r same long =
+  stay (suc i) at r =
       let p : 1 ≤ suc i = omega arith in
+      let u : suc i ≤ j = let l = length-take j (w .chain) in omega (arith, r .inside p) in
       record {
         rest = ap (λ (x : Geometry). freeFrom m (tracks x) at) geo
-            ∙ chain-rest v w hv hw geo m lo (suc i) at below now (same p) p (r .inside p) (r .start p) (r .low p);
-        kept = chain-kept v w hv hw geo m lo (suc i) at below now (same p) p (r .inside p) (r .start p) (r .low p);
+            ∙ chain-rest v w hv hw geo m lo j (suc i) at below now same p (r .inside p) (r .start p) (r .low p);
+        kept = chain-kept v w hv hw geo m lo j (suc i) at below now same p (r .inside p) (r .start p) (r .low p);
         old = λ k.
-            let a = sum-take (λ x. bit (eqb x k)) (suc i) (w .chain) in
-            let b = ap (tally k) (ap (λ (n : ℕ). take n (v .chain)) (sym (long p)) ∙ take-length (v .chain) ∙ same p) in
+            let a = sum-take (λ x. bit (eqb x k)) (suc i) (take need (v .chain)) in
+            let b = ap (tally k)
+            (take-take (suc i) need (v .chain) (omega arith)
+            ∙ common v w hv hw geo m lo j (suc i) at below now same p (r .inside p) (r .start p) (r .low p) (suc i) u) in
             omega arith;
       }
 
+-- the members of the old chain that stay are the first of the new one
+pub same-chain : (c c′ ks : List ℕ) (was need : ℕ) → take was c ≡ ks → take was c′ ≡ take was c → take (min was need) ks ≡ take (min was need) (take need c′)
+same-chain c c′ ks was need e f =
+    let j = min was need in
+    ap (take j) (sym e ∙ sym f) ∙ take-take j was c′ (omega arith) ∙ sym (take-take j need c′ (omega arith))
+
+pub common-low : (n was need j : ℕ) (c : List ℕ) → j ≡ min was need → need ≤ length c → All (λ k. k < n) (take need c) → (j ≤ length c) × All (λ k. k < n) (take j c)
+common-low n was need j c e u a = (omega arith, subst (All (λ k. k < n)) (take-take j need c (omega arith)) (All-take (λ k. k < n) j (take need c) a))
+
+pub reached-common : (t c : List ℕ) (was need j lo from at : ℕ) → j ≡ min was need → Reached t (take j c) lo from at → Reached t (take (min was need) c) lo from at
+reached-common t c was need j lo from at e r = subst (λ (i : ℕ). Reached t (take i c) lo from at) e r
+
 -- the place is one of the chain, and of the map
-pub place-in : (t c : List ℕ) (n lo from at : ℕ) → Reached t (take n c) lo from at → from ≤ n
-place-in t c n lo zero at r = omega arith
-place-in t c n lo (suc i) at r = let u = r .inside (omega arith) in let l = length-take n c in omega arith
+pub place-in : (t c : List ℕ) (was need lo from at : ℕ) → Reached t (take (min was need) c) lo from at → from ≤ need
+place-in t c was need lo zero at r = omega arith
+place-in t c was need lo (suc i) at r = let u = r .inside (omega arith) in let l = length-take (min was need) c in omega arith
 
 pub place-low : (t ks : List ℕ) (lo from at k : ℕ) → Reached t ks lo from at → lo ≤ k → at ≤ k
 place-low t ks lo zero at k r u = let z = r .none refl in omega arith

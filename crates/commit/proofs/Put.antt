@@ -3,12 +3,12 @@ use mathlib.Core.Path.{_≡_, refl, sym, ap, ap₂, _∙_, subst}
 use mathlib.Core.Bool.{Bool, true, false, cond}
 use mathlib.Core.Option.{Option, none, some}
 use mathlib.Core.List.{List, [], _∷_, _++_}
-use Prim.Native.Nat.{ℕ, zero, suc, _+_, _*_, _≤_, _<_}
+use Prim.Native.Nat.{ℕ, zero, suc, _+_, _*_, _≤_, _<_, min}
 use native.Mathlib.Nat.{lt-of-not-le}
 use native.Mathlib.Decide.{decLe}
 use native.Mathlib.Omega.{arith}
 use lib.ListN.{length, take, drop, getD, length-take, drop-of-length-le}
-use lib.Seq.{getD-take, slice}
+use lib.Seq.{getD-take, slice, take-take}
 use lib.Dec.{eqb}
 use borrow.Author.Tests.{eq-eqb}
 use Rattle.model.specs.Basics.{bit, flat}
@@ -31,7 +31,7 @@ use Rattle.settling.specs.Settling.{Chained, Settles}
 use Rattle.writing.specs.Writing.{Reached, cleared, fivesPut, fourPut, labelPut}
 use Rattle.writing.proofs.Changed.{label-pending}
 use Rattle.commit.specs.Commit.{Becomes, Draft}
-use Rattle.commit.proofs.Kept.{Stay, stay}
+use Rattle.commit.proofs.Kept.{Stay, same-chain, stay}
 use Rattle.commit.proofs.Core.{emptied, finished, settled-chain}
 
 pub free-of : (g : Geometry) (m : List ℕ) (ls : List Label) → Shows m (tracks g) (held g ls) → freeFrom m (tracks g) 0 ≡ free g ls
@@ -205,7 +205,7 @@ module _ (g : Geometry) (t m s : List ℕ) (was lo slot third : ℕ) (few : Bool
         none-left : fewExtents l ≡ true → l .slot3 ≡ 0
         none-left e = rw e
 
-        long : Prim.Native.Nat.min asked (length d′) ≡ askedBy l
+        long : min asked (length d′) ≡ askedBy l
         long =
             let a = asks-most few slot third in
             let b = st .longGiven in
@@ -285,13 +285,14 @@ module _ (g : Geometry) (t m s : List ℕ) (was lo slot third : ℕ) (few : Bool
         go true h = let z : q ≡ 0 = rw h in absurd (omega arith)
         go false h = d .writtenThird h
 
-    module _ (from at : ℕ) (reached : Reached t (take need c′) lo from at) (when : 1 ≤ from → was ≡ need) where
+    module _ (from at : ℕ) (reached : Reached t (take (min was need) c′) lo from at) where
       staying : Stay v w m need from at
       staying =
-          stay v w (d .ready .valid) hw (sym (d .geometryIs)) m lo need (subst (λ (x : Geometry). Shows m lo (held x (v .labels))) (sym (d .geometryIs)) (d .below)) free-w from at
-          (subst (λ (x : List ℕ). Reached x (take need c′) lo from at) (d .ready .bytes) reached)
-          (λ p. sym read-chain ∙ ap₂ (λ (n : ℕ) (x : List ℕ). take n x) (when p) (sym (st .tail (let e = when p in omega arith))))
-          (λ p. sym (d .members) ∙ when p)
+          stay v w (d .ready .valid) hw (sym (d .geometryIs)) m lo (min was need) need (omega arith) (subst (λ (x : Geometry). Shows m lo (held x (v .labels))) (sym (d .geometryIs)) (d .below)) free-w
+          (same-chain c c′ (v .chain) was need read-chain (st .first))
+          from at
+          (subst (λ (ks : List ℕ). Reached (encode v) ks lo from at) (sym (take-take (min was need) need c′ (omega arith)))
+          (subst (λ (x : List ℕ). Reached x (take (min was need) c′) lo from at) (d .ready .bytes) reached))
 
       written : (t₃ : List ℕ) → t₃ ≡ labelPut g (cleared (cleared t (drop need (v .chain))) (oneSlot (cond few third 0))) k q l₀ three
           → fourPut g (fivesPut g t₃ (fives (drop from (take need c′)) (freeFrom m (tracks g) at))) (total (freeFrom s′ (slots g) 0)) ≡ encode w

@@ -4,7 +4,7 @@ use forms::Geometry;
 use writing::Place;
 ghost use mathlib.Core.Path.{_≡_};
 ghost use mathlib.Core.Bool.{cond};
-ghost use Prim.Native.Nat.{_+_, _*_, _≤_, _<_};
+ghost use Prim.Native.Nat.{_+_, _*_, _≤_, _<_, min};
 ghost use lib.ListN.{drop, length, take, getD};
 ghost use Rattle.model.specs.Model.{slots, total, tracks};
 ghost use Rattle.model.proofs.Lists.{All};
@@ -70,16 +70,20 @@ fn third_slot(slot: usize, third: usize, few: bool, given: [u16; 2]) -> usize
     slot_or(third, given[0])
 }
 
-// Where the chain begins to be written, if the tracks below `lo` stay as they are: behind the members that tell of these only;
-// with its first member where it gets longer or shorter.
+// The lesser of two numbers.
+fn lesser(a: usize, b: usize) -> usize
+    ensures { λ r. ⌜ r ≡ min a b ⌝ }
+{
+    if a < b { a } else { b }
+}
+
+// Where the chain of `need` members, which were `was`, begins to be written, if the tracks below `lo` stay as they are: behind
+// the members that tell of these only. The last member that stays is written, since its link may change.
 fn chain_from(table: &[u8], g: Geometry, chain: &[u16], was: usize, need: usize, lo: usize) -> Place
     requires { ⌜ Limits (geometryOf g) × (length (now table) ≡ 140 * slots (geometryOf g)) × (need ≤ length (now chain)) × All (λ k. k < slots (geometryOf g)) (take need (now chain)) ⌝ }
-    ensures { λ r. ⌜ Reached (now (table .entry)) (take need (now (chain .entry))) lo (r .from) (r .at) × (1 ≤ r .from → was ≡ need) ⌝ }
+    ensures { λ r. ⌜ Reached (now (table .entry)) (take (min was need) (now (chain .entry))) lo (r .from) (r .at) ⌝ }
 {
-    if was != need {
-        return Place { from: 0, at: 0 };
-    }
-    writing::begin(table, g, chain, need, lo)
+    writing::begin(table, g, chain, lesser(was, need), lo)
 }
 
 // Writes the chain of format 5s from that place on, and the format 4 last.

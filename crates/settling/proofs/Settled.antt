@@ -89,6 +89,7 @@ module _ (g : Geometry) (s c d : List ℕ) (was need asked : ℕ) (long : was �
         longChain = refl;
         longGiven = refl;
         tail = λ u. refl;
+        first = refl;
         most = λ e. clash {b = false} e refl;
         done = λ draft e h finish. settle-none g (take was c) draft asked finish need e (too-few over draft h);
         shown = λ e. clash {b = false} e refl;
@@ -128,6 +129,7 @@ module _ (g : Geometry) (s c d : List ℕ) (was need asked : ℕ) (long : was �
           longChain = refl;
           longGiven = refl;
           tail = λ u. refl;
+          first = refl;
           most = λ e. clash {b = false} e refl;
           done = λ draft e h finish. settle-none g (take was c) draft asked finish need e (let n = count draft h in let m = new-is in omega arith);
           shown = λ e. clash {b = false} e refl;
@@ -209,6 +211,7 @@ module _ (g : Geometry) (s c d : List ℕ) (was need asked : ℕ) (long : was �
             longChain = z .long;
             longGiven = y .long;
             tail = z .none;
+            first = z .first;
             most = λ e. most;
             done = λ draft e h finish. is-some draft h e finish;
             shown = λ e. all-shown;

@@ -60,6 +60,7 @@ pub record Settles (g : Geometry) (s s′ c c′ d d′ : List ℕ) (was need as
   pub longChain : length c′ ≡ length c
   pub longGiven : length d′ ≡ length d
   pub tail : need ≤ was → c′ ≡ c
+  pub first : take was c′ ≡ take was c
   pub most : r ≡ true → need ≤ slots g
   pub done : (draft : List Label) → need ≡ fivesFor (length (free g draft)) → Shows s (slots g) (units (used draft (take was c)))
       → (finish : List ℕ → List Label)
