@@ -5,9 +5,12 @@ use Prim.Native.Nat.{ℕ, zero, suc, _+_, _-_, _*_, _/_, _%_, _^_, _≤_, _<_, m
 use native.Mathlib.Nat.{mul-one, pow-suc, mul-assoc, zero-div, div-one, div-eq-of-lt, lt-of-lt-of-le, lt-of-le-of-lt, lt-of-not-le}
 use native.Mathlib.Decide.{decLe}
 use native.Mathlib.Omega.{arith}
+use borrow.Author.Tests.{lt-ltb, le-ltb}
+use lib.Dec.{ltb}
 use lib.Count.{trailingZeros, under}
-use lib.Bits.{differ, bitAnd, bitOr, bitXor, and-shr, or-shr, xor-shr, and-step, or-step, xor-step, and-le-l, and-le-r, xor-lt, xor-add-and, shifted-even}
+use lib.Bits.{differ, bitAnd, bitOr, bitXor, and-shr, or-shr, xor-shr, and-step, or-step, xor-step, and-le-l, and-le-r, xor-lt, xor-add-and, or-add-and, shifted-even}
 use lib.Pow.{field, mod-mod-pow, pow-pos, pow-mono, pow-add, shl-lt, shl-shr, shr-shr, ones-lt, ones-split, high, shl-exact}
+use Rattle.model.specs.Basics.{bit}
 use Rattle.tracks.specs.Map.{bitAt}
 use Rattle.tracks.specs.Steps.{block}
 
@@ -195,3 +198,47 @@ trailing-one (suc k) y h = go (y % 2) (trailingZeros k (y / 2)) refl (trailing-o
     go : (d t : ℕ) → y % 2 ≡ d → (t < k → bitAt (y / 2) t ≡ 1) → under d t < suc k → bitAt y (under d t) ≡ 1
     go zero t e f h = sym (half-bit y t) ∙ f (omega arith)
     go (suc d) t e f h = lowest-bit y ∙ omega arith
+
+-- a word that is not 0 has a first bit that is set
+pub trailing-small : (k y : ℕ) → y < 2 ^ k → (y ≡ 0 → ⊥) → trailingZeros k y < k
+trailing-small k y h n =
+    let r = some-bit k y h n in
+    let u = r .1 in
+    let o = r .2 in
+    ⊎-elim (λ g. absurd (omega (arith, trailing-zero k y (r .0) (omega arith)))) (λ g. g) (le-or-lt k (trailingZeros k y))
+
+-- ---- one less
+
+-- where a is the first bit that is set in x, x - 1 has ones below it, a zero there, and the bits of x above
+pub one-less : (a y x : ℕ) → y + 1 ≡ x → ((i : ℕ) → i < a → bitAt x i ≡ 0) → bitAt x a ≡ 1 → (j : ℕ)
+    → (j < a → bitAt y j ≡ 1) × (j ≡ a → bitAt y j ≡ 0) × (a < j → bitAt y j ≡ bitAt x j)
+one-less zero y x e f g zero = (λ h. absurd (omega arith), λ h. omega (arith, lowest-bit x, lowest-bit y), λ h. absurd (omega arith))
+one-less zero y x e f g (suc j) =
+    let q : y / 2 ≡ x / 2 = omega (arith, lowest-bit x) in
+    (λ h. absurd (omega arith), λ h. absurd (omega arith), λ h. sym (half-bit y j) ∙ ap (λ (u : ℕ). bitAt u j) q ∙ half-bit x j)
+one-less (suc a) y x e f g zero =
+    let o = f 0 (omega arith) in
+    (λ h. omega (arith, lowest-bit x, lowest-bit y), λ h. absurd (omega arith), λ h. absurd (omega arith))
+one-less (suc a) y x e f g (suc j) =
+    let o = f 0 (omega arith) in
+    let q : y / 2 + 1 ≡ x / 2 = omega (arith, lowest-bit x) in
+    let r = one-less a (y / 2) (x / 2) q (λ i h. half-bit x i ∙ f (suc i) (omega arith)) (half-bit x a ∙ g) j in
+    let u = half-bit y j in
+    let v = half-bit x j in
+    (λ h. omega (arith, r .0 (omega arith)), λ h. omega (arith, r .1 (omega arith)), λ h. omega (arith, r .2 (omega arith)))
+
+-- ---- words compared by what is left of them
+
+pub or-none : (a b : ℕ) → bitOr a b ≡ 0 → (a ≡ 0) × (b ≡ 0)
+or-none a b z = let s = or-add-and a b in let u = and-le-l a b in let v = and-le-r a b in (omega arith, omega arith)
+
+pub xor-none : (a b : ℕ) → bitXor a b ≡ 0 → a ≡ b
+xor-none a b z = omega (arith, xor-add-and a b, and-le-l a b, and-le-r a b)
+
+-- the highest bit of a word
+pub top-bit : (x : ℕ) → x < 2 ^ 64 → bitAt x 63 ≡ 1 - bit (ltb x 0x8000_0000_0000_0000)
+top-bit x h =
+    ⊎-elim
+    (λ g. let e = ap bit (le-ltb x 0x8000_0000_0000_0000 g) in omega arith)
+    (λ g. let e = ap bit (lt-ltb x 0x8000_0000_0000_0000 g) in omega arith)
+    (le-or-lt 0x8000_0000_0000_0000 x)

@@ -6,17 +6,17 @@ use Prim.Native.Nat.{ℕ, zero, suc, _+_, _-_, _*_, _/_, _%_, _^_, _≤_, _<_, m
 use native.Mathlib.Nat.{add-zero, le-refl, lt-of-le-of-lt, mod-eq-of-lt, mod-lt}
 use native.Mathlib.Omega.{arith}
 use borrow.Author.Tests.{eq-eqb, ne-eqb}
-use lib.Dec.{eqb}
+use lib.Dec.{eqb, ltb}
 use lib.ListN.{length, getD}
 use lib.Bits.{bitAnd, bitOr, bitXor, and-le-l}
 use lib.Pow.{low, mod-pow-add, pow-pos, shl-shr}
 use lib.Count.{ones, ones-cat, ones-step}
 use Rattle.model.specs.Basics.{bit}
-use Rattle.model.specs.Model.{Run, run, runs, touch, join, joinIf, Separate}
+use Rattle.model.specs.Model.{Run, Separate, join, joinIf, run, runs, touch}
 use Rattle.model.proofs.Runs.{runs-separate}
 use Rattle.tracks.specs.Map.{bitAt, freeBit, isFree}
-use Rattle.tracks.specs.Steps.{Starts}
-use Rattle.tracks.proofs.Bits.{above-word, and-bit, not-bit, or-bit, shr-bit, up-bit, up-low}
+use Rattle.tracks.specs.Steps.{Passed, Starts}
+use Rattle.tracks.proofs.Bits.{above-word, and-bit, not-bit, or-bit, shr-bit, top-bit, up-bit, up-low}
 use Rattle.tracks.proofs.Words.{in-word}
 
 -- ---- joining a track to the runs behind it
@@ -168,29 +168,51 @@ module _ (m : List ℕ) (y r t : ℕ) (e : t % 64 ≡ 0) (q : bitAt y 63 ≡ bit
       let z : t + suc k ≡ suc (t + k) = omega arith in
       ap (λ (i : ℕ). length (runs (isFree m) 0 i)) z ∙ omega (arith, count-track m (t + k), count-turn k (omega arith), ones-more r k, start-bit k (omega arith))
 
-  -- the last track of the word is the one before the next word
-  pub last-bit : bitAt (getD m (t / 64) 0) 63 ≡ bitBefore m (t + 64)
-  last-bit =
-      let z : t + 64 ≡ suc (t + 63) = omega arith in
-      let w : (t + 63) % 64 ≡ 63 = omega arith in
-      ap (bitAt (getD m (t / 64) 0)) (sym w) ∙ in-word m (t / 64) (t + 63) (omega arith) ∙ sym (ap (bitBefore m) z)
+  pub count-part : (k : ℕ) → k ≤ 64 → length (runs (isFree m) 0 (t + k)) ≡ length (runs (isFree m) 0 t) + ones (r * 2 ^ (64 - k) % 2 ^ 64)
+  count-part k h = omega (arith, count-turn k h, ones-low r k h)
 
--- the same for word number w
-module _ (m : List ℕ) (y r w : ℕ) (q : bitAt y 63 ≡ bitBefore m (64 * w)) (s : Starts y (getD m w 0) r) where
-  at-word : Starts y (getD m (64 * w / 64) 0) r
-  at-word = let e : w ≡ 64 * w / 64 = omega arith in subst (λ (i : ℕ). Starts y (getD m i 0) r) e s
-
-  pub count-part : (k : ℕ) → k ≤ 64 → length (runs (isFree m) 0 (64 * w + k)) ≡ length (runs (isFree m) 0 (64 * w)) + ones (r * 2 ^ (64 - k) % 2 ^ 64)
-  count-part k h = omega (arith, count-turn m y r (64 * w) (omega arith) q at-word k h, ones-low r k h)
-
-  pub count-word : length (runs (isFree m) 0 (64 * (w + 1))) ≡ length (runs (isFree m) 0 (64 * w)) + ones r
+  pub count-word : length (runs (isFree m) 0 (t + 64)) ≡ length (runs (isFree m) 0 t) + ones r
   count-word =
-      let e : 64 * (w + 1) ≡ 64 * w + 64 = omega arith in
       let o : ones (r % 2 ^ 64) ≡ ones r = ap ones (mod-eq-of-lt (s .small)) in
-      ap (λ (i : ℕ). length (runs (isFree m) 0 i)) e ∙ omega (arith, count-turn m y r (64 * w) (omega arith) q at-word 64 (le-refl 64))
+      omega (arith, count-turn 64 (le-refl 64))
 
-  pub word-before : bitAt (getD m w 0) 63 ≡ bitBefore m (64 * (w + 1))
-  word-before =
-      let e : w ≡ 64 * w / 64 = omega arith in
-      let f : 64 * w + 64 ≡ 64 * (w + 1) = omega arith in
-      ap (λ (i : ℕ). bitAt (getD m i 0) 63) e ∙ last-bit m y r (64 * w) (omega arith) q at-word ∙ ap (bitBefore m) f
+-- the last track of a word is the one before the next word
+last-bit : (m : List ℕ) (t : ℕ) → t % 64 ≡ 0 → bitAt (getD m (t / 64) 0) 63 ≡ bitBefore m (t + 64)
+last-bit m t e =
+    let z : t + 64 ≡ suc (t + 63) = omega arith in
+    let w : (t + 63) % 64 ≡ 63 = omega arith in
+    ap (bitAt (getD m (t / 64) 0)) (sym w) ∙ in-word m (t / 64) (t + 63) (omega arith) ∙ sym (ap (bitBefore m) z)
+
+-- ---- tracks that are as the one before them: no run starts there
+
+count-same : (m : List ℕ) (b d t : ℕ) → b ≤ 1 → bitBefore m t ≡ b → ((j : ℕ) → t ≤ j → j < t + d → freeBit m j ≡ b)
+    → (length (runs (isFree m) 0 (t + d)) ≡ length (runs (isFree m) 0 t)) × (bitBefore m (t + d) ≡ b)
+count-same m b zero t l q f =
+    let z : t + 0 ≡ t = omega arith in
+    (ap (λ (i : ℕ). length (runs (isFree m) 0 i)) z, ap (bitBefore m) z ∙ q)
+count-same m b (suc d) t l q f =
+    let z : t + suc d ≡ suc (t + d) = omega arith in
+    let r = count-same m b d t l q (λ j u v. f j u (omega arith)) in
+    let o = f (t + d) (omega arith) (omega arith) in
+    let p = r .1 in (
+      ap (λ (i : ℕ). length (runs (isFree m) 0 i)) z ∙ omega (arith, count-track m (t + d), r .0),
+      ap (bitBefore m) z ∙ o,
+    )
+
+-- the words behind the one at t that are as its last track is
+module _ (m : List ℕ) (t n u : ℕ) (e : t % 64 ≡ 0) (fits : getD m (t / 64) 0 < 2 ^ 64)
+    (p : Passed m (ltb (getD m (t / 64) 0) 0x8000_0000_0000_0000) (t + 64) n u) where
+  on : (length (runs (isFree m) 0 (t + 64 + (u - (t + 64)))) ≡ length (runs (isFree m) 0 (t + 64))) × (bitBefore m (t + 64 + (u - (t + 64))) ≡ bitAt (getD m (t / 64) 0) 63)
+  on =
+      let f = p .from in
+      count-same m (bitAt (getD m (t / 64) 0) 63) (u - (t + 64)) (t + 64) (omega arith) (sym (last-bit m t e))
+      (λ j a b. p .before j a (omega arith) ∙ sym (top-bit (getD m (t / 64) 0) fits))
+
+  to-end : t + 64 + (u - (t + 64)) ≡ u
+  to-end = let f = p .from in omega arith
+
+  pub same-count : length (runs (isFree m) 0 u) ≡ length (runs (isFree m) 0 (t + 64))
+  same-count = ap (λ (i : ℕ). length (runs (isFree m) 0 i)) (sym to-end) ∙ on .0
+
+  pub same-bit : bitAt (getD m (t / 64) 0) 63 ≡ bitBefore m u
+  same-bit = sym (on .1) ∙ ap (bitBefore m) to-end

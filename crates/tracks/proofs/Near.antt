@@ -1,15 +1,16 @@
--- The 64 tracks from a track on as one word, and a run that ends within them. Assumes nothing.
-use mathlib.Core.Path.{_≡_, sym, ap, _∙_}
+-- Runs that end within one word: the 64 tracks from a track on, or the rest of its own word. Assumes nothing.
+use mathlib.Core.Path.{_≡_, refl, sym, ap, _∙_}
 use mathlib.Core.Logic.{⊎-elim}
 use mathlib.Core.List.{List}
 use Prim.Native.Nat.{ℕ, _+_, _-_, _*_, _/_, _%_, _^_, _≤_, _<_}
+use native.Mathlib.Nat.{le-refl}
 use native.Mathlib.Omega.{arith}
 use lib.ListN.{getD}
-use lib.Bits.{bitOr, bitXor}
+use lib.Bits.{bitAnd, bitOr, bitXor, or-lt}
 use lib.Count.{trailingZeros}
 use Rattle.tracks.specs.Map.{NextRun, bitAt, freeBit}
 use Rattle.tracks.specs.Steps.{Rest, Window}
-use Rattle.tracks.proofs.Bits.{above-word, le-or-lt, not-bit, or-bit, shr-bit, trailing-one, trailing-zero, up-bit, up-low}
+use Rattle.tracks.proofs.Bits.{above-word, all-ones, and-bit, le-or-lt, not-bit, one-less, or-bit, shr-bit, trailing-one, trailing-small, trailing-zero, up-bit, up-low, zero-bit}
 use Rattle.tracks.proofs.Counting.{free-le}
 use Rattle.tracks.proofs.Walk.{next-run-law}
 use Rattle.tracks.proofs.Words.{in-word}
@@ -17,10 +18,10 @@ use Rattle.tracks.proofs.Words.{in-word}
 -- ---- two words that join
 
 -- the tracks from t on that lie in its word
-abbrev pub front : List ℕ → ℕ → ℕ
+abbrev front : List ℕ → ℕ → ℕ
 front m t = getD m (t / 64) 0 / 2 ^ (t % 64)
 
-pub front-bit : (m : List ℕ) (t j : ℕ) → t % 64 + j < 64 → bitAt (front m t) j ≡ freeBit m (t + j)
+front-bit : (m : List ℕ) (t j : ℕ) → t % 64 + j < 64 → bitAt (front m t) j ≡ freeBit m (t + j)
 front-bit m t j h =
     let p : t % 64 + j ≡ (t + j) % 64 = omega arith in
     shr-bit (getD m (t / 64) 0) (t % 64) j ∙ ap (bitAt (getD m (t / 64) 0)) p ∙ in-word m (t / 64) (t + j) (omega arith)
@@ -72,12 +73,11 @@ module _ (x : ℕ) where
   abbrev pub tail : ℕ
   tail = bitXor (x / 2 ^ first) 0xffff_ffff_ffff_ffff
 
--- x shows k tracks from s on
-module _ (m : List ℕ) (s n x k : ℕ) (most : k ≤ 64) (seen : (j : ℕ) → j < k → bitAt x j ≡ freeBit m (s + j)) where
-  tail-bit : (i : ℕ) → first x + i < k → bitAt (tail x) i ≡ 1 - freeBit m (s + (first x + i))
+module _ (m : List ℕ) (s n x : ℕ) (seen : Window m s x) where
+  tail-bit : (i : ℕ) → first x + i < 64 → bitAt (tail x) i ≡ 1 - freeBit m (s + (first x + i))
   tail-bit i h = omega (arith, not-bit (x / 2 ^ first x) i (omega arith), shr-bit x (first x) i, seen (first x + i) h)
 
-  pub near-run : first x + trailingZeros 64 (tail x) < k → s + (first x + trailingZeros 64 (tail x)) < n → NextRun m n s (s + first x) (s + (first x + trailingZeros 64 (tail x)))
+  pub near-run : first x + trailingZeros 64 (tail x) < 64 → s + (first x + trailingZeros 64 (tail x)) < n → NextRun m n s (s + first x) (s + (first x + trailingZeros 64 (tail x)))
   near-run h room =
       let l = trailingZeros 64 (tail x) in
       next-run-law m n s (s + first x) (s + (first x + l))
@@ -100,8 +100,130 @@ module _ (m : List ℕ) (s n x k : ℕ) (most : k ≤ 64) (seen : (j : ℕ) → 
         here = λ _. omega (arith, tail-bit l h, trailing-one 64 (tail x) (omega arith));
       })
 
--- what x shows of a word, behind its first run
-pub rest-behind : (m : List ℕ) (n t x a b : ℕ) → Rest m n t x → a + b < 64 - t % 64 → Rest m n (t + (a + b)) (x / 2 ^ a / 2 ^ b)
-rest-behind m n t x a b seen r j h u =
-    let e : t + (a + (b + j)) ≡ t + (a + b) + j = omega arith in
-    shr-bit (x / 2 ^ a) b j ∙ shr-bit x a (b + j) ∙ seen (a + (b + j)) (omega arith) (omega arith) ∙ ap (freeBit m) e
+-- ---- the tracks from a track on, at their places in its word
+
+pub rest-law : (m : List ℕ) (n t : ℕ) → Rest m n t (bitAnd (getD m (t / 64) 0) (0xffff_ffff_ffff_ffff * 2 ^ (t % 64) % 2 ^ 64))
+rest-law m n t =
+    let x = getD m (t / 64) 0 in
+    let s = 0xffff_ffff_ffff_ffff * 2 ^ (t % 64) % 2 ^ 64 in
+    record {
+      clear = λ j h. omega (arith, and-bit x s j, up-low 0xffff_ffff_ffff_ffff (t % 64) j (omega arith) h);
+      shown = λ i u v w.
+          let k = i % 64 - t % 64 in
+          let p : t % 64 + k ≡ i % 64 = omega arith in
+          let o : bitAt s (i % 64) ≡ 1 = ap (bitAt s) (sym p) ∙ up-bit 0xffff_ffff_ffff_ffff (t % 64) k (omega arith) ∙ all-ones k (omega arith) in
+          omega (arith, and-bit x s (i % 64), in-word m (t / 64) i w, free-le m i);
+    }
+
+pub rest-none : (m : List ℕ) (n t : ℕ) → n ≤ t → Rest m n t 0
+rest-none m n t h = record { clear = λ j u. zero-bit j; shown = λ i u v w. absurd (omega arith) }
+
+-- ---- the first run of a word and its end, by one less and one more
+
+module _ (x : ℕ) (some : x ≡ 0 → ⊥) (fits : x < 2 ^ 64) (gap : bitOr x (x - 1) ≡ 0xffff_ffff_ffff_ffff → ⊥) where
+  -- x with ones below its first run; one more carries to the bit behind the run
+  abbrev filled : ℕ
+  filled = bitOr x (x - 1)
+
+  abbrev z : ℕ
+  z = filled + 1
+
+  abbrev start : ℕ
+  start = trailingZeros 64 x
+
+  abbrev stop : ℕ
+  stop = trailingZeros 64 z
+
+  pub more-fits : z < 2 ^ 64
+  more-fits = omega (arith, or-lt 64 x (x - 1) fits (omega arith))
+
+  pub start-lt : start < 64
+  start-lt = trailing-small 64 x fits some
+
+  pub stop-lt : stop < 64
+  stop-lt = trailing-small 64 z more-fits (λ e. absurd (omega arith))
+
+  less : (j : ℕ) → (j < start → bitAt (x - 1) j ≡ 1) × (j ≡ start → bitAt (x - 1) j ≡ 0) × (start < j → bitAt (x - 1) j ≡ bitAt x j)
+  less = one-less start (x - 1) x (omega arith) (trailing-zero 64 x) (trailing-one 64 x start-lt)
+
+  ends : (j : ℕ) → (j < stop → bitAt filled j ≡ 1) × (j ≡ stop → bitAt filled j ≡ 0) × (stop < j → bitAt filled j ≡ bitAt z j)
+  ends = one-less stop filled z refl (trailing-zero 64 z) (trailing-one 64 z stop-lt)
+
+  -- from the run on it is x
+  filled-high : (j : ℕ) → start ≤ j → bitAt filled j ≡ bitAt x j
+  filled-high j h =
+      ⊎-elim (λ g. omega (arith, or-bit x (x - 1) j, less j .1 (omega arith))) (λ g. omega (arith, or-bit x (x - 1) j, less j .2 g)) (le-or-lt j start)
+
+  upto-start : (j : ℕ) → j ≤ start → bitAt filled j ≡ 1
+  upto-start j h =
+      ⊎-elim
+      (λ g. let e : start ≡ j = omega arith in ap (bitAt filled) (sym e) ∙ filled-high start (le-refl start) ∙ trailing-one 64 x start-lt)
+      (λ g. omega (arith, or-bit x (x - 1) j, less j .0 g))
+      (le-or-lt start j)
+
+  start-stop : start < stop
+  start-stop =
+      ⊎-elim
+      (λ g. absurd (omega (arith, ends stop .1 refl, upto-start stop g)))
+      (λ g. g)
+      (le-or-lt stop start)
+
+  run-in : (j : ℕ) → start ≤ j → j < stop → bitAt x j ≡ 1
+  run-in j u v = sym (filled-high j u) ∙ ends j .0 v
+
+  run-end : bitAt x stop ≡ 0
+  run-end = let s = start-stop in sym (filled-high stop (omega arith)) ∙ ends stop .1 refl
+
+  left-low : (j : ℕ) → j < stop → bitAt (bitAnd x z) j ≡ 0
+  left-low j h = omega (arith, and-bit x z j, trailing-zero 64 z j h)
+
+  left-high : (j : ℕ) → stop ≤ j → bitAt (bitAnd x z) j ≡ bitAt x j
+  left-high j h =
+      let s = start-stop in
+      ⊎-elim
+      (λ g.
+      let e : stop ≡ j = omega arith in
+      let o : bitAt x j ≡ 0 = ap (bitAt x) (sym e) ∙ run-end in
+      omega (arith, and-bit x z j))
+      (λ g. omega (arith, and-bit x z j, ends j .2 g, filled-high j (omega arith)))
+      (le-or-lt j stop)
+
+  module _ (m : List ℕ) (n t : ℕ) (seen : Rest m n t x) (inside : t - t % 64 + stop < n) where
+    -- no bit before track t is set
+    from-t : t % 64 ≤ start
+    from-t = ⊎-elim (λ g. g) (λ g. absurd (omega (arith, seen .clear start g, trailing-one 64 x start-lt))) (le-or-lt (t % 64) start)
+
+    track : (i j : ℕ) → t % 64 ≤ j → j ≤ stop → t - t % 64 + j ≡ i → freeBit m i ≡ bitAt x j
+    track i j u v e =
+        let l = stop-lt in
+        let p : i % 64 ≡ j = omega arith in
+        sym (seen .shown i (omega arith) (omega arith) (omega arith)) ∙ ap (bitAt x) p
+
+    pub run-here : NextRun m n t (t - t % 64 + start) (t - t % 64 + stop)
+    run-here =
+        let f = from-t in
+        let s = start-stop in
+        let b = t - t % 64 in
+        next-run-law m n t (b + start) (b + stop)
+        (record {
+          from = omega arith;
+          to = omega arith;
+          before = λ i u v. track i (i - b) (omega arith) (omega arith) (omega arith) ∙ trailing-zero 64 x (i - b) (omega arith);
+          here = λ _. track (b + start) start f (omega arith) refl ∙ trailing-one 64 x start-lt;
+        })
+        (record {
+          from = omega arith;
+          to = omega arith;
+          before = λ i u v. track i (i - b) (omega arith) (omega arith) (omega arith) ∙ run-in (i - b) (omega arith) (omega arith);
+          here = λ _. track (b + stop) stop (omega arith) (le-refl stop) refl ∙ run-end;
+        })
+
+    pub rest-here : Rest m n (t - t % 64 + stop) (bitAnd x z)
+    rest-here =
+        let f = from-t in
+        let s = start-stop in
+        let l = stop-lt in
+        record {
+          clear = λ j h. left-low j (omega arith);
+          shown = λ i u v w. left-high (i % 64) (omega arith) ∙ seen .shown i (omega arith) v (omega arith);
+        }

@@ -5,6 +5,7 @@ use mathlib.Core.Logic.{⊎-elim}
 use mathlib.Core.List.{List}
 use Prim.Native.Nat.{ℕ, _+_, _-_, _*_, _/_, _%_, _^_, _≤_, _<_}
 use native.Mathlib.Decide.{ℕ-discrete}
+use native.Mathlib.Nat.{le-refl}
 use native.Mathlib.Omega.{arith}
 use borrow.Author.Tests.{lt-ltb}
 use lib.Dec.{ltb}
@@ -14,9 +15,9 @@ use lib.ListN.{length, getD, set, length-set}
 use lib.Seq.{getD-set-same, getD-set-other}
 use Rattle.model.specs.Basics.{bit}
 use Rattle.model.proofs.Lists.{clash}
-use Rattle.tracks.specs.Map.{bitAt, freeBit, AllFree, Hit, Made, Taken}
-use Rattle.tracks.specs.Steps.{block, flipped, WordAt}
-use Rattle.tracks.proofs.Bits.{le-or-lt, zero-bit, all-ones, and-bit, or-bit, xor-bit, block-low, block-in, block-high, block-lt, lacks, not-bit, shr-bit, trailing-zero, trailing-one}
+use Rattle.tracks.specs.Map.{AllFree, Hit, Made, Taken, bitAt, freeBit}
+use Rattle.tracks.specs.Steps.{Passed, WordAt, block, flipped}
+use Rattle.tracks.proofs.Bits.{all-ones, and-bit, block-high, block-in, block-low, block-lt, lacks, le-or-lt, not-bit, or-bit, or-none, shr-bit, trailing-one, trailing-zero, xor-bit, xor-none, zero-bit}
 
 -- the mask of the n tracks from t on, in t's word
 abbrev mask : ℕ → ℕ → ℕ
@@ -134,9 +135,46 @@ unfolding flipped
 plain-bit true i h = zero-bit i
 plain-bit false i h = let n = not-bit 0 i h in let z = zero-bit i in omega arith
 
-pub plain-word : (m : List ℕ) (b : Bool) (t : ℕ) → t % 64 ≡ 0 → getD m (t / 64) 0 ≡ flipped b 0 → (j : ℕ) → t ≤ j → j < t + 64 → freeBit m j ≡ 1 - bit b
+plain-word : (m : List ℕ) (b : Bool) (t : ℕ) → t % 64 ≡ 0 → getD m (t / 64) 0 ≡ flipped b 0 → (j : ℕ) → t ≤ j → j < t + 64 → freeBit m j ≡ 1 - bit b
 unfolding freeBit
 plain-word m b t e q j u v = let w : j / 64 ≡ t / 64 = omega arith in rw (w, q) (plain-bit b (j % 64) (omega arith))
+
+-- ---- words passed over
+
+pub pass-none : (m : List ℕ) (b : Bool) (s n : ℕ) → s ≤ n → Passed m b s n s
+pass-none m b s n h = record { from = le-refl s; to = h; whole = refl; before = λ j u v. absurd (omega arith) }
+
+module _ (m : List ℕ) (b : Bool) (s n p : ℕ) (plain : p ≡ flipped b 0) (first : s < n → s % 64 ≡ 0) where
+  pub pass-word : (r : ℕ) → Passed m b s n r → 64 ≤ n - r → getD m (r / 64) 0 ≡ p → Passed m b s n (r + 64)
+  pass-word r c h e =
+      let f = c .from in
+      let w = c .whole in
+      let o = first (omega arith) in
+      record {
+        from = omega arith;
+        to = omega arith;
+        whole = omega arith;
+        before = λ j u v. ⊎-elim (λ g. plain-word m b r (omega arith) (e ∙ plain) j g v) (λ g. c .before j u g) (le-or-lt r j);
+      }
+
+  -- the same for word number w
+  pass-at : (r w : ℕ) → Passed m b s n r → 64 ≤ n - r → r / 64 ≡ w → bitXor (getD m w 0) p ≡ 0 → Passed m b s n (r + 64)
+  pass-at r w c h e z = pass-word r c h (ap (λ (i : ℕ). getD m i 0) e ∙ xor-none (getD m w 0) p z)
+
+  -- four words that differ from plain ones in no bit
+  pub pass-four : (r : ℕ) → Passed m b s n r → 256 ≤ n - r
+      → bitOr (bitOr (bitXor (getD m (r / 64) 0) p) (bitXor (getD m (r / 64 + 1) 0) p)) (bitOr (bitXor (getD m (r / 64 + 2) 0) p) (bitXor (getD m (r / 64 + 3) 0) p)) ≡ 0
+      → Passed m b s n (r + 256)
+  pass-four r c h z =
+      let w = r / 64 in
+      let both = or-none (bitOr (bitXor (getD m w 0) p) (bitXor (getD m (w + 1) 0) p)) (bitOr (bitXor (getD m (w + 2) 0) p) (bitXor (getD m (w + 3) 0) p)) z in
+      let low = or-none (bitXor (getD m w 0) p) (bitXor (getD m (w + 1) 0) p) (both .0) in
+      let high = or-none (bitXor (getD m (w + 2) 0) p) (bitXor (getD m (w + 3) 0) p) (both .1) in
+      let one = pass-at r w c (omega arith) refl (low .0) in
+      let two = pass-at (r + 64) (w + 1) one (omega arith) (omega arith) (low .1) in
+      let three = pass-at (r + 64 + 64) (w + 2) two (omega arith) (omega arith) (high .0) in
+      let e : r + 64 + 64 + 64 + 64 ≡ r + 256 = omega arith in
+      subst (Passed m b s n) e (pass-at (r + 64 + 64 + 64) (w + 3) three (omega arith) (omega arith) (high .1))
 
 module _ (m : List ℕ) (b : Bool) (t n : ℕ) (k : t % 64 + n ≤ 64) where
   -- what the code counts the trailing zeros of: the word from track t on, complemented where b is false

@@ -1,5 +1,5 @@
 -- What the functions inside the map's loops promise: masks, words and single tracks. Assumes nothing.
-use Prim.Native.Nat.{ℕ, suc, _+_, _-_, _*_, _%_, _^_, _≤_, _<_, min}
+use Prim.Native.Nat.{ℕ, suc, _+_, _-_, _*_, _/_, _%_, _^_, _≤_, _<_, min}
 use mathlib.Core.Path.{_≡_}
 use mathlib.Core.Bool.{Bool, true, false}
 use mathlib.Core.List.{List}
@@ -28,15 +28,17 @@ pub record First (m : List ℕ) (b : Bool) (s n r : ℕ) : Type 0 where
   pub before : (t : ℕ) → s ≤ t → t < r → freeBit m t ≡ 1 - bit b
   pub here : r < n → freeBit m r ≡ bit b
 
--- no track from s up to r is free (b true), or all are (b false)
+-- no track from s up to r is free (b true), or all are (b false); they are whole words
 pub record Passed (m : List ℕ) (b : Bool) (s n r : ℕ) : Type 0 where
   pub from : s ≤ r
   pub to : r ≤ n
+  pub whole : r % 64 ≡ s % 64
   pub before : (t : ℕ) → s ≤ t → t < r → freeBit m t ≡ 1 - bit b
 
--- x shows the tracks from t on and below n that lie in its word, the first in the lowest bit
-abbrev pub Rest : List ℕ → ℕ → ℕ → ℕ → Type 0
-Rest m n t x = (j : ℕ) → t % 64 + j < 64 → t + j < n → bitAt x j ≡ freeBit m (t + j)
+-- x shows the tracks from t on and below n that lie in t's word, at their places in it; the bits before t are clear
+pub record Rest (m : List ℕ) (n t x : ℕ) : Type 0 where
+  pub clear : (j : ℕ) → j < t % 64 → bitAt x j ≡ 0
+  pub shown : (i : ℕ) → t ≤ i → i < n → i / 64 ≡ t / 64 → bitAt x (i % 64) ≡ freeBit m i
 
 -- the word of the 64 tracks from track t on
 abbrev pub Window : List ℕ → ℕ → ℕ → Type 0

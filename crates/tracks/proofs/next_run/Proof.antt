@@ -33,7 +33,7 @@ add-t20 c = search needs
 returns : tie.Need-returns
 returns c =
     let top = c .before .before .before .before .before in
-    near-run (top .args .map .now) (top .args .s) (top .args .n) (c .before .before .window .result) 64 (omega arith) (c .before .before .window .ensures) (c .if3 .taken) (omega arith)
+    near-run (top .args .map .now) (top .args .s) (top .args .n) (c .before .before .window .result) (c .before .before .window .ensures) (c .if3 .taken) (omega arith)
 
 next-track-requires : tie.Need-next-track-requires
 next-track-requires c κs = search needs
