@@ -78,7 +78,7 @@ pub fn take_range(map: &mut [u64], s: usize, e: usize) -> bool
     ensures { λ r. ⌜ Taken (now (map .entry)) (now (map .exit)) s e r ⌝ }
 {
     if s < e {
-        if e - s <= 64 - s % 64 {
+        if s / 64 == (e - 1) / 64 {
             return take_near(map, s, e);
         }
     }
@@ -114,7 +114,7 @@ pub fn give_range(map: &mut [u64], s: usize, e: usize)
     ensures { λ _. ⌜ Given (now (map .entry)) (now (map .exit)) s e ⌝ }
 {
     if s < e {
-        if e - s <= 64 - s % 64 {
+        if s / 64 == (e - 1) / 64 {
             give_near(map, s, e);
             return;
         }
