@@ -45,6 +45,8 @@ def words(body):
     body = strip_comments(body)
     body = re.sub(r"[^\s(){},;]*Rattle·\S+", " ", body)
     body = re.sub(r"([{;]\s*)[^\s(){},;]+ =", r"\1", body)  # the fields of a record that is made
+    body = re.sub(r"(?m)^(\s+)(?:pub )?[^\s(){}:]+ :", r"\1", body)  # and of one that is declared
+    body = re.sub(r"\blet [^\s(){}:]+ (?=[:=])", "let ", body)
     out = set()
     for w in WORD.findall(body):
         if w.startswith("."):
