@@ -19,7 +19,7 @@ enum { CYLINDERS = 404, HEADS = 19, RECORDS_A_TRACK = 39, VTOC_START = 1, VTOC_L
 
 static uint8_t table[VTOC_LENGTH * RECORDS_A_TRACK * VTOC_RECORD_LENGTH];
 static uint8_t answer[VTOC_ANSWER_LENGTH];
-static uint8_t before[sizeof table]; /* the table as it was before a call */
+static uint8_t table_before[sizeof table], answer_before[sizeof answer]; /* as they were before a call */
 
 /* ---- Names: ASCII to EBCDIC ---------------------------------------------------------------------------------------------- */
 
@@ -79,7 +79,7 @@ static void check(int holds, const char *what)
     }
 }
 
-/* A line about the call that follows, and a copy of the table to compare with where it is refused. */
+/* A line about the call that follows, and a copy of what it may write, to compare with where it is refused. */
 static void say(const char *format, ...)
 {
     va_list words;
@@ -88,19 +88,21 @@ static void say(const char *format, ...)
     vprintf(format, words);
     va_end(words);
     printf("\n");
-    memcpy(before, table, sizeof table);
+    memcpy(table_before, table, sizeof table);
+    memcpy(answer_before, answer, sizeof answer);
 }
 
 /* Ends the program where a call answered otherwise than the week needs. */
 static void expect(uint32_t result, uint32_t wanted)
 {
     if (result != wanted) {
-        printf("   refusal %lu (%s) where %lu (%s) was expected: the week ends here\n", (unsigned long)result, word_of(result),
+        printf("   result %lu (%s) where %lu (%s) was expected: the week ends here\n", (unsigned long)result, word_of(result),
                (unsigned long)wanted, word_of(wanted));
         exit(EXIT_FAILURE);
     }
     if (result != VTOC_OK) {
-        check(memcmp(table, before, sizeof table) == 0, "a refusal writes no byte");
+        check(memcmp(table, table_before, sizeof table) == 0 && memcmp(answer, answer_before, sizeof answer) == 0,
+              "a refusal writes no byte");
         printf("      refused, %lu: %s; no byte was written\n", (unsigned long)result, word_of(result));
     }
 }
@@ -174,10 +176,8 @@ static void obtain(const char *text)
     make_name(name, text);
     say("obtain %s", text);
     expect(vtoc_obtain(table, sizeof table, name, sizeof name, labels, sizeof labels, answer, sizeof answer), VTOC_OK);
-    for (unsigned e = 0; e < labels[59]; e++) {
-        const uint8_t *extent = e < 3   ? labels + 105 + 10 * e
-                                : e < 7 ? labels + VTOC_RECORD_LENGTH + 4 + 10 * (e - 3)
-                                        : labels + VTOC_RECORD_LENGTH + 45 + 10 * (e - 7);
+    for (unsigned e = 0; e < labels[VTOC_LABEL_EXTENTS]; e++) {
+        const uint8_t *extent = vtoc_label_extent(labels, e);
         printf("      extent %u: cylinder %d head %d to cylinder %d head %d%s\n", (unsigned)extent[1], extent[2] << 8 | extent[3],
                extent[4] << 8 | extent[5], extent[6] << 8 | extent[7], extent[8] << 8 | extent[9],
                extent[0] == 0x81 ? ", whole cylinders" : "");
@@ -193,7 +193,7 @@ static void space(void)
 {
     say("space inquiry");
     expect(vtoc_lspace(table, sizeof table, answer, sizeof answer), VTOC_OK);
-    printf("      free: %lu cylinders and %lu tracks in %lu extents, the longest %lu cylinders and %lu tracks; %lu records\n",
+    printf("      free: %lu cylinders and %lu tracks, extents: %lu, the longest %lu cylinders and %lu tracks; %lu records\n",
            space_number(VTOC_SPACE_CYLINDERS), space_number(VTOC_SPACE_ODD_TRACKS), space_number(VTOC_SPACE_EXTENTS),
            space_number(VTOC_SPACE_LONGEST_CYLINDERS), space_number(VTOC_SPACE_LONGEST_ODD), space_number(VTOC_SPACE_RECORDS));
 }

@@ -18,8 +18,8 @@
  * about lists of calls: each track lies in exactly one place, and the data sets are those that the replies have granted.
  *
  * WHAT THE HOST OWES, since no proof sees it
- *   - The buffers of one call do not overlap, not by a byte (`restrict` below). The same name may be lent to two calls, but in
- *     vtoc_rename the old and the new name are two buffers.
+ *   - The buffers of one call do not overlap, not by a byte (`restrict` below): a name does not point into the table or into
+ *     the labels of the same call, and in vtoc_rename the old and the new name are two buffers.
  *   - A pointer points to as many bytes as the length after it says; with length 0 it may be null.
  *   - Nobody else writes a lent buffer while the call runs, or reads one that the call may write.
  *   - Between two calls nobody but the host's own reading and writing of the volume changes the table. A table changed in some
@@ -28,7 +28,8 @@
  * A REFUSAL WRITES NO BYTE: not of the table, not of the answer, not of the labels. Nothing needs to be undone.
  *
  * THREADS. The library has no state of its own, takes no lock and makes no system call. Calls on different tables may run at
- * the same time. On one table vtoc_obtain and vtoc_lspace may run side by side; any other call needs the table to itself.
+ * the same time. On one table vtoc_obtain and vtoc_lspace may run side by side, each with an answer and labels of its own; any
+ * other call needs the table to itself.
  *
  * MEMORY. Nothing is allocated. A call needs less than VTOC_STACK_NEED bytes of stack (tests/stack.c measures it). Buffers need
  * no alignment.
@@ -92,7 +93,8 @@ extern "C" {
 #define VTOC_E_LENGTH 2
 
 /* 3, VTOC unsound: the table does not meet the layout. Nothing more is granted on this volume until it is put right: mount it
-   for reading only, keep the bytes, restore a copy or move the data sets to another volume. */
+   for reading only, keep the bytes, and move the data sets to another volume. A copy of the table made earlier may take its
+   place only if no call was accepted since: to an older one, tracks granted since are free. See docs/OPERATORS.md. */
 #define VTOC_E_UNSOUND 3
 
 /* 4, name: a name is against the rule (parts of 1 to 8 characters joined by a period, each starts with a letter or one of
@@ -122,8 +124,8 @@ extern "C" {
 /* 10, extents: vtoc_extend, the data set would have more than 16. Copy it into one allocated in fewer pieces. */
 #define VTOC_E_EXTENTS 10
 
-/* 11, VTOC full: too few free records for the labels that the call needs, those that it frees counted. Scratch a data set;
-   for more records the volume must be initialised with a larger VTOC. vtoc_scratch never answers it. */
+/* 11, VTOC full: too few free records for the labels and format 5s that the call needs, those that it frees counted. Scratch a
+   data set; for more records the volume must be initialised with a larger VTOC. vtoc_scratch never answers it. */
 #define VTOC_E_VTOC_FULL 11
 
 /* 12, TTR: vtoc_release, the TTR is wider than three bytes, TT + 1 is above the tracks of the data set, or R is 0 with TT above
@@ -178,14 +180,15 @@ uint32_t vtoc_rename(uint8_t *VTOC_RESTRICT table, size_t table_length, const ui
                      uint8_t *VTOC_RESTRICT answer, size_t answer_length);
 
 /*
- * Reads the labels of a data set: its format 1, then its format 3 or 140 zeros. The answer is 24 zeros. Refusals: 2, 3, 4, 5.
+ * Reads the labels of a data set: its format 1, then its format 3 or 140 zeros. vtoc_label_extent, below, finds an extent in
+ * them. The answer is 24 zeros. Refusals: 2, 3, 4, 5.
  */
 uint32_t vtoc_obtain(const uint8_t *VTOC_RESTRICT table, size_t table_length, const uint8_t *VTOC_RESTRICT name,
                      size_t name_length, uint8_t *VTOC_RESTRICT labels, size_t labels_length, uint8_t *VTOC_RESTRICT answer,
                      size_t answer_length);
 
 /*
- * Says how much is free: the answer has the six numbers of vtoc_answer_space, below. It is also the quickest way to ask whether a
+ * Says how much is free: the answer has the six numbers of vtoc_answer_space, below. It is also the simplest way to ask whether a
  * table is taken at all. Refusals: 2, 3.
  */
 uint32_t vtoc_lspace(const uint8_t *VTOC_RESTRICT table, size_t table_length, uint8_t *VTOC_RESTRICT answer,
@@ -228,6 +231,19 @@ static inline uint32_t vtoc_answer_count(const uint8_t *answer, uint32_t i)
 static inline uint32_t vtoc_answer_space(const uint8_t *answer, uint32_t number)
 {
     return number <= VTOC_SPACE_RECORDS ? (uint32_t)answer[2 * number] << 8 | answer[2 * number + 1] : 0;
+}
+
+/* ---- Readers of the labels that vtoc_obtain has written --------------------------------------------------------------- */
+
+#define VTOC_LABEL_EXTENTS 59    /* the number of extents, 1 to 16 (DS1NOEPV) */
+#define VTOC_LABEL_UNIT 94       /* X'80' tracks, X'C0' cylinders, X'00' absolute (DS1SCALO) */
+#define VTOC_LABEL_SECONDARY 95  /* the secondary amount, 3 bytes */
+#define VTOC_LABEL_LAST_BLOCK 98 /* TTR of the last block, 3 bytes (DS1LSTAR) */
+
+/* The ten bytes of extent e, from 0 and below the number of extents: type, number, CCHH of the first track and of the last. */
+static inline const uint8_t *vtoc_label_extent(const uint8_t *labels, uint32_t e)
+{
+    return labels + (e < 3 ? 105 + 10 * e : VTOC_RECORD_LENGTH + (e < 7 ? 4 + 10 * (e - 3) : 45 + 10 * (e - 7)));
 }
 
 /* A TTR as vtoc_release takes it. A track or record too large for its bytes makes a TTR that is refused, never another one. */

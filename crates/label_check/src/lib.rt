@@ -85,7 +85,7 @@ fn shape_of(table: &[u8], k: usize, g: Geometry) -> Form
 }
 
 // Tests extent number e, the ten bytes x, and takes it out of the map of free tracks: false if it is not good, or if a track
-// of its was not free.
+// of it was not free.
 fn take_extent(x: &[u8], e: usize, g: Geometry, map: &mut [u64]) -> bool
     requires { ⌜ (length (now x) ≡ 10) × (e < 16) × Limits (geometryOf g) × (tracks (geometryOf g) ≤ 64 * length (now map)) ⌝ }
     ensures { λ r. ⌜ TookTen (geometryOf g) e (now (x .entry)) (now (map .entry)) (now (map .exit)) r ⌝ }
@@ -134,7 +134,7 @@ fn take_slots(slots: &mut [u64], k: usize, q: usize) -> bool
 }
 
 // Tests the label in slot k and takes its slots and tracks out of the maps: false if it is not as the layout says, or if a
-// slot or a track of its was not free. That the slot has a format 1 is known.
+// slot or a track of it was not free. That the slot has a format 1 is known.
 pub fn take_label(table: &[u8], k: usize, g: Geometry, map: &mut [u64], slots: &mut [u64]) -> bool
     requires { ⌜ AtLabel (geometryOf g) (now table) k × (tracks (geometryOf g) ≤ 64 * length (now map)) × (length (now slots) ≡ 8) ⌝ }
     ensures { λ r. ⌜ TookLabel (geometryOf g) (now (table .entry)) k (now (map .entry)) (now (map .exit)) (now (slots .entry)) (now (slots .exit)) r ⌝ }

@@ -1,4 +1,4 @@
-// The slots of a table that no label uses, and the highest slot of a label.
+// The slots of a table that nothing uses, and the highest slot of a label.
 use fields::*;
 use tracks::*;
 ghost use mathlib.Core.Path.{_≡_};
@@ -6,7 +6,7 @@ ghost use Prim.Native.Nat.{_*_, _≤_};
 ghost use lib.ListN.{length};
 ghost use Rattle.spare.specs.Spare.{Spared, highestSlot};
 
-// Whether the free slots are zero; how many they are, where they are.
+// Whether the free slots are zero and, if so, how many they are.
 pub struct Spares {
     pub clear: bool,
     pub count: usize,

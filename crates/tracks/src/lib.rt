@@ -3,7 +3,7 @@
 ghost use mathlib.Core.Path.{_≡_};
 ghost use Prim.Native.Nat.{_+_, _-_, _*_, _/_, _%_, _≤_, _<_, min};
 ghost use lib.ListN.{length};
-ghost use Rattle.tracks.specs.Map.{freeFrom, Opened, Taken, Given, NextRun};
+ghost use Rattle.tracks.specs.Map.{freeFrom, isFree, Opened, Taken, Given, NextRun};
 ghost use Rattle.tracks.specs.Steps.{First, Passed, Rest, Starts, Window, block, flipped};
 
 const ALL: u64 = 0xffff_ffff_ffff_ffff;
@@ -310,8 +310,6 @@ pub fn count_runs(map: &[u64], n: usize) -> usize
     let s = starts(y, map[w]) << (64 - k);
     count + u64::count_ones(s) as usize
 }
-
-ghost use Rattle.tracks.specs.Map.{isFree};
 
 // Whether track t is free.
 pub fn is_free(map: &[u64], t: usize) -> bool

@@ -60,7 +60,8 @@ pub extern "C" fn vtoc_extend(table: &mut [u8], name: &[u8], answer: &mut [u8]) 
 }
 
 // Releases the tracks behind the last block, ttr. The refusals, in the order of `perform` and `release₁`: 2, 3, 4, 5 not
-// found, 12 TTR, 11 VTOC full. The extents are those that `keep` leaves, the answer `answer (givenBack n)`.
+// found, 12 TTR, 11 VTOC full. The extents are those that `keep` leaves, the table that of the volume which `settleWith`
+// leaves, the answer `answer (givenBack n)`, n being the tracks of the set less TT + 1.
 #[no_mangle]
 pub extern "C" fn vtoc_release(table: &mut [u8], name: &[u8], ttr: u32, answer: &mut [u8]) -> u32
     ensures { λ r. ⌜ Releases (now (table .entry)) (now (name .entry)) ttr (now (answer .entry)) r (now (table .exit)) (now (answer .exit)) ⌝ }
@@ -69,7 +70,7 @@ pub extern "C" fn vtoc_release(table: &mut [u8], name: &[u8], ttr: u32, answer: 
 }
 
 // Scratches a data set. The refusals, in the order of `perform` and `scratch₁`: 2, 3, 4, 5 not found. The table is that of the
-// volume without the set, the answer `answer (givenBack n)`, n being all its tracks.
+// volume which `settle` leaves without the set, the answer `answer (givenBack n)`, n being all its tracks.
 #[no_mangle]
 pub extern "C" fn vtoc_scratch(table: &mut [u8], name: &[u8], answer: &mut [u8]) -> u32
     ensures { λ r. ⌜ Scratches (now (table .entry)) (now (name .entry)) (now (answer .entry)) r (now (table .exit)) (now (answer .exit)) ⌝ }
@@ -78,7 +79,8 @@ pub extern "C" fn vtoc_scratch(table: &mut [u8], name: &[u8], answer: &mut [u8])
 }
 
 // Renames a data set. The refusals, in the order of `perform` and `rename₁`: 2, 3, 4 (either name), 5 not found (the old one),
-// 6 duplicate. The 44 name bytes are the new name's; the answer is 24 zeros.
+// 6 duplicate. The table is that of the volume whose label is `withName new`: its 44 name bytes are the new name's, and no
+// other byte changes. The answer is 24 zeros.
 #[no_mangle]
 pub extern "C" fn vtoc_rename(table: &mut [u8], old: &[u8], new: &[u8], answer: &mut [u8]) -> u32
     ensures { λ r. ⌜ Renames (now (table .entry)) (now (old .entry)) (now (new .entry)) (now (answer .entry)) r (now (table .exit)) (now (answer .exit)) ⌝ }
@@ -86,8 +88,9 @@ pub extern "C" fn vtoc_rename(table: &mut [u8], old: &[u8], new: &[u8], answer: 
     call_rename::rename(table, old, new, answer)
 }
 
-// Obtains the labels of a data set: format 1, then format 3 or zeros. The refusals, in the order of `perform` and `obtain₁`:
-// 2, 3, 4, 5 not found. The answer is 24 zeros; the table is only read.
+// Obtains the labels of a data set. The refusals, in the order of `perform` and `obtain₁`: 2, 3, 4, 5 not found. The 280 label
+// bytes are those of `labelsAfter`: `format1` of the label, then its `format3` or zeros. The answer is 24 zeros; the table is
+// only read.
 #[no_mangle]
 pub extern "C" fn vtoc_obtain(
     table: &[u8],
