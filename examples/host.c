@@ -193,8 +193,8 @@ static void space(void)
 {
     say("space inquiry");
     expect(vtoc_lspace(table, sizeof table, answer, sizeof answer), VTOC_OK);
-    printf("      free: %lu cylinders and %lu tracks, extents: %lu, the longest %lu cylinders and %lu tracks; %lu records\n",
-           space_number(VTOC_SPACE_CYLINDERS), space_number(VTOC_SPACE_ODD_TRACKS), space_number(VTOC_SPACE_EXTENTS),
+    printf("      free extents: %lu, together %lu cylinders and %lu tracks, the longest %lu cylinders and %lu tracks; records: %lu\n",
+           space_number(VTOC_SPACE_EXTENTS), space_number(VTOC_SPACE_CYLINDERS), space_number(VTOC_SPACE_ODD_TRACKS),
            space_number(VTOC_SPACE_LONGEST_CYLINDERS), space_number(VTOC_SPACE_LONGEST_ODD), space_number(VTOC_SPACE_RECORDS));
 }
 
