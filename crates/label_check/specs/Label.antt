@@ -72,6 +72,18 @@ shapeOf g t k =
     let n : ℕ = getD f1 59 0 in
     cond (oneOk f1) (cond (leb n 3) (goodIf (fewShape f1 n)) (goodThird (thirdShape g t f1 n))) Bad
 
+-- the number in document 01 of a table with such a label: 0, or refusal 3, VTOC unsound
+abbrev pub refusalOf : Form → ℕ
+refusalOf (Good q) = 0
+refusalOf Bad = 3
+
+-- 3 where a test of the label in slot k fails
+unfoldable pub unsoundAt : Geometry → List ℕ → ℕ → ℕ
+unsoundAt g t k =
+    let f1 : List ℕ = slotBytes t k in
+    let n : ℕ = getD f1 59 0 in
+    cond (oneOk f1 && cond (leb n 3) (fewShape f1 n) (leb 1 (thirdShape g t f1 n))) 0 3
+
 -- the extents in use are good
 abbrev pub usedOk : Geometry → List ℕ → List ℕ → ℕ → Bool
 usedOk g f1 f3 n = extentsOk (g .heads) (tracks g) f1 f3 n 0 n

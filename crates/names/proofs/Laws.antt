@@ -23,7 +23,7 @@ use Rattle.tracks.proofs.Bits.{le-or-lt}
 use Rattle.tracks.proofs.Walk.{is-free}
 use Rattle.fields.specs.Records.{slotBytes}
 use Rattle.fields.specs.Tests.{word8}
-use Rattle.names.specs.Find.{Entered, Seen, Tagged, distinctFrom, findSlot, firstNamed, hasTag, isLabel, isNamed, isNothing, nameOf, mixed, newAt, tagOf}
+use Rattle.names.specs.Find.{Entered, Seen, Tagged, distinctFrom, findSlot, firstNamed, hasTag, isLabel, isNamed, isNothing, nameOf, mixed, newAt, notFound, refusalOf, tagOf}
 
 module _ (t name : List ℕ) (k n : ℕ) (h : k < n) where
   step : firstNamed t name k (n - k) ≡ cond (isNamed (slotBytes t k) name) (Slot k) (firstNamed t name (k + 1) (n - (k + 1)))
@@ -35,6 +35,16 @@ module _ (t name : List ℕ) (k n : ℕ) (h : k < n) where
 
   pub miss : isNamed (slotBytes t k) name ≡ false → firstNamed t name k (n - k) ≡ firstNamed t name (k + 1) (n - (k + 1))
   miss e = rw (step, e)
+
+-- the number of what is found
+number-from : (t name : List ℕ) (k n : ℕ) → refusalOf (firstNamed t name k n) ≡ notFound t name k n
+unfolding firstNamed notFound
+number-from t name k zero = refl
+number-from t name k (suc n) = by (isNamed (slotBytes t k) name) (λ h. rw h) (λ h. rw h (number-from t name (suc k) n))
+
+pub numbered : (t name : List ℕ) (n : ℕ) (f : Found) → f ≡ findSlot t name n → (f ≡ findSlot t name n) × (refusalOf f ≡ notFound t name 0 n)
+unfolding findSlot
+numbered t name n f e = (e, ap refusalOf e ∙ number-from t name 0 n)
 
 pub done : (t name : List ℕ) (k n : ℕ) → n ≤ k → firstNamed t name k (n - k) ≡ Nothing
 unfolding firstNamed

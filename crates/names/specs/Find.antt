@@ -8,7 +8,7 @@ use lib.Bits.{bitXor}
 use lib.Dec.{eqb}
 use Rattle.names.specs.declared.Found.{Found}
 use Rattle.names.specs.declared.Found.the-variants.{Slot, Nothing}
-use Rattle.model.specs.Basics.{any, part, same}
+use Rattle.model.specs.Basics.{any, part, same, upFrom}
 use Rattle.tracks.specs.Map.{freeBit}
 use Rattle.fields.specs.Records.{slotBytes}
 use Rattle.fields.specs.Tests.{word8}
@@ -37,6 +37,10 @@ findSlot t name n = firstNamed t name 0 n
 abbrev pub refusalOf : Found → ℕ
 refusalOf (Slot k) = 0
 refusalOf Nothing = 5
+
+-- "5 | not found | name not on the volume": no format 1 in the n slots from k on is under this name
+unfoldable pub notFound : List ℕ → List ℕ → ℕ → ℕ → ℕ
+notFound t name k n = cond (any (λ j. isNamed (slotBytes t j) name) (upFrom k n)) 0 5
 
 abbrev pub isNothing : Found → Bool
 isNothing (Slot k) = false

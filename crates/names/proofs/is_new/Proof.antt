@@ -41,11 +41,11 @@ enum-told c = search needs
 
 -- src/lib.rt:111:13
 returns-2 : tie.Need-returns-2
-returns-2 c = rw (← c .before .before .find .ensures, c .enum-told .given .1)
+returns-2 c = rw (← c .before .before .find .ensures .0, c .enum-told .given .1)
 
 -- src/lib.rt:113:9
 returns-3 : tie.Need-returns-3
-returns-3 c = rw (← c .before .before .before .find .ensures, c .before .j .given .1)
+returns-3 c = rw (← c .before .before .before .find .ensures .0, c .before .j .given .1)
 
 -- src/lib.rt:101:1
 returns-4 : tie.Need-returns-4
