@@ -1,13 +1,15 @@
 //! The library beside the reference, call by call, in one run: a Markdown page with a ratio for
-//! each row. `bench_calls` makes docs/PERFORMANCE.md; `bench_calls --short` is quick and rough.
+//! each row. `bench_calls` makes docs/PERFORMANCE.md; `bench_calls --short` is quick and rough;
+//! `bench_calls --store DIR` writes each row's table and its call as a record, for tests/instructions.
 
-use std::fs::read_to_string;
+use std::fs::{read_to_string, write};
 use std::hint::black_box;
 
-use vtoc_tests::call::{Buffers, Call, Manager, Reference};
+use vtoc_tests::call::{Buffers, Call, Manager, Reference, CALL_NAMES};
 use vtoc_tests::desk::attributes;
 use vtoc_tests::generate::glance::glance;
 use vtoc_tests::library::Library;
+use vtoc_tests::replay::record;
 use vtoc_tests::timing::time_both_on_copies;
 use vtoc_tests::volumes::{
     many_extents, many_names, medium, name, place, scattered, set_name, small,
@@ -22,7 +24,7 @@ Made by this command, in one run, the two sides taking turns (`--short` in place
 
 Microseconds for one call through the C interface: the proved library and, beside it, the unrelated implementation of tests/
 (Rust, release build, bitmaps and a hash of names). Each call works on a copy of the table made before the clock starts; the
-best of many batches counts. Ratio: library / unrelated; below 1 the library is faster. Both check the whole table first.
+best of many batches, in ten rounds over all rows, counts. Ratio: library / unrelated; below 1 the library is faster. Both check the whole table first.
 ";
 
 struct Volume {
@@ -110,33 +112,97 @@ fn processor() -> String {
     line.map_or("an unknown processor", |line| line.trim_start_matches([' ', '\t', ':'])).into()
 }
 
+/// Microseconds of the library and of the reference for one row, the best so far.
+struct Row<'a> {
+    table: &'a [u8],
+    call: Call,
+    wanted: u32,
+    best: [f64; 2],
+}
+
+impl Row<'_> {
+    fn new(table: &[u8], call: Call, wanted: u32) -> Row<'_> {
+        compare(&call, table);
+        Row { table, call, wanted, best: [f64::MAX; 2] }
+    }
+
+    fn time(&mut self, batches: usize) {
+        let times = time_both_on_copies(
+            self.table,
+            batches,
+            |table| make(&Library, &self.call, table, self.wanted),
+            |table| make(&Reference, &self.call, table, self.wanted),
+        );
+        self.best = [0, 1].map(|side| self.best[side].min(times[side]));
+    }
+}
+
+/// Times every row in several rounds: a disturbance of the machine lasts longer than a row takes,
+/// and seldom as long as a round.
+fn time_in_rounds(rows: &mut [Row], rounds: usize) {
+    for _ in 0..rounds {
+        rows.iter_mut().for_each(|row| row.time(BATCHES));
+    }
+}
+
+/// Batches of a row in one round.
+const BATCHES: usize = 60;
+
 /// The same call on volumes of growing size: one grows in records and data sets, the other in tracks.
-fn growth(batches: usize) {
+fn growth(rounds: usize) {
     println!("\n## Growth\n\nObtain (the check and a lookup) and an allocate of one track, by records N and tracks T.\n");
-    println!("| N | T | Data sets | Obtain | Unrelated | Allocate | Unrelated |\n|---:|---:|---:|---:|---:|---:|---:|");
+    println!("| N | T | Data sets | Obtain | Unrelated | Ratio | Allocate | Unrelated | Ratio |\n|---:|---:|---:|---:|---:|---:|---:|---:|---:|");
     // N = V x D records with a data set in nearly each; T = C x 15 tracks.
     let by_records = [(2, 10, 8), (4, 20, 64), (4, 50, 168), (9, 52, 440)]
         .map(|(v, d, sets)| (1000, v, d, sets));
     let by_tracks = [67, 500, 2000, 4369].map(|c| (c, 4, 20, 64));
-    for (c, v, d, sets) in by_records.into_iter().chain(by_tracks) {
-        let grown = volume("", scattered(c, 15, d, 1, v, sets));
-        let obtain = Call::Obtain { name: name("BENCH.SET").to_vec() };
-        let times = [obtain, grown.allocation(0, 1)].map(|call| {
-            time_both_on_copies(
-                &grown.table,
-                batches,
-                |table| make(&Library, &call, table, 0),
-                |table| make(&Reference, &call, table, 0),
-            )
-        });
-        let [[a, b], [e, f]] = times;
-        println!("| {} | {} | {} | {a:.2} | {b:.2} | {e:.2} | {f:.2} |", v * d, c * 15, sets + 1);
+    let shapes: Vec<_> = by_records.into_iter().chain(by_tracks).collect();
+    let volumes: Vec<_> =
+        shapes.iter().map(|&(c, v, d, sets)| volume("", scattered(c, 15, d, 1, v, sets))).collect();
+    let both = |grown: &Volume| {
+        [Call::Obtain { name: name("BENCH.SET").to_vec() }, grown.allocation(0, 1)]
+    };
+    let mut rows: Vec<_> = volumes
+        .iter()
+        .flat_map(|grown| both(grown).map(|call| Row::new(&grown.table, call, 0)))
+        .collect();
+    time_in_rounds(&mut rows, rounds);
+    for ((c, v, d, sets), pair) in shapes.into_iter().zip(rows.chunks(2)) {
+        print!("| {} | {} | {} |", v * d, c * 15, sets + 1);
+        for Row { best: [library, reference], .. } in pair {
+            print!(" {library:.2} | {reference:.2} | {:.2} |", library / reference);
+        }
+        println!();
     }
 }
 
+/// DIR/N.table and DIR/N.call for each row, and DIR/rows: N, the call's name, volume and title.
+fn store(directory: &str) {
+    let mut rows = String::new();
+    let mut number = 0;
+    for volume in volumes() {
+        for (what, call, _) in volume.calls() {
+            let path = format!("{directory}/{number}");
+            let record =
+                record(&call, volume.table.len(), 24, 280).expect("lengths as they must be");
+            write(format!("{path}.table"), &volume.table).expect("the directory is there");
+            write(format!("{path}.call"), record).expect("the directory is there");
+            let name = CALL_NAMES[call.index()];
+            rows += &format!("{number}\t{name}\t{}\t{what}\n", volume.title);
+            number += 1;
+        }
+    }
+    write(format!("{directory}/rows"), rows).expect("the directory is there");
+}
+
 fn main() {
-    let short = std::env::args().nth(1).is_some_and(|word| word == "--short");
-    let batches = if short { 30 } else { 400 };
+    let words: Vec<String> = std::env::args().collect();
+    if let [_, option, directory] = &words[..] {
+        assert_eq!(option, "--store");
+        return store(directory);
+    }
+    let short = words.get(1).is_some_and(|word| word == "--short");
+    let rounds = if short { 1 } else { 10 };
     if !short {
         println!("{HEAD}\nProcessor: {}. Volumes:", processor());
     }
@@ -145,27 +211,25 @@ fn main() {
         println!("- {}", volume.describe());
     }
     println!("\n| Volume | Call | Library | Unrelated | Ratio |\n|---|---|---:|---:|---:|");
-    let (mut worst, mut logs, mut rows) = (0.0_f64, 0.0, 0.0);
+    let mut titles = vec![];
+    let mut rows = vec![];
     for volume in &volumes {
-        let Volume { title, table, .. } = volume;
         for (what, call, wanted) in volume.calls() {
-            compare(&call, table);
-            let [library, reference] = time_both_on_copies(
-                table,
-                batches,
-                |table| make(&Library, &call, table, wanted),
-                |table| make(&Reference, &call, table, wanted),
-            );
-            let ratio = library / reference;
-            worst = worst.max(ratio);
-            logs += ratio.ln();
-            rows += 1.0;
-            println!("| {title} | {what} | {library:.2} | {reference:.2} | {ratio:.2} |");
+            titles.push((volume.title, what));
+            rows.push(Row::new(&volume.table, call, wanted));
         }
     }
-    let mean = f64::exp(logs / rows);
+    time_in_rounds(&mut rows, rounds);
+    let (mut worst, mut logs) = (0.0_f64, 0.0);
+    for ((title, what), Row { best: [library, reference], .. }) in titles.iter().zip(&rows) {
+        let ratio = library / reference;
+        worst = worst.max(ratio);
+        logs += ratio.ln();
+        println!("| {title} | {what} | {library:.2} | {reference:.2} | {ratio:.2} |");
+    }
+    let mean = f64::exp(logs / rows.len() as f64);
     println!("\nHighest ratio {worst:.2}, geometric mean of all rows {mean:.2}.");
     if !short {
-        growth(batches);
+        growth(rounds);
     }
 }
