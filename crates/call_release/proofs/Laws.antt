@@ -71,7 +71,7 @@ module _ (g : Geometry) (t m s : List ℕ) (k : ℕ) (d : At g t m s k) (ttr : �
   abbrev l₀ : Label
   l₀ = shorter ttr l
 
-  module _ (one three : List ℕ) (count third all low was : ℕ) (x : Measures g v l one three count third all low was) where
+  module _ (one three : List ℕ) (count third all low : ℕ) (x : Measures g l one three count third all low) where
     pub bad-ttr : (a : List ℕ) → goodTtr ttr all ≡ false → result 12 (lent t a []) ≡ written (lent t a []) (release₁ v (d .name) ttr (some l))
     bad-ttr a h =
         let q : goodTtr ttr (total (runsOf l)) ≡ false = ap (goodTtr ttr) (sym (x .sum)) ∙ h in
@@ -120,7 +120,7 @@ module _ (g : Geometry) (t m s : List ℕ) (k : ℕ) (d : At g t m s k) (ttr : �
           z .valid
 
       -- what `put_set` asks
-      abbrev pub draft : Draft g t m′ s′ was low k third few one₂ three₂
+      abbrev pub draft : Draft g t m′ s′ low k third few one₂ three₂
       draft =
           record {
             volume = v;
@@ -128,7 +128,6 @@ module _ (g : Geometry) (t m s : List ℕ) (k : ℕ) (d : At g t m s k) (ttr : �
             label = l₀;
             ready = d .ready;
             geometryIs = sym (d .geometryIs);
-            members = x .members;
             slotIs = sym (d .it .slot);
             thirdIs = x .known .slot3;
             fewIs = y .fewIs;
@@ -146,7 +145,7 @@ module _ (g : Geometry) (t m s : List ℕ) (k : ℕ) (d : At g t m s k) (ttr : �
             valid = stays-valid;
           }
 
-      module _ (a t′ : List ℕ) (b : Bool) (put : (z : Draft g t m′ s′ was low k third few one₂ three₂) → Committed z t′ b) where
+      module _ (a t′ : List ℕ) (b : Bool) (put : (z : Draft g t m′ s′ low k third few one₂ three₂) → Committed z t′ b) where
         pub full : b ≡ false → result 11 (lent t′ a []) ≡ written (lent t a []) (release₁ v (d .name) ttr (some l))
         full h =
             let z = put draft in

@@ -101,7 +101,6 @@ fn release_set(
         g,
         map,
         empty,
-        x.was,
         x.lowest as usize,
         k,
         x.third,

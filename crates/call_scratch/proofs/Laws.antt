@@ -38,7 +38,7 @@ module _ (g : Geometry) (t m s : List ℕ) (k : ℕ) (d : At g t m s k) where
   abbrev after : Option Volume
   after = settle g (v .chain) others 0 (λ ks. others)
 
-  module _ (one three : List ℕ) (count third all low was : ℕ) (x : Measures g v l one three count third all low was) (m′ s₁ s₂ : List ℕ) (tail : GaveTail 0 (extentsIn g one three count) m m′) (f₁ : FreedSlot k s s₁) (f₂ : FreedSlot third s₁ s₂) where
+  module _ (one three : List ℕ) (count third all low : ℕ) (x : Measures g l one three count third all low) (m′ s₁ s₂ : List ℕ) (tail : GaveTail 0 (extentsIn g one three count) m m′) (f₁ : FreedSlot k s s₁) (f₂ : FreedSlot third s₁ s₂) where
     pub tracks-shown : Shows m′ (tracks g) (held g others)
     tracks-shown =
         let a : Shows m (tracks (v .geometry)) (runsOf l ++ held (v .geometry) others) = shows-same m (tracks (v .geometry)) (held (v .geometry) (v .labels)) (runsOf l ++ held (v .geometry) others) (λ t u. held-apart v (d .ready .valid) (d .name) l (d .it .same) t) (d .shown .freeTracks) in
@@ -64,7 +64,7 @@ module _ (g : Geometry) (t m s : List ℕ) (k : ℕ) (d : At g t m s k) where
         y .valid
 
     -- what `drop_set` asks
-    abbrev pub left : Left g t m′ s₂ was low k third
+    abbrev pub left : Left g t m′ s₂ low k third
     left =
         record {
           volume = v;
@@ -72,7 +72,6 @@ module _ (g : Geometry) (t m s : List ℕ) (k : ℕ) (d : At g t m s k) where
           label = l;
           ready = d .ready;
           geometryIs = sym (d .geometryIs);
-          members = x .members;
           slotIs = sym (d .it .slot);
           thirdIs = x .known .slot3;
           shownTracks = tracks-shown;
@@ -87,7 +86,7 @@ module _ (g : Geometry) (t m s : List ℕ) (k : ℕ) (d : At g t m s k) where
           valid = stays-valid;
         }
 
-    module _ (a t′ : List ℕ) (b : Bool) (put : (y : Left g t m′ s₂ was low k third) → Gone y t′ b) where
+    module _ (a t′ : List ℕ) (b : Bool) (put : (y : Left g t m′ s₂ low k third) → Gone y t′ b) where
       pub full : b ≡ false → result 11 (lent t′ a []) ≡ written (lent t a []) (scratch₁ v (d .name) (some l))
       full h =
           let y = put left in

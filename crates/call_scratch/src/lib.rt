@@ -34,7 +34,7 @@ fn scratch_set(
     set_change::give_tail(&one, &three, x.count, g, 0, map);
     giving::free_slot(empty, k);
     giving::free_slot(empty, x.third);
-    if commit::drop_set(table, g, map, empty, x.was, x.lowest as usize, k, x.third) {} else {
+    if commit::drop_set(table, g, map, empty, x.lowest as usize, k, x.third) {} else {
         return 11;
     }
     answers::put_back(answer, x.tracks);

@@ -12,8 +12,6 @@ use Rattle.tracks.proofs.Held.{shows-give}
 use Rattle.label_check.specs.Marks.{units}
 use Rattle.table_check.proofs.Free.{free-shown}
 use Rattle.set_change.specs.Change.{NoneBelow, SetIn, extentsIn}
-use Rattle.free_list.specs.FreeList.{Lists}
-use Rattle.free_list.proofs.Chain.{chain-short, lists-all}
 use Rattle.set_at.specs.Held.{SetAt}
 use Rattle.set_at.proofs.Laws.{Known, known}
 use Rattle.giving.specs.Giving.{At, FreedSlot, Measures}
@@ -44,17 +42,14 @@ module _ (g : Geometry) (t m s : List ℕ) (k : ℕ) (d : At g t m s k) where
     pub set-of : SetIn g one three count
     set-of = known-at .set
 
-    pub measured : (all low was : ℕ) → all ≡ total (overs (extentsIn g one three count)) → (low ≤ tracks g) × NoneBelow low (overs (extentsIn g one three count)) → ((n : ℕ) (f : List Run) → n ≤ slots g → Lists g t n 1 f → was ≡ n) → Measures g v l one three count third all low was
-    measured all low was e b f =
+    pub measured : (all low : ℕ) → all ≡ total (overs (extentsIn g one three count)) → (low ≤ tracks g) × NoneBelow low (overs (extentsIn g one three count)) → Measures g l one three count third all low
+    measured all low e b =
         let y = known-at in
         record {
           known = y;
           sum = e ∙ ap (λ (es : List Extent). total (overs es)) (y .extents);
           lowIn = b .0;
           lowest = subst (λ (es : List Extent). NoneBelow low (overs es)) (y .extents) (b .1);
-          members = f (length (v .chain)) (free g (v .labels))
-              (subst (λ (y : Geometry). length (v .chain) ≤ slots y) (sym (d .geometryIs)) (chain-short _ v (d .ready .sound)))
-              (subst (λ (y : Geometry). Lists y t (length (v .chain)) 1 (free y (v .labels))) (sym (d .geometryIs)) (lists-all t v (d .ready .sound)));
         }
 
   -- ---- bounds
@@ -70,20 +65,15 @@ module _ (g : Geometry) (t m s : List ℕ) (k : ℕ) (d : At g t m s k) where
   pub third-small : l .slot3 < slots g
   third-small = let a = ap slots (d .geometryIs) in let b = d .it .records .inside3 in omega arith
 
-  pub members-few : length (v .chain) ≤ 468
-  members-few = let a = chain-short _ v (d .ready .sound) in let b = d .ready .limits .most in omega arith
-
   -- what `put_set` and `drop_set` ask of lengths and numbers
-  pub fits : length s ≡ 8 → tracks g ≤ 64 * length m → (one three : List ℕ) (count third all low was : ℕ) → Measures g v l one three count third all low was
+  pub fits : length s ≡ 8 → tracks g ≤ 64 * length m → (one three : List ℕ) (count third all low : ℕ) → Measures g l one three count third all low
       → (m′ s′ : List ℕ) → length m′ ≡ length m → length s′ ≡ length s
-      → Limits g × (length t ≡ 140 * slots g) × (tracks g ≤ 64 * length m′) × (length s′ ≡ 8) × (was ≤ 468) × (low ≤ tracks g) × (k < slots g) × (third < slots g)
-  fits e w one three count third all low was x m′ s′ n o =
+      → Limits g × (length t ≡ 140 * slots g) × (tracks g ≤ 64 * length m′) × (length s′ ≡ 8) × (low ≤ tracks g) × (k < slots g) × (third < slots g)
+  fits e w one three count third all low x m′ s′ n o =
       let a = ap slots (d .geometryIs) in
       let b = d .ready .long in
       let c = d .it .records .inside in
       let f = d .it .slot in
       let p = third-small in
       let q = x .known .slot3 in
-      let r = members-few in
-      let u = x .members in
-      (subst Limits (sym (d .geometryIs)) (d .ready .limits), omega arith, omega arith, o ∙ e, omega arith, x .lowIn, omega arith, omega arith)
+      (subst Limits (sym (d .geometryIs)) (d .ready .limits), omega arith, omega arith, o ∙ e, x .lowIn, omega arith, omega arith)

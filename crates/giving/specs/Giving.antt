@@ -21,13 +21,12 @@ pub record At (g : Geometry) (t m s : List ℕ) (k : ℕ) : Type 0 where
   pub shown : Shown volume m s
   pub it : FoundAt t volume name k
 
--- the records of its label l, its tracks and the lowest of them, and the members of the chain of format 5s before the call
-pub record Measures (g : Geometry) (v : Volume) (l : Label) (one three : List ℕ) (count third all low was : ℕ) : Type 0 where
+-- the records of its label l, its tracks and the lowest of them
+pub record Measures (g : Geometry) (l : Label) (one three : List ℕ) (count third all low : ℕ) : Type 0 where
   pub known : Known g l one three count third
   pub sum : all ≡ total (runsOf l)
   pub lowIn : low ≤ tracks g
   pub lowest : NoneBelow low (runsOf l)
-  pub members : was ≡ length (v .chain)
 
 -- slot k, 0 for none, has become free, however many slots the map is taken to show
 pub record FreedSlot (k : ℕ) (s s′ : List ℕ) : Type 0 where

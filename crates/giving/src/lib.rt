@@ -9,8 +9,7 @@ ghost use Rattle.rules.proofs.Valid.{Limits};
 ghost use Rattle.forms.specs.Forms.{geometryOf};
 ghost use Rattle.giving.specs.Giving.{At, FreedSlot, Measures};
 
-// A data set: its records and the slot of its format 3 as set_at has them, its tracks and the lowest of them, and how many
-// format 5s the volume has. The last must be known before the map changes.
+// A data set: its records and the slot of its format 3 as set_at has them, its tracks and the lowest of them.
 pub struct Measured {
     pub one: [u8; 140],
     pub three: [u8; 140],
@@ -18,21 +17,19 @@ pub struct Measured {
     pub third: usize,
     pub tracks: u32,
     pub lowest: u32,
-    pub was: usize,
 }
 
 // The data set whose format 1 is in slot k.
 pub fn measure(table: &[u8], g: Geometry, k: usize) -> Measured
     requires { ⌜ Limits (geometryOf g) × (length (now table) ≡ 140 * slots (geometryOf g)) × (k < slots (geometryOf g)) ⌝ }
     requires { ⌜ ((m : List ℕ) × (s : List ℕ) × At (geometryOf g) (now table) m s k) ⌝ }
-    ensures { λ r. ⌜ ((m s : List ℕ) (d : At (geometryOf g) (now (table .entry)) m s k) → Measures (geometryOf g) (d .volume) (d .it .label) (r .one) (r .three) (r .count) (r .third) (r .tracks) (r .lowest) (r .was)) ⌝ }
+    ensures { λ r. ⌜ ((m s : List ℕ) (d : At (geometryOf g) (now (table .entry)) m s k) → Measures (geometryOf g) (d .it .label) (r .one) (r .three) (r .count) (r .third) (r .tracks) (r .lowest)) ⌝ }
 {
     let x = set_at::set_at(table, g, k);
     let one = x.one;
     let three = x.three;
     let all = set_change::set_tracks(&one, &three, x.count, g);
     let lowest = set_change::lowest_track(&one, &three, x.count, g);
-    let was = free_list::members(table, g);
     Measured {
         one,
         three,
@@ -40,7 +37,6 @@ pub fn measure(table: &[u8], g: Geometry, k: usize) -> Measured
         third: x.third,
         tracks: all,
         lowest,
-        was,
     }
 }
 

@@ -40,16 +40,13 @@ pub record Gave (s s′ ks : List ℕ) : Type 0 where
 
 -- ---- the chain of a table
 
--- n slots from slot k on, each named at the end of the record before it; 0 where that names none
-abbrev pub walk : Geometry → List ℕ → ℕ → ℕ → List ℕ
-walk g t zero k = []
-walk g t (suc n) k = k ∷ walk g t n (slotNamed (g .heads) (g .records) (g .vtocStart) (slots g) (part 135 5 (slotBytes t k)))
-
--- the first of c′ are slots of the table; they are the volume's chain where the table is sound
+-- the first `count` of c′ are slots of the table; they are the volume's chain where the table is sound
 pub record Chained (g : Geometry) (t c c′ : List ℕ) (count : ℕ) : Type 0 where
   pub long : length c′ ≡ length c
+  pub few : count ≤ slots g
   pub inside : All (λ k. k < slots g) (take count c′)
-  pub chain : (v : Volume) → v .geometry ≡ g → Sound (chop (slots g) t) v → count ≡ length (v .chain) → take count c′ ≡ v .chain
+  pub chain : (v : Volume) → v .geometry ≡ g → Sound (chop (slots g) t) v → take count c′ ≡ v .chain
+  pub many : (v : Volume) → v .geometry ≡ g → Sound (chop (slots g) t) v → count ≡ length (v .chain)
 
 -- ---- settled
 

@@ -29,7 +29,7 @@ same-length c = search needs
 
 -- src/lib.rt:102:9
 returns : tie.Need-returns
-returns c = λ d. bad-ttr _ _ _ _ _ d (c .before .before .before .before .before .before .before .before .args .ttr) _ _ _ _ _ _ _ (c .before .before .measure .ensures _ _ d) _ (sym (c .before .good-ttr .ensures) ∙ c .if1 .left)
+returns c = λ d. bad-ttr _ _ _ _ _ d (c .before .before .before .before .before .before .before .before .args .ttr) _ _ _ _ _ _ (c .before .before .measure .ensures _ _ d) _ (sym (c .before .good-ttr .ensures) ∙ c .if1 .left)
 
 -- src/lib.rt:104:9
 cut-set-requires : tie.Need-cut-set-requires
@@ -53,9 +53,9 @@ put-set-requires : tie.Need-put-set-requires
 put-set-requires c κs =
     let x = c .before .before .before .before .before .before .before .before .before .before .before .before .before .before .before .before .before .before .before .measure .ensures _ _ (c .before .before .before .before .before .before .before .before .before .before .before .before .before .before .before .before .before .before .before .before .before .before .before .before .before .pre .1) in
     let y = c .before .before .before .before .before .before .before .before .before .before .before .before .before .before .before .cut-set .ensures _ (x .known) in
-    let z = fits _ _ _ _ _ (c .before .before .before .before .before .before .before .before .before .before .before .before .before .before .before .before .before .before .before .before .before .before .before .before .before .pre .1) (c .before .before .before .before .before .before .before .before .before .before .before .before .before .before .before .before .before .before .before .before .before .before .before .before .before .pre .0 .3) (c .before .before .before .before .before .before .before .before .before .before .before .before .before .before .before .before .before .before .before .before .before .before .before .before .before .pre .0 .2) _ _ _ _ _ _ _ x (c .before .before .before .before .before .before .before .before .before .before .before .before .before .before .before .cut-set .last .1 .1 .1 .0) (c .before .before .before .before .before .before .before .before .free-slot .last .0) (y .long) (c .before .before .before .before .before .before .before .before .free-slot .ensures .long) in (
-      (z .0, z .1, z .2, z .3, z .4, z .5, z .6, z .7, search needs),
-      draft _ _ _ _ _ (c .before .before .before .before .before .before .before .before .before .before .before .before .before .before .before .before .before .before .before .before .before .before .before .before .before .pre .1) (c .before .before .before .before .before .before .before .before .before .before .before .before .before .before .before .before .before .before .before .before .before .before .before .before .before .args .ttr) _ _ _ _ _ _ _ x (sym (c .before .before .before .before .before .before .before .before .before .before .before .before .before .before .before .before .before .before .good-ttr .ensures) ∙ c .before .before .before .before .before .before .before .before .before .before .before .before .before .before .before .before .before .if1 .taken) _ _ _ _ y _ _ (c .before .before .before .before .before .before .before .before .before .if-few .ensures) (c .before .before .before .before .before .before .before .before .free-slot .ensures),
+    let z = fits _ _ _ _ _ (c .before .before .before .before .before .before .before .before .before .before .before .before .before .before .before .before .before .before .before .before .before .before .before .before .before .pre .1) (c .before .before .before .before .before .before .before .before .before .before .before .before .before .before .before .before .before .before .before .before .before .before .before .before .before .pre .0 .3) (c .before .before .before .before .before .before .before .before .before .before .before .before .before .before .before .before .before .before .before .before .before .before .before .before .before .pre .0 .2) _ _ _ _ _ _ x (c .before .before .before .before .before .before .before .before .before .before .before .before .before .before .before .cut-set .last .1 .1 .1 .0) (c .before .before .before .before .before .before .before .before .free-slot .last .0) (y .long) (c .before .before .before .before .before .before .before .before .free-slot .ensures .long) in (
+      (z .0, z .1, z .2, z .3, z .4, z .5, z .6, search needs),
+      draft _ _ _ _ _ (c .before .before .before .before .before .before .before .before .before .before .before .before .before .before .before .before .before .before .before .before .before .before .before .before .before .pre .1) (c .before .before .before .before .before .before .before .before .before .before .before .before .before .before .before .before .before .before .before .before .before .before .before .before .before .args .ttr) _ _ _ _ _ _ x (sym (c .before .before .before .before .before .before .before .before .before .before .before .before .before .before .before .before .before .before .good-ttr .ensures) ∙ c .before .before .before .before .before .before .before .before .before .before .before .before .before .before .before .before .before .if1 .taken) _ _ _ _ y _ _ (c .before .before .before .before .before .before .before .before .before .if-few .ensures) (c .before .before .before .before .before .before .before .before .free-slot .ensures),
     )
 
 -- src/lib.rt:109:9
@@ -72,7 +72,7 @@ same-length-4 c = search needs
 
 -- src/lib.rt:109:9
 returns-2 : tie.Need-returns-2
-returns-2 c = λ d. full _ _ _ _ _ d (c .before .before .before .before .before .before .before .before .before .before .before .before .before .before .before .before .before .before .before .before .before .before .before .before .before .before .before .before .before .before .before .args .ttr) _ _ _ _ _ _ _ (c .before .before .before .before .before .before .before .before .before .before .before .before .before .before .before .before .before .before .before .before .before .before .before .before .before .measure .ensures _ _ d) (sym (c .before .before .before .before .before .before .before .before .before .before .before .before .before .before .before .before .before .before .before .before .before .before .before .before .good-ttr .ensures) ∙ c .before .before .before .before .before .before .before .before .before .before .before .before .before .before .before .before .before .before .before .before .before .before .before .if1 .taken) _ _ _ _ (c .before .before .before .before .before .before .before .before .before .before .before .before .before .before .before .before .before .before .before .before .before .cut-set .ensures _ (c .before .before .before .before .before .before .before .before .before .before .before .before .before .before .before .before .before .before .before .before .before .before .before .before .before .measure .ensures _ _ d .known)) _ _ (c .before .before .before .before .before .before .before .before .before .before .before .before .before .before .before .if-few .ensures) (c .before .before .before .before .before .before .before .before .before .before .before .before .before .before .free-slot .ensures) _ _ _ (c .before .before .before .before .before .put-set .ensures) (c .if2 .left)
+returns-2 c = λ d. full _ _ _ _ _ d (c .before .before .before .before .before .before .before .before .before .before .before .before .before .before .before .before .before .before .before .before .before .before .before .before .before .before .before .before .before .before .before .args .ttr) _ _ _ _ _ _ (c .before .before .before .before .before .before .before .before .before .before .before .before .before .before .before .before .before .before .before .before .before .before .before .before .before .measure .ensures _ _ d) (sym (c .before .before .before .before .before .before .before .before .before .before .before .before .before .before .before .before .before .before .before .before .before .before .before .before .good-ttr .ensures) ∙ c .before .before .before .before .before .before .before .before .before .before .before .before .before .before .before .before .before .before .before .before .before .before .before .if1 .taken) _ _ _ _ (c .before .before .before .before .before .before .before .before .before .before .before .before .before .before .before .before .before .before .before .before .before .cut-set .ensures _ (c .before .before .before .before .before .before .before .before .before .before .before .before .before .before .before .before .before .before .before .before .before .before .before .before .before .measure .ensures _ _ d .known)) _ _ (c .before .before .before .before .before .before .before .before .before .before .before .before .before .before .before .if-few .ensures) (c .before .before .before .before .before .before .before .before .before .before .before .before .before .before .free-slot .ensures) _ _ _ (c .before .before .before .before .before .put-set .ensures) (c .if2 .left)
 
 -- src/lib.rt:111:43
 add-put-back : tie.Need-add-put-back
@@ -107,7 +107,7 @@ same-length-8 c = search needs
 
 -- src/lib.rt:87:1
 returns-3 : tie.Need-returns-3
-returns-3 c = λ d. cut-done _ _ _ _ _ d (c .before .before .before .before .before .before .before .before .before .before .before .before .before .before .before .before .before .before .before .before .before .before .before .before .before .before .before .before .before .before .before .before .before .before .before .before .args .ttr) _ _ _ _ _ _ _ (c .before .before .before .before .before .before .before .before .before .before .before .before .before .before .before .before .before .before .before .before .before .before .before .before .before .before .before .before .before .before .measure .ensures _ _ d) (sym (c .before .before .before .before .before .before .before .before .before .before .before .before .before .before .before .before .before .before .before .before .before .before .before .before .before .before .before .before .before .good-ttr .ensures) ∙ c .before .before .before .before .before .before .before .before .before .before .before .before .before .before .before .before .before .before .before .before .before .before .before .before .before .before .before .before .if1 .taken) _ _ _ _ (c .before .before .before .before .before .before .before .before .before .before .before .before .before .before .before .before .before .before .before .before .before .before .before .before .before .before .cut-set .ensures _ (c .before .before .before .before .before .before .before .before .before .before .before .before .before .before .before .before .before .before .before .before .before .before .before .before .before .before .before .before .before .before .measure .ensures _ _ d .known)) _ _ (c .before .before .before .before .before .before .before .before .before .before .before .before .before .before .before .before .before .before .before .before .if-few .ensures) (c .before .before .before .before .before .before .before .before .before .before .before .before .before .before .before .before .before .before .before .free-slot .ensures) _ _ _ (c .before .before .before .before .before .before .before .before .before .before .put-set .ensures) (c .before .before .before .before .before .if2 .taken) _ (c .before .before .put-back .ensures)
+returns-3 c = λ d. cut-done _ _ _ _ _ d (c .before .before .before .before .before .before .before .before .before .before .before .before .before .before .before .before .before .before .before .before .before .before .before .before .before .before .before .before .before .before .before .before .before .before .before .before .args .ttr) _ _ _ _ _ _ (c .before .before .before .before .before .before .before .before .before .before .before .before .before .before .before .before .before .before .before .before .before .before .before .before .before .before .before .before .before .before .measure .ensures _ _ d) (sym (c .before .before .before .before .before .before .before .before .before .before .before .before .before .before .before .before .before .before .before .before .before .before .before .before .before .before .before .before .before .good-ttr .ensures) ∙ c .before .before .before .before .before .before .before .before .before .before .before .before .before .before .before .before .before .before .before .before .before .before .before .before .before .before .before .before .if1 .taken) _ _ _ _ (c .before .before .before .before .before .before .before .before .before .before .before .before .before .before .before .before .before .before .before .before .before .before .before .before .before .before .cut-set .ensures _ (c .before .before .before .before .before .before .before .before .before .before .before .before .before .before .before .before .before .before .before .before .before .before .before .before .before .before .before .before .before .before .measure .ensures _ _ d .known)) _ _ (c .before .before .before .before .before .before .before .before .before .before .before .before .before .before .before .before .before .before .before .before .if-few .ensures) (c .before .before .before .before .before .before .before .before .before .before .before .before .before .before .before .before .before .before .before .free-slot .ensures) _ _ _ (c .before .before .before .before .before .before .before .before .before .before .put-set .ensures) (c .before .before .before .before .before .if2 .taken) _ (c .before .before .put-back .ensures)
 
 pub release-set-spec : {M : Type 1} → statement M
 release-set-spec =

@@ -48,8 +48,8 @@ cast-drop-set c = search needs
 drop-set-requires : tie.Need-drop-set-requires
 drop-set-requires c κs =
     let x = c .before .before .before .before .before .before .before .before .before .before .before .before .before .before .before .before .before .before .before .before .measure .ensures _ _ (c .before .before .before .before .before .before .before .before .before .before .before .before .before .before .before .before .before .before .before .before .before .before .before .before .before .before .pre .1) in (
-      fits _ _ _ _ _ (c .before .before .before .before .before .before .before .before .before .before .before .before .before .before .before .before .before .before .before .before .before .before .before .before .before .before .pre .1) (c .before .before .before .before .before .before .before .before .before .before .before .before .before .before .before .before .before .before .before .before .before .before .before .before .before .before .pre .0 .3) (c .before .before .before .before .before .before .before .before .before .before .before .before .before .before .before .before .before .before .before .before .before .before .before .before .before .before .pre .0 .2) _ _ _ _ _ _ _ x (c .before .before .before .before .before .before .before .before .before .before .before .before .before .before .give-tail .last .1 .1 .1 .1 .1 .0) (c .before .before .before .before .before .before .free-slot2 .last .0) (c .before .before .before .before .before .before .before .before .before .before .before .before .before .before .give-tail .ensures .0 .long) (c .before .before .before .before .before .before .free-slot2 .ensures .long ∙ c .before .before .before .before .before .before .before .before .before .before .free-slot .ensures .long),
-      left _ _ _ _ _ (c .before .before .before .before .before .before .before .before .before .before .before .before .before .before .before .before .before .before .before .before .before .before .before .before .before .before .pre .1) _ _ _ _ _ _ _ x _ _ _ (c .before .before .before .before .before .before .before .before .before .before .before .before .before .before .give-tail .ensures .0) (c .before .before .before .before .before .before .before .before .before .before .free-slot .ensures) (c .before .before .before .before .before .before .free-slot2 .ensures),
+      fits _ _ _ _ _ (c .before .before .before .before .before .before .before .before .before .before .before .before .before .before .before .before .before .before .before .before .before .before .before .before .before .before .pre .1) (c .before .before .before .before .before .before .before .before .before .before .before .before .before .before .before .before .before .before .before .before .before .before .before .before .before .before .pre .0 .3) (c .before .before .before .before .before .before .before .before .before .before .before .before .before .before .before .before .before .before .before .before .before .before .before .before .before .before .pre .0 .2) _ _ _ _ _ _ x (c .before .before .before .before .before .before .before .before .before .before .before .before .before .before .give-tail .last .1 .1 .1 .1 .1 .0) (c .before .before .before .before .before .before .free-slot2 .last .0) (c .before .before .before .before .before .before .before .before .before .before .before .before .before .before .give-tail .ensures .0 .long) (c .before .before .before .before .before .before .free-slot2 .ensures .long ∙ c .before .before .before .before .before .before .before .before .before .before .free-slot .ensures .long),
+      left _ _ _ _ _ (c .before .before .before .before .before .before .before .before .before .before .before .before .before .before .before .before .before .before .before .before .before .before .before .before .before .before .pre .1) _ _ _ _ _ _ x _ _ _ (c .before .before .before .before .before .before .before .before .before .before .before .before .before .before .give-tail .ensures .0) (c .before .before .before .before .before .before .before .before .before .before .free-slot .ensures) (c .before .before .before .before .before .before .free-slot2 .ensures),
     )
 
 -- src/lib.rt:37:9
@@ -66,7 +66,7 @@ same-length-3 c = search needs
 
 -- src/lib.rt:37:9
 returns : tie.Need-returns
-returns c = λ d. full _ _ _ _ _ d _ _ _ _ _ _ _ (c .before .before .before .before .before .before .before .before .before .before .before .before .before .before .before .before .before .before .before .before .before .before .before .before .before .before .measure .ensures _ _ d) _ _ _ (c .before .before .before .before .before .before .before .before .before .before .before .before .before .before .before .before .before .before .before .before .give-tail .ensures .0) (c .before .before .before .before .before .before .before .before .before .before .before .before .before .before .before .before .free-slot .ensures) (c .before .before .before .before .before .before .before .before .before .before .before .before .free-slot2 .ensures) _ _ _ (c .before .before .before .before .before .drop-set .ensures) (c .if1 .left)
+returns c = λ d. full _ _ _ _ _ d _ _ _ _ _ _ (c .before .before .before .before .before .before .before .before .before .before .before .before .before .before .before .before .before .before .before .before .before .before .before .before .before .before .measure .ensures _ _ d) _ _ _ (c .before .before .before .before .before .before .before .before .before .before .before .before .before .before .before .before .before .before .before .before .give-tail .ensures .0) (c .before .before .before .before .before .before .before .before .before .before .before .before .before .before .before .before .free-slot .ensures) (c .before .before .before .before .before .before .before .before .before .before .before .before .free-slot2 .ensures) _ _ _ (c .before .before .before .before .before .drop-set .ensures) (c .if1 .left)
 
 -- src/lib.rt:39:5
 put-back-requires : tie.Need-put-back-requires
@@ -93,7 +93,7 @@ same-length-7 c = search needs
 
 -- src/lib.rt:18:1
 returns-2 : tie.Need-returns-2
-returns-2 c = λ d. gone _ _ _ _ _ d _ _ _ _ _ _ _ (c .before .before .before .before .before .before .before .before .before .before .before .before .before .before .before .before .before .before .before .before .before .before .before .before .before .before .before .before .before .before .measure .ensures _ _ d) _ _ _ (c .before .before .before .before .before .before .before .before .before .before .before .before .before .before .before .before .before .before .before .before .before .before .before .before .give-tail .ensures .0) (c .before .before .before .before .before .before .before .before .before .before .before .before .before .before .before .before .before .before .before .before .free-slot .ensures) (c .before .before .before .before .before .before .before .before .before .before .before .before .before .before .before .before .free-slot2 .ensures) _ _ _ (c .before .before .before .before .before .before .before .before .before .drop-set .ensures) (c .before .before .before .before .if1 .taken) _ (c .before .before .put-back .ensures)
+returns-2 c = λ d. gone _ _ _ _ _ d _ _ _ _ _ _ (c .before .before .before .before .before .before .before .before .before .before .before .before .before .before .before .before .before .before .before .before .before .before .before .before .before .before .before .before .before .before .measure .ensures _ _ d) _ _ _ (c .before .before .before .before .before .before .before .before .before .before .before .before .before .before .before .before .before .before .before .before .before .before .before .before .give-tail .ensures .0) (c .before .before .before .before .before .before .before .before .before .before .before .before .before .before .before .before .before .before .before .before .free-slot .ensures) (c .before .before .before .before .before .before .before .before .before .before .before .before .before .before .before .before .free-slot2 .ensures) _ _ _ (c .before .before .before .before .before .before .before .before .before .drop-set .ensures) (c .before .before .before .before .if1 .taken) _ (c .before .before .put-back .ensures)
 
 pub scratch-set-spec : {M : Type 1} → statement M
 scratch-set-spec =

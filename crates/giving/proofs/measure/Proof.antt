@@ -5,7 +5,6 @@ use Rattle.giving.proofs.measure.Statement.{statement}
 use Rattle.giving.proofs.measure.Tie as tie
 use Rattle.giving.proofs.measure.Reads as reads
 use Rattle.giving.proofs.measure.Lts as lts
-use Rattle.free_list.proofs.members.Reads as members-reads
 use Rattle.set_at.proofs.set_at.Reads as set-at-reads
 use Rattle.set_change.proofs.set_tracks.Reads as set-tracks-reads
 
@@ -40,15 +39,11 @@ lowest-track-requires c κs =
     let x = top .pre .1 in
     set-of (geometryOf (top .args .g)) (top .args .table .now) (x .0) (x .1) (top .args .k) (x .2) _ _ _ _ (c .before .before .before .before .before .before .before .set-at .ensures)
 
--- src/lib.rt:42:9
-members-requires : tie.Need-members-requires
-members-requires c κs = search needs
-
 -- src/lib.rt:33:1
 returns : tie.Need-returns
 returns c =
-    let a = c .before .before .before .before .before .before .before .before .before .before .before .args in
-    λ m s d. measured (geometryOf (a .g)) (a .table .now) m s (a .k) d _ _ _ _ (c .before .before .before .before .before .before .before .before .before .set-at .ensures) _ _ _ (c .before .before .before .before .set-tracks .ensures) (c .before .lowest-track .ensures) (c .members .ensures .1)
+    let a = c .before .before .before .before .before .before .before .before .before .before .args in
+    λ m s d. measured (geometryOf (a .g)) (a .table .now) m s (a .k) d _ _ _ _ (c .before .before .before .before .before .before .before .before .set-at .ensures) _ _ (c .before .before .before .set-tracks .ensures) (c .lowest-track .ensures)
 
 pub measure-spec : {M : Type 1} → statement M
 measure-spec =
@@ -61,5 +56,4 @@ measure-spec =
     slice-aggregate-lowest-track
     slice-aggregate-lowest-track-2
     lowest-track-requires
-    members-requires
     returns)
