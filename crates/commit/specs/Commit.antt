@@ -4,7 +4,6 @@ use Prim.Native.Nat.{ℕ, _≤_}
 use mathlib.Core.Bool.{Bool, true, false}
 use mathlib.Core.Option.{Option, none, some}
 use mathlib.Core.List.{List, _∷_}
-use lib.ListN.{length}
 use Rattle.model.specs.Model.{Geometry, Label, Volume, held, slots, slotsOf, tally, tracks, used}
 use Rattle.rules.specs.Layout.{encode}
 use Rattle.rules.specs.Slots.{fewExtents, kept3, settle, settleWith}

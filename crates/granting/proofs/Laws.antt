@@ -3,20 +3,20 @@ use mathlib.Core.Path.{_≡_, refl, sym, ap, ap₂, _∙_, subst}
 use mathlib.Core.Bool.{Bool, true, false, cond}
 use mathlib.Core.Option.{Option, none, some}
 use mathlib.Core.List.{List, [], _∷_, _++_, map}
-use Prim.Native.Nat.{ℕ, _+_, _*_, _≤_, _<_}
+use Prim.Native.Nat.{ℕ, _+_, _≤_}
 use native.Mathlib.Omega.{arith}
 use lib.Dec.{T, leb, eqb, leb→le}
 use lib.ListN.{length, length-append, length-map}
 use Rattle.model.specs.Basics.{bit, flat}
-use Rattle.model.specs.Model.{Extent, Geometry, Label, Run, Volume, covers, extent, fivesFor, free, held, oneSlot, overs, runsOf, slots, slotsOf, tally, times, total, tracks, used}
+use Rattle.model.specs.Model.{Extent, Geometry, Label, Run, Volume, covers, extent, held, oneSlot, overs, runsOf, slots, slotsOf, tally, times, total, tracks, used}
 use Rattle.model.proofs.Lists.{All, by, sum-append, true-is}
 use Rattle.rules.specs.Calls.{Outcome, answer, granted, settled}
 use Rattle.rules.specs.Entries.{lent, result, written}
 use Rattle.rules.specs.Layout.{encode}
 use Rattle.rules.specs.Slots.{fewExtents, kept3, settleWith}
 use Rattle.rules.proofs.Settle.{used-tally}
-use Rattle.rules.proofs.Valid.{Limits, Valid, held-times, slots-tally}
-use Rattle.tracks.specs.Map.{Shows, freeFrom}
+use Rattle.rules.proofs.Valid.{Valid, held-times, slots-tally}
+use Rattle.tracks.specs.Map.{Shows}
 use Rattle.tracks.proofs.Held.{Room, shows-same}
 use Rattle.label_check.specs.Marks.{units}
 use Rattle.grant.specs.Grant.{row}
@@ -25,7 +25,6 @@ use Rattle.set_change.specs.Change.{InRecords, NoneBelow, Piece, TookPieces}
 use Rattle.set_change.specs.Change.{granted as more}
 use Rattle.set_change.proofs.Laws.{pieces-good}
 use Rattle.commit.specs.Commit.{Becomes, Committed, Draft}
-use Rattle.commit.proofs.Put.{free-of}
 use Rattle.commit.proofs.Sets.{slots-shown}
 use Rattle.granting.specs.Granting.{Granted, Grants}
 

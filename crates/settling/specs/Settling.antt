@@ -1,21 +1,18 @@
 -- The slots that a change of data sets needs, in the map of free slots: taken, given back, and settled. The lists of slots in
 -- use and of labels are the caller's: they are quantified. Assumes nothing.
 use mathlib.Core.Path.{_≡_}
-use Prim.Native.Nat.{ℕ, zero, suc, _+_, _≤_, _<_}
+use Prim.Native.Nat.{ℕ, _+_, _≤_, _<_}
 use mathlib.Core.Bool.{Bool, true, cond}
 use mathlib.Core.Option.{some, none}
-use mathlib.Core.List.{List, [], _∷_, _++_}
+use mathlib.Core.List.{List, _++_}
 use lib.ListN.{length, take}
 use lib.Seq.{slice}
-use Rattle.model.specs.Basics.{part}
 use Rattle.model.specs.Model.{Geometry, Label, Volume, fivesFor, free, slots, tally, unused, used}
 use Rattle.model.proofs.Lists.{All}
 use Rattle.rules.specs.Reading.{chop}
 use Rattle.rules.specs.Slots.{settle}
 use Rattle.sound.specs.Sound.{Sound}
 use Rattle.tracks.specs.Map.{Shows, freeBit}
-use Rattle.fields.specs.Records.{slotBytes}
-use Rattle.fields.specs.Tests.{slotNamed}
 use Rattle.label_check.specs.Marks.{units}
 
 -- ---- the map of free slots

@@ -1,5 +1,3 @@
-use Prim.Native.Nat.{_*_}
-use lib.ListN.{length}
 use native.Mathlib.Omega.{arith}
 use Rattle.granting.proofs.Laws.{done, draft, full, pieces-in}
 use borrow.Author.Needs.{needs}
