@@ -1,4 +1,5 @@
-// What release and scratch share: the data set found, its tracks counted, and slots made free.
+// What release and scratch share: the data set found, its tracks counted and given back, and slots made free. Its extents are read
+// where they stand, in the table.
 use forms::Geometry;
 use set_change::Kept;
 ghost use mathlib.Core.Path.{_≡_};
@@ -20,7 +21,7 @@ pub struct Measured {
     pub lowest: u32,
 }
 
-// The data set whose format 1 is in slot k. Where it has no format 3, slot 0 stands in for it: three extents are in the format 1.
+// The data set whose format 1 is in slot k. Without a format 3 the record in slot 0 serves as one: no extent is read from it.
 pub fn measure(table: &[u8], g: Geometry, k: usize) -> Measured
     requires { ⌜ Limits (geometryOf g) × (length (now table) ≡ 140 * slots (geometryOf g)) × (k < slots (geometryOf g)) ⌝ }
     requires { ⌜ ((m : List ℕ) × (s : List ℕ) × At (geometryOf g) (now table) m s k) ⌝ }
