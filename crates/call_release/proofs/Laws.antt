@@ -23,11 +23,15 @@ use Rattle.tracks.proofs.Held.{shows-same}
 use Rattle.label_check.specs.Marks.{units}
 use Rattle.commit.specs.Commit.{Committed, Draft}
 use Rattle.commit.proofs.Sets.{held-apart, held-front, others-stay, shows-below, slots-inside, slots-once, slots-shown, used-apart}
-use Rattle.set_change.specs.Change.{extentsIn}
-use Rattle.set_at.proofs.Laws.{Known}
+use Rattle.fields.specs.Records.{slotBytes}
+use Rattle.set_change.specs.Change.{GaveTail, Stays, extentsIn}
+use Rattle.set_change.proofs.Laws.{stays-fits}
+use Rattle.set_at.specs.Held.{ThirdIn}
+use Rattle.set_at.proofs.Laws.{Stored, copied}
 use Rattle.giving.specs.Giving.{At, FreedSlot, Measures}
 use Rattle.giving.proofs.Calls.{Names}
-use Rattle.call_release.specs.Shorter.{CutTo, shorter}
+use Rattle.call_release.specs.Shorter.{CutTo, Shortens, shorter}
+use Rattle.call_release.proofs.Small.{cut-to}
 
 pub releases : (name : List ℕ) (ttr : ℕ) → Names (release name ttr) name (λ v. release₁ v name ttr)
 unfolding rule
@@ -42,13 +46,15 @@ ttr-fits ttr all h =
     (ltb→lt _ _ a, leb→le _ _ b)
 
 -- what `cut_set` asks
-pub cut-fits : (g : Geometry) (l : Label) (one three : List ℕ) (count third : ℕ) (k : Known g l one three count third) → length (extentsIn g one three count) ≤ 16
-cut-fits g l one three count third k = let a = ap length (k .extents) in let b = k .many in let c = k .set .most in omega arith
+pub cut-fits : (g : Geometry) (t : List ℕ) (l : Label) (k count third : ℕ) → Stored g l t k count third → (n m whole start part : ℕ)
+    → Stays n (extentsIn g (slotBytes t k) (slotBytes t third) count) m whole start part → m ≤ 65535 → (whole ≤ 16) × (1 ≤ part → whole < 16) × (start + part ≤ 65535)
+cut-fits g t l k count third x n m whole start part y u =
+    stays-fits n m whole start part _ y (let a = ap length (x .extents) in let b = x .many in let c = x .set .most in omega arith) u
 
 -- what `free_slot` asks
-pub freed-small : (few : Bool) (third q n k : ℕ) → q ≡ cond few third 0 → third ≡ k → k < n → n ≤ 468 → q < 512
-freed-small true third q n k e f u w = omega arith
-freed-small false third q n k e f u w = omega arith
+pub freed-small : (few : Bool) (third q n : ℕ) → q ≡ cond few third 0 → third < n → n ≤ 468 → q < 512
+freed-small true third q n e u w = omega arith
+freed-small false third q n e u w = omega arith
 
 -- the slots before, by those after and the one that is freed
 slots-cut : (few : Bool) (l : Label) (i : ℕ) → tally i (slotsOf l) ≡ tally i (oneSlot (cond few (l .slot3) 0)) + tally i (oneSlot (l .slot) ++ oneSlot (cond few 0 (l .slot3)))
@@ -71,15 +77,23 @@ module _ (g : Geometry) (t m s : List ℕ) (k : ℕ) (d : At g t m s k) (ttr : �
   abbrev l₀ : Label
   l₀ = shorter ttr l
 
-  module _ (one three : List ℕ) (count third all low was : ℕ) (x : Measures g v l one three count third all low was) where
+  module _ (count third all low : ℕ) (x : Measures g t k l count third all low) where
+    -- what `cut_set` leaves of the records that were copied from the table
+    pub cut : (n whole start part : ℕ) (m′ : List ℕ)
+        → GaveTail (ttr / 256 + 1) (extentsIn g (slotBytes t k) (slotBytes t third) count) m m′ × Stays (ttr / 256 + 1) (extentsIn g (slotBytes t k) (slotBytes t third) count) n whole start part
+        → (one three : List ℕ) → one ≡ slotBytes t k → ThirdIn t third three → (one₂ three₂ : List ℕ) (few : Bool) → Shortens g ttr whole start part one three one₂ three₂ few → CutTo g l ttr m m′ one₂ three₂ few
+    cut n whole start part m′ tail one three e there one₂ three₂ few short =
+        cut-to g t k ttr n count third m m′ whole start part tail one three one₂ three₂ few short l (x .stored)
+        (copied t v (d .ready) (d .name) k (d .it) g (d .geometryIs) third (x .stored .slot3) one three e there)
+
     pub bad-ttr : (a : List ℕ) → goodTtr ttr all ≡ false → result 12 (lent t a []) ≡ written (lent t a []) (release₁ v (d .name) ttr (some l))
     bad-ttr a h =
-        let q : goodTtr ttr (total (runsOf l)) ≡ false = ap (goodTtr ttr) (sym (x .sum)) ∙ h in
+        let q : goodTtr ttr (total (runsOf l)) ≡ false = ap (goodTtr ttr) (sym (x .spread .sum)) ∙ h in
         sym (ap (λ (b : Bool). written (lent t a []) (unless b 12 (settled (givenBack (total (runsOf l) - (ttr / 256 + 1))) (settleWith v others l₀)))) q)
 
     module _ (ok : goodTtr ttr all ≡ true) (m′ one₂ three₂ : List ℕ) (few : Bool) (y : CutTo g l ttr m m′ one₂ three₂ few) (q : ℕ) (s′ : List ℕ) (eq : q ≡ cond few third 0) (f : FreedSlot q s s′) where
       good : goodTtr ttr (total (runsOf l)) ≡ true
-      good = ap (goodTtr ttr) (sym (x .sum)) ∙ ok
+      good = ap (goodTtr ttr) (sym (x .spread .sum)) ∙ ok
 
       rule-is : release₁ v (d .name) ttr (some l) ≡ settled (givenBack (total (runsOf l) - (ttr / 256 + 1))) (settleWith v others l₀)
       rule-is = ap (λ (b : Bool). unless b 12 (settled (givenBack (total (runsOf l) - (ttr / 256 + 1))) (settleWith v others l₀))) good
@@ -102,7 +116,7 @@ module _ (g : Geometry) (t m s : List ℕ) (k : ℕ) (d : At g t m s k) (ttr : �
           let h = slots-tally others i in
           let j = slots-tally (kept3 l₀ ∷ others) i in
           let n = sum-append (λ x. bit (eqb x i)) (oneSlot q) (used (kept3 l₀ ∷ others) (v .chain)) in
-          let o : tally i (oneSlot q) ≡ tally i (oneSlot (cond few (l .slot3) 0)) = ap (λ (z : ℕ). tally i (oneSlot z)) (eq ∙ ap (λ (z : ℕ). cond few z 0) (x .known .slot3)) in
+          let o : tally i (oneSlot q) ≡ tally i (oneSlot (cond few (l .slot3) 0)) = ap (λ (z : ℕ). tally i (oneSlot z)) (eq ∙ ap (λ (z : ℕ). cond few z 0) (x .stored .slot3)) in
           let p : tally i (slotsOf (kept3 l₀)) ≡ tally i (oneSlot (l .slot) ++ oneSlot (cond few 0 (l .slot3))) = ap (λ (b : Bool). tally i (oneSlot (l .slot) ++ oneSlot (cond b 0 (l .slot3)))) (sym (y .fewIs)) in
           let r = slots-cut few l i in
           omega arith
@@ -120,7 +134,7 @@ module _ (g : Geometry) (t m s : List ℕ) (k : ℕ) (d : At g t m s k) (ttr : �
           z .valid
 
       -- what `put_set` asks
-      abbrev pub draft : Draft g t m′ s′ was low k third few one₂ three₂
+      abbrev pub draft : Draft g t m′ s′ low k third few one₂ three₂
       draft =
           record {
             volume = v;
@@ -128,15 +142,14 @@ module _ (g : Geometry) (t m s : List ℕ) (k : ℕ) (d : At g t m s k) (ttr : �
             label = l₀;
             ready = d .ready;
             geometryIs = sym (d .geometryIs);
-            members = x .members;
             slotIs = sym (d .it .slot);
-            thirdIs = x .known .slot3;
+            thirdIs = x .stored .slot3;
             fewIs = y .fewIs;
             shownTracks = tracks-shown;
             below =
-                shows-below g m′ (tracks g) low (v .labels) (held g others) (runsOf l) (runsOf l₀) (x .lowIn)
+                shows-below g m′ (tracks g) low (v .labels) (held g others) (runsOf l) (runsOf l₀) (x .spread .lowIn)
                 (λ i. subst (λ (y : Geometry). times i (held y (v .labels)) ≡ times i (runsOf l ++ held y others)) (sym (d .geometryIs)) (held-apart v (d .ready .valid) (d .name) l (d .it .same) i))
-                (λ i u. let a = x .lowest i u in let b = keep-times (ttr / 256 + 1) i (l .extents) in omega arith) all-shown;
+                (λ i u. let a = x .spread .lowest i u in let b = keep-times (ttr / 256 + 1) i (l .extents) in omega arith) all-shown;
             shownSlots = slots-free;
             written = y .records .one;
             writtenThird = λ _. y .records .three;
@@ -146,7 +159,7 @@ module _ (g : Geometry) (t m s : List ℕ) (k : ℕ) (d : At g t m s k) (ttr : �
             valid = stays-valid;
           }
 
-      module _ (a t′ : List ℕ) (b : Bool) (put : (z : Draft g t m′ s′ was low k third few one₂ three₂) → Committed z t′ b) where
+      module _ (a t′ : List ℕ) (b : Bool) (put : (z : Draft g t m′ s′ low k third few one₂ three₂) → Committed z t′ b) where
         pub full : b ≡ false → result 11 (lent t′ a []) ≡ written (lent t a []) (release₁ v (d .name) ttr (some l))
         full h =
             let z = put draft in
@@ -156,5 +169,5 @@ module _ (g : Geometry) (t m s : List ℕ) (k : ℕ) (d : At g t m s k) (ttr : �
         pub cut-done : b ≡ true → (a′ : List ℕ) → a′ ≡ answer (givenBack (all - (ttr / 256 + 1))) → result 0 (lent t′ a′ []) ≡ written (lent t a []) (release₁ v (d .name) ttr (some l))
         cut-done h a′ ea =
             let z = put draft .done h in
-            ap₂ (λ (y w : List ℕ). result 0 (lent y w [])) (z .2) (ea ∙ ap (λ (n : ℕ). answer (givenBack (n - (ttr / 256 + 1)))) (x .sum))
+            ap₂ (λ (y w : List ℕ). result 0 (lent y w [])) (z .2) (ea ∙ ap (λ (n : ℕ). answer (givenBack (n - (ttr / 256 + 1)))) (x .spread .sum))
             ∙ sym (ap (written (lent t a [])) (rule-is ∙ ap (settled (givenBack (total (runsOf l) - (ttr / 256 + 1)))) (z .1)))

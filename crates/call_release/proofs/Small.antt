@@ -10,15 +10,15 @@ use lib.Dec.{eqb, leb}
 use lib.ListN.{length, length-append, take}
 use lib.Seq.{length-take-le}
 use Rattle.model.specs.Model.{Extent, Geometry, Label}
-use Rattle.rules.specs.Calls.{goodTtr, keep}
-use Rattle.rules.specs.Slots.{withExtents}
+use Rattle.rules.specs.Calls.{goodTtr}
 use Rattle.tracks.proofs.Bits.{le-or-lt}
-use Rattle.labels.specs.Labels.{Format1, Format3, withTtr}
+use Rattle.fields.specs.Records.{slotBytes}
+use Rattle.labels.specs.Labels.{Format1, withTtr}
 use Rattle.labels.proofs.Following.{same-extents}
-use Rattle.set_change.specs.Change.{GaveTail, InRecords, Stays, extentsIn, partOf, shortened}
+use Rattle.set_change.specs.Change.{GaveTail, InRecords, Stays, extentsIn, partOf}
 use Rattle.set_change.proofs.Laws.{shortened-is}
-use Rattle.set_at.proofs.Laws.{Known}
-use Rattle.call_release.specs.Shorter.{CutTo, shorter}
+use Rattle.set_at.proofs.Laws.{Stored}
+use Rattle.call_release.specs.Shorter.{CutTo, Shortens}
 
 -- ---- the TTR
 
@@ -59,22 +59,20 @@ part-stays whole start (suc c) e r q es h =
 
 -- ---- the data set cut
 
-module _ (g : Geometry) (ttr n : ℕ) (f1 f3 : List ℕ) (count third : ℕ) (m m′ : List ℕ) (whole start part : ℕ)
-    (tail : GaveTail (ttr / 256 + 1) (extentsIn g f1 f3 count) m m′) (stays : Stays (ttr / 256 + 1) (extentsIn g f1 f3 count) n whole start part)
-    (one₁ three₁ : List ℕ)
-    (recs : (l : Label) → whole ≤ length (l .extents) → Format1 g l f1 → (3 < length (l .extents) → Format3 g l f3) → InRecords g (shortened whole start part l) one₁ three₁)
-    (one₂ : List ℕ) (ended : (g : Geometry) (l : Label) → Format1 g l one₁ → Format1 g (withTtr ttr l) one₂)
-    (few : Bool) (fewer : (es : List Extent) → whole ≤ length es → few ≡ leb (length (take whole es ++ partOf start part)) 3) where
-  pub cut-to : (l : Label) → Known g l f1 f3 count third → CutTo g l ttr m m′ one₂ three₁ few
-  cut-to l k =
+-- another last block changes the format 1 only
+pub ended : {g : Geometry} {l : Label} {one one′ three : List ℕ} (ttr : ℕ) → InRecords g l one three → Format1 g (withTtr ttr l) one′ → InRecords g (withTtr ttr l) one′ three
+ended {g} {l} ttr x f = record { one = f; three = x .three ∙ same-extents g l (withTtr ttr l) refl }
+
+module _ (g : Geometry) (t : List ℕ) (k ttr n count third : ℕ) (m m′ : List ℕ) (whole start part : ℕ)
+    (tail : GaveTail (ttr / 256 + 1) (extentsIn g (slotBytes t k) (slotBytes t third) count) m m′ × Stays (ttr / 256 + 1) (extentsIn g (slotBytes t k) (slotBytes t third) count) n whole start part)
+    (one three one′ three′ : List ℕ) (few : Bool) (short : Shortens g ttr whole start part one three one′ three′ few) where
+  pub cut-to : (l : Label) → Stored g l t k count third → InRecords g l one three → CutTo g l ttr m m′ one′ three′ few
+  cut-to l x r =
       let es = l .extents in
-      let e : extentsIn g f1 f3 count ≡ es = k .extents in
-      let st : Stays (ttr / 256 + 1) es n whole start part = subst (λ (y : List Extent). Stays (ttr / 256 + 1) y n whole start part) e stays in
-      let gt : GaveTail (ttr / 256 + 1) es m m′ = subst (λ (y : List Extent). GaveTail (ttr / 256 + 1) y m m′) e tail in
-      let r : InRecords g (withExtents (keep (ttr / 256 + 1) es) (l .ttr) l) one₁ three₁ = subst (λ (y : Label). InRecords g y one₁ three₁) (shortened-is (ttr / 256 + 1) n whole start part l st) (recs l (st .most) (k .records .one) (λ _. k .records .three)) in
+      let y : GaveTail (ttr / 256 + 1) es m m′ × Stays (ttr / 256 + 1) es n whole start part = subst (λ (z : List Extent). GaveTail (ttr / 256 + 1) z m m′ × Stays (ttr / 256 + 1) z n whole start part) (x .extents) tail in
       record {
-        long = gt .long;
-        held = gt .held;
-        records = record { one = ended g (withExtents (keep (ttr / 256 + 1) es) (l .ttr) l) (r .one); three = r .three ∙ same-extents g _ (shorter ttr l) refl };
-        fewIs = fewer es (st .most) ∙ ap (λ (y : List Extent). leb (length y) 3) (sym (st .kept));
+        long = y .0 .long;
+        held = y .0 .held;
+        records = subst (λ (z : Label). InRecords g (withTtr ttr z) one′ three′) (shortened-is (ttr / 256 + 1) n whole start part l (y .1)) (short .records l (y .1 .most) r);
+        fewIs = short .fewIs es (y .1 .most) ∙ ap (λ (z : List Extent). leb (length z) 3) (sym (y .1 .kept));
       }

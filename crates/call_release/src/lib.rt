@@ -1,27 +1,24 @@
 // Release: the tracks of a data set behind its last block given back.
 use forms::Geometry;
-use giving::Measured;
 use names::Found;
 use set_change::Kept;
-use set_change::Records;
 ghost use mathlib.Core.Path.{_≡_};
 ghost use mathlib.Core.Bool.{true};
 ghost use mathlib.Core.Option.{some};
 ghost use mathlib.Core.List.{List, [], _++_};
-ghost use Prim.Native.Nat.{_*_, _≤_, _<_};
+ghost use Prim.Native.Nat.{_+_, _*_, _≤_, _<_};
 ghost use lib.Dec.{leb};
 ghost use lib.ListN.{length, take};
-ghost use Rattle.model.specs.Model.{Extent, Label, slots, tracks};
+ghost use Rattle.model.specs.Model.{Extent, slots, tracks};
 ghost use Rattle.rules.specs.Calls.{goodTtr, release₁};
 ghost use Rattle.rules.specs.Contracts.{Releases};
 ghost use Rattle.rules.specs.Entries.{lent, result, written};
 ghost use Rattle.rules.proofs.Valid.{Limits};
 ghost use Rattle.forms.specs.Forms.{geometryOf};
-ghost use Rattle.set_change.specs.Change.{SetIn, extentsIn, partOf};
-ghost use Rattle.set_at.proofs.Laws.{Known};
+ghost use Rattle.set_change.specs.Change.{partOf};
 ghost use Rattle.giving.specs.Giving.{At};
 ghost use Rattle.table_check.specs.Check.{Roomy};
-ghost use Rattle.call_release.specs.Shorter.{CutTo};
+ghost use Rattle.call_release.specs.Shorter.{Shortens};
 
 // Whether a data set with so many tracks may end with the block TTR.
 fn good_ttr(ttr: u32, all: u32) -> bool
@@ -49,29 +46,14 @@ fn few_stay(k: Kept) -> bool
     k.whole <= 2
 }
 
-// A data set cut: its records then, and whether it has three extents or fewer.
-struct Short {
-    one: [u8; 140],
-    three: [u8; 140],
-    few: bool,
-}
-
-// Cuts a data set behind the block TTR, in its records and in the map.
-fn cut_set(x: Measured, g: Geometry, ttr: u32, map: &mut [u64]) -> Short
-    requires { ⌜ (ttr < 16777216) × (tracks (geometryOf g) ≤ 64 * length (now map)) × SetIn (geometryOf g) (x .one) (x .three) (x .count) × (length (extentsIn (geometryOf g) (x .one) (x .three) (x .count)) ≤ 16) ⌝ }
-    ensures { λ r. ⌜ ((l : Label) → Known (geometryOf g) l (x .one) (x .three) (x .count) (x .third) → CutTo (geometryOf g) l ttr (now (map .entry)) (now (map .exit)) (r .one) (r .three) (r .few)) ⌝ }
+// Makes the records of a data set those of what stays of it, with TTR as its last block. True: it needs no format 3.
+fn cut_set(one: &mut [u8; 140], three: &mut [u8; 140], g: Geometry, kept: Kept, ttr: u32) -> bool
+    requires { ⌜ (length (now one) ≡ 140) × (length (now three) ≡ 140) × (kept .whole ≤ 16) × (1 ≤ kept .count → kept .whole < 16) × (kept .start + kept .count ≤ 65535) × Limits (geometryOf g) × (ttr < 16777216) ⌝ }
+    ensures { λ r. ⌜ Shortens (geometryOf g) ttr (kept .whole) (kept .start) (kept .count) (now (one .entry)) (now (three .entry)) (now (one .exit)) (now (three .exit)) r ⌝ }
 {
-    let one = x.one;
-    let three = x.three;
-    let kept = set_change::give_tail(&one, &three, x.count, g, ttr / 256 + 1, map);
-    let r = set_change::cut_records(Records { one, three }, g, kept);
-    let shorter = r.one;
-    let third = r.three;
-    Short {
-        one: labels::set_ttr(shorter, ttr),
-        three: third,
-        few: few_stay(kept),
-    }
+    set_change::cut_records(one, three, g, kept);
+    labels::set_ttr(one, ttr);
+    few_stay(kept)
 }
 
 // Cuts the data set in slot k and writes it. A format 3 that goes is free before new format 5s are placed.
@@ -92,20 +74,20 @@ fn release_set(
     if good_ttr(ttr, x.tracks) {} else {
         return 12;
     }
-    let c = cut_set(x, g, ttr, map);
-    let mut one = c.one;
-    let three = c.three;
-    giving::free_slot(empty, commit::if_few(c.few, x.third));
+    let kept = giving::give_back(table, g, k, x, ttr / 256 + 1, map);
+    let mut one = records::record_of(fields::record_at(table, k));
+    let mut three = set_at::third_record(table, x.third);
+    let few = cut_set(&mut one, &mut three, g, kept, ttr);
+    giving::free_slot(empty, commit::if_few(few, x.third));
     if commit::put_set(
         table,
         g,
         map,
         empty,
-        x.was,
         x.lowest as usize,
         k,
         x.third,
-        c.few,
+        few,
         &mut one,
         &three,
     ) {} else {

@@ -13,6 +13,7 @@ use Rattle.rules.proofs.Kept.{Keeps}
 use Rattle.rules.proofs.Valid.{Valid}
 use Rattle.tracks.specs.Map.{Shows}
 use Rattle.tracks.proofs.Held.{shows-same}
+use Rattle.fields.specs.Records.{slotBytes}
 use Rattle.label_check.specs.Marks.{units}
 use Rattle.set_change.specs.Change.{GaveTail, extentsIn}
 use Rattle.set_change.proofs.Laws.{none-kept}
@@ -38,18 +39,18 @@ module _ (g : Geometry) (t m s : List ℕ) (k : ℕ) (d : At g t m s k) where
   abbrev after : Option Volume
   after = settle g (v .chain) others 0 (λ ks. others)
 
-  module _ (one three : List ℕ) (count third all low was : ℕ) (x : Measures g v l one three count third all low was) (m′ s₁ s₂ : List ℕ) (tail : GaveTail 0 (extentsIn g one three count) m m′) (f₁ : FreedSlot k s s₁) (f₂ : FreedSlot third s₁ s₂) where
+  module _ (count third all low : ℕ) (x : Measures g t k l count third all low) (m′ s₁ s₂ : List ℕ) (tail : GaveTail 0 (extentsIn g (slotBytes t k) (slotBytes t third) count) m m′) (f₁ : FreedSlot k s s₁) (f₂ : FreedSlot third s₁ s₂) where
     pub tracks-shown : Shows m′ (tracks g) (held g others)
     tracks-shown =
         let a : Shows m (tracks (v .geometry)) (runsOf l ++ held (v .geometry) others) = shows-same m (tracks (v .geometry)) (held (v .geometry) (v .labels)) (runsOf l ++ held (v .geometry) others) (λ t u. held-apart v (d .ready .valid) (d .name) l (d .it .same) t) (d .shown .freeTracks) in
         let b : Shows m (tracks g) (runsOf l ++ held g others) = subst (λ (y : Geometry). Shows m (tracks y) (runsOf l ++ held y others)) (sym (d .geometryIs)) a in
-        let c : Shows m (tracks g) (overs (extentsIn g one three count) ++ held g others) = subst (λ (es : List Extent). Shows m (tracks g) (overs es ++ held g others)) (sym (x .known .extents)) b in
-        none-kept g (extentsIn g one three count) m m′ (x .known .set .good) tail (tracks g) (held g others) c
+        let c : Shows m (tracks g) (overs (extentsIn g (slotBytes t k) (slotBytes t third) count) ++ held g others) = subst (λ (es : List Extent). Shows m (tracks g) (overs es ++ held g others)) (sym (x .stored .extents)) b in
+        none-kept g (extentsIn g (slotBytes t k) (slotBytes t third) count) m m′ (x .stored .set .good) tail (tracks g) (held g others) c
 
     pub slots-free : Shows s₂ (slots g) (units (used others (v .chain)))
     slots-free =
         let us = used others (v .chain) in
-        let e : slotsOf l ++ us ≡ oneSlot k ++ (oneSlot third ++ us) = ap₂ (λ (i j : ℕ). (oneSlot i ++ oneSlot j) ++ us) (d .it .slot) (sym (x .known .slot3)) ∙ append-assoc (oneSlot k) (oneSlot third) us in
+        let e : slotsOf l ++ us ≡ oneSlot k ++ (oneSlot third ++ us) = ap₂ (λ (i j : ℕ). (oneSlot i ++ oneSlot j) ++ us) (d .it .slot) (sym (x .stored .slot3)) ∙ append-assoc (oneSlot k) (oneSlot third) us in
         let a : Shows s (slots (v .geometry)) (units (slotsOf l ++ us)) = slots-shown s (slots (v .geometry)) (used (v .labels) (v .chain)) (slotsOf l ++ us) (λ i u. used-apart v (d .ready .valid) (d .name) l (d .it .same) i) (d .shown .freeSlots) in
         let b : Shows s (slots g) (units (slotsOf l ++ us)) = subst (λ (y : Geometry). Shows s (slots y) (units (slotsOf l ++ us))) (sym (d .geometryIs)) a in
         f₂ .freed (slots g) us (f₁ .freed (slots g) (oneSlot third ++ us) (subst (λ (w : List ℕ). Shows s (slots g) (units w)) e b))
@@ -64,7 +65,7 @@ module _ (g : Geometry) (t m s : List ℕ) (k : ℕ) (d : At g t m s k) where
         y .valid
 
     -- what `drop_set` asks
-    abbrev pub left : Left g t m′ s₂ was low k third
+    abbrev pub left : Left g t m′ s₂ low k third
     left =
         record {
           volume = v;
@@ -72,14 +73,13 @@ module _ (g : Geometry) (t m s : List ℕ) (k : ℕ) (d : At g t m s k) where
           label = l;
           ready = d .ready;
           geometryIs = sym (d .geometryIs);
-          members = x .members;
           slotIs = sym (d .it .slot);
-          thirdIs = x .known .slot3;
+          thirdIs = x .stored .slot3;
           shownTracks = tracks-shown;
           below =
-              shows-below g m′ (tracks g) low (v .labels) (held g others) (runsOf l) [] (x .lowIn)
+              shows-below g m′ (tracks g) low (v .labels) (held g others) (runsOf l) [] (x .spread .lowIn)
               (λ i. subst (λ (y : Geometry). times i (held y (v .labels)) ≡ times i (runsOf l ++ held y others)) (sym (d .geometryIs)) (held-apart v (d .ready .valid) (d .name) l (d .it .same) i))
-              (x .lowest) tracks-shown;
+              (x .spread .lowest) tracks-shown;
           shownSlots = slots-free;
           stays = others-stay v (d .ready .valid) (d .name) l (d .it .same) l refl refl;
           slotOnce = slots-once v (d .ready .valid) (d .name) l (d .it .same) l refl refl;
@@ -87,7 +87,7 @@ module _ (g : Geometry) (t m s : List ℕ) (k : ℕ) (d : At g t m s k) where
           valid = stays-valid;
         }
 
-    module _ (a t′ : List ℕ) (b : Bool) (put : (y : Left g t m′ s₂ was low k third) → Gone y t′ b) where
+    module _ (a t′ : List ℕ) (b : Bool) (put : (y : Left g t m′ s₂ low k third) → Gone y t′ b) where
       pub full : b ≡ false → result 11 (lent t′ a []) ≡ written (lent t a []) (scratch₁ v (d .name) (some l))
       full h =
           let y = put left in
@@ -97,5 +97,5 @@ module _ (g : Geometry) (t m s : List ℕ) (k : ℕ) (d : At g t m s k) where
       pub gone : b ≡ true → (a′ : List ℕ) → a′ ≡ answer (givenBack all) → result 0 (lent t′ a′ []) ≡ written (lent t a []) (scratch₁ v (d .name) (some l))
       gone h a′ ea =
           let y = put left .done h in
-          ap₂ (λ (z w : List ℕ). result 0 (lent z w [])) (y .2) (ea ∙ ap (λ (n : ℕ). answer (givenBack n)) (x .sum))
+          ap₂ (λ (z w : List ℕ). result 0 (lent z w [])) (y .2) (ea ∙ ap (λ (n : ℕ). answer (givenBack n)) (x .spread .sum))
           ∙ sym (ap (λ (o : Option Volume). written (lent t a []) (settled (givenBack (total (runsOf l))) o)) (settle-is ∙ y .1))

@@ -29,12 +29,10 @@ fn scratch_set(
     ensures { λ r. ⌜ ((d : At (geometryOf g) (now (table .entry)) (now (map .entry)) (now (empty .entry)) k) → result r (lent (now (table .exit)) (now (answer .exit)) []) ≡ written (lent (now (table .entry)) (now (answer .entry)) []) (scratch₁ (d .volume) (d .name) (some (d .it .label)))) ⌝ }
 {
     let x = giving::measure(table, g, k);
-    let one = x.one;
-    let three = x.three;
-    set_change::give_tail(&one, &three, x.count, g, 0, map);
+    giving::give_back(table, g, k, x, 0, map);
     giving::free_slot(empty, k);
     giving::free_slot(empty, x.third);
-    if commit::drop_set(table, g, map, empty, x.was, x.lowest as usize, k, x.third) {} else {
+    if commit::drop_set(table, g, map, empty, x.lowest as usize, k, x.third) {} else {
         return 11;
     }
     answers::put_back(answer, x.tracks);

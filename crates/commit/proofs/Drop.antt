@@ -27,8 +27,8 @@ use Rattle.commit.proofs.Kept.{Stay, same-chain, stay}
 use Rattle.commit.proofs.Core.{cleared-both, emptied, finished, settled-chain}
 use Rattle.commit.proofs.Put.{chain-tail, empty-of, free-of, slots-eq}
 
-module _ (g : Geometry) (t m s : List ℕ) (was lo slot third : ℕ) (d : Left g t m s was lo slot third)
-    (c₀ c c′ s′ d₀ d′ : List ℕ) (need : ℕ) (r : Bool)
+module _ (g : Geometry) (t m s : List ℕ) (lo slot third : ℕ) (d : Left g t m s lo slot third)
+    (c₀ c c′ s′ d₀ d′ : List ℕ) (was need : ℕ) (r : Bool)
     (chained : Chained g t c₀ c was) (need-is : need ≡ fivesFor (length (freeFrom m (tracks g) 0)))
     (st : Settles g s s′ c c′ d₀ d′ was need 0 r) where
   abbrev v : Volume
@@ -37,8 +37,11 @@ module _ (g : Geometry) (t m s : List ℕ) (was lo slot third : ℕ) (d : Left g
   abbrev w : Volume
   w = record { geometry = g; labels = d .others; chain = take need c′ }
 
+  sound : Sound (chop (slots g) t) v
+  sound = subst (λ (x : Geometry). Sound (chop (slots x) t) v) (d .geometryIs) (d .ready .sound)
+
   read-chain : take was c ≡ v .chain
-  read-chain = chained .chain v (d .geometryIs) (subst (λ (x : Geometry). Sound (chop (slots x) t) v) (d .geometryIs) (d .ready .sound)) (d .members)
+  read-chain = chained .chain v (d .geometryIs) sound
 
   pub left-shown : Shows s (slots g) (units (used (d .others) (take was c)))
   left-shown = subst (λ (x : List ℕ). Shows s (slots g) (units (used (d .others) x))) (sym read-chain) (d .shownSlots)
@@ -89,7 +92,7 @@ module _ (g : Geometry) (t m s : List ℕ) (was lo slot third : ℕ) (d : Left g
           (λ x. let a = old-slots x in omega arith) (λ x. let a = old-slots x in omega arith) (λ x. omega arith)
           (λ x p z. record { first = refl; third = refl }) m from at staying t (d .ready .bytes) in
           let e : t₃ ≡ cleared (cleared t (drop need (v .chain))) freed
-          = e₃ ∙ ap (λ (y : List ℕ). cleared y (oneSlot third)) (e₂ ∙ ap (λ (y : List ℕ). cleared y (oneSlot slot)) (e₁ ∙ ap (cleared t) (chain-tail c c′ (v .chain) was need (st .tail) read-chain (d .members))))
+          = e₃ ∙ ap (λ (y : List ℕ). cleared y (oneSlot third)) (e₂ ∙ ap (λ (y : List ℕ). cleared y (oneSlot slot)) (e₁ ∙ ap (cleared t) (chain-tail c c′ (v .chain) was need (st .tail) read-chain (chained .many v (d .geometryIs) sound))))
           ∙ cleared-both (cleared t (drop need (v .chain))) (oneSlot slot) (oneSlot third) in
           record {
             full = λ x. clash refl x;

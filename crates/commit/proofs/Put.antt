@@ -121,8 +121,8 @@ third-eq few few′ slot slot′ third third′ ds a b c = rw (a, b, c) (third-g
 pub slots-eq : (slot slot′ third third′ x : ℕ) → slot ≡ slot′ → third ≡ third′ → tally x (oneSlot slot′ ++ oneSlot third′) ≡ tally x (oneSlot slot) + tally x (oneSlot third)
 slots-eq slot slot′ third third′ x a b = rw (a, b) (sum-append (λ y. bit (eqb y x)) (oneSlot slot′) (oneSlot third′))
 
-module _ (g : Geometry) (t m s : List ℕ) (was lo slot third : ℕ) (few : Bool) (one three : List ℕ) (d : Draft g t m s was lo slot third few one three)
-    (c₀ c c′ s′ d₀ d′ : List ℕ) (need asked : ℕ) (r : Bool)
+module _ (g : Geometry) (t m s : List ℕ) (lo slot third : ℕ) (few : Bool) (one three : List ℕ) (d : Draft g t m s lo slot third few one three)
+    (c₀ c c′ s′ d₀ d′ : List ℕ) (was need asked : ℕ) (r : Bool)
     (chained : Chained g t c₀ c was) (need-is : need ≡ fivesFor (length (freeFrom m (tracks g) 0))) (asked-is : asked ≡ asks slot + cond few 0 (asks third))
     (two : length d₀ ≡ 2) (st : Settles g s s′ c c′ d₀ d′ was need asked r) where
   abbrev v : Volume
@@ -143,8 +143,11 @@ module _ (g : Geometry) (t m s : List ℕ) (was lo slot third : ℕ) (few : Bool
   abbrev w : Volume
   w = record { geometry = g; labels = insertLabel (placed ks l) (d .others); chain = take need c′ }
 
+  sound : Sound (chop (slots g) t) v
+  sound = subst (λ (x : Geometry). Sound (chop (slots x) t) v) (d .geometryIs) (d .ready .sound)
+
   pub read-chain : take was c ≡ v .chain
-  read-chain = chained .chain v (d .geometryIs) (subst (λ (x : Geometry). Sound (chop (slots x) t) v) (d .geometryIs) (d .ready .sound)) (d .members)
+  read-chain = chained .chain v (d .geometryIs) sound
 
   pub shown : Shows s (slots g) (units (used draft (take was c)))
   shown = subst (λ (x : List ℕ). Shows s (slots g) (units (used draft x))) (sym read-chain) (d .shownSlots)
@@ -318,7 +321,7 @@ module _ (g : Geometry) (t m s : List ℕ) (was lo slot third : ℕ) (few : Bool
           → Becomes (settleWith v (d .others) l₀) t t₄ true
       put-done freed first other t₁ t₂ t₃ t₄ f a b e₁ e₂ e₃ e₄ =
           let two : t₂ ≡ cleared (cleared t (drop need (v .chain))) (oneSlot (cond few third 0))
-          = e₂ ∙ ap₂ (λ (y : List ℕ) (x : ℕ). cleared y (oneSlot x)) (e₁ ∙ ap (cleared t) (chain-tail c c′ (v .chain) was need (st .tail) read-chain (d .members))) f in
+          = e₂ ∙ ap₂ (λ (y : List ℕ) (x : ℕ). cleared y (oneSlot x)) (e₁ ∙ ap (cleared t) (chain-tail c c′ (v .chain) was need (st .tail) read-chain (chained .many v (d .geometryIs) sound))) f in
           let three-done : t₃ ≡ labelPut g (cleared (cleared t (drop need (v .chain))) (oneSlot (cond few third 0))) k q l₀ three
           = e₃ ∙ ap₂ (λ (x y : ℕ). labelPut g t₂ x y l₀ three) a b ∙ ap (λ (y : List ℕ). labelPut g y k q l₀ three) two in
           record { full = λ x. clash refl x; same = λ x. clash refl x; done = λ x. (w, is-w, e₄ ∙ written t₃ three-done) }

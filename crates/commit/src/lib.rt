@@ -112,7 +112,6 @@ pub fn put_set(
     g: Geometry,
     map: &[u64],
     empty: &mut [u64],
-    was: usize,
     lo: usize,
     slot: usize,
     third: usize,
@@ -120,13 +119,13 @@ pub fn put_set(
     one: &mut [u8; 140],
     three: &[u8; 140],
 ) -> bool
-    requires { ⌜ Limits (geometryOf g) × (length (now table) ≡ 140 * slots (geometryOf g)) × (tracks (geometryOf g) ≤ 64 * length (now map)) × (length (now empty) ≡ 8) × (was ≤ 468) × (lo ≤ tracks (geometryOf g)) × (slot < slots (geometryOf g)) × (third < slots (geometryOf g)) × (length (now one) ≡ 140) ⌝ }
-    requires { ⌜ Draft (geometryOf g) (now table) (now map) (now empty) was lo slot third few (now one) (now three) ⌝ }
-    ensures { λ r. ⌜ ((d : Draft (geometryOf g) (now (table .entry)) (now (map .entry)) (now (empty .entry)) was lo slot third few (now (one .entry)) (now (three .entry))) → Committed d (now (table .exit)) r) ⌝ }
+    requires { ⌜ Limits (geometryOf g) × (length (now table) ≡ 140 * slots (geometryOf g)) × (tracks (geometryOf g) ≤ 64 * length (now map)) × (length (now empty) ≡ 8) × (lo ≤ tracks (geometryOf g)) × (slot < slots (geometryOf g)) × (third < slots (geometryOf g)) × (length (now one) ≡ 140) ⌝ }
+    requires { ⌜ Draft (geometryOf g) (now table) (now map) (now empty) lo slot third few (now one) (now three) ⌝ }
+    ensures { λ r. ⌜ ((d : Draft (geometryOf g) (now (table .entry)) (now (map .entry)) (now (empty .entry)) lo slot third few (now (one .entry)) (now (three .entry))) → Committed d (now (table .exit)) r) ⌝ }
 {
     let n = (g.tracks * g.records) as usize;
     let mut chain = [0u16; 468];
-    settling::read_chain(table, g, was, &mut chain);
+    let was = settling::read_chain(table, g, &mut chain);
     let runs = tracks::count_runs(map, (g.cylinders * g.heads) as usize);
     let need = settling::fives_for(runs);
     let mut given = [0u16; 2];
@@ -151,18 +150,17 @@ pub fn drop_set(
     g: Geometry,
     map: &[u64],
     empty: &mut [u64],
-    was: usize,
     lo: usize,
     slot: usize,
     third: usize,
 ) -> bool
-    requires { ⌜ Limits (geometryOf g) × (length (now table) ≡ 140 * slots (geometryOf g)) × (tracks (geometryOf g) ≤ 64 * length (now map)) × (length (now empty) ≡ 8) × (was ≤ 468) × (lo ≤ tracks (geometryOf g)) × (slot < slots (geometryOf g)) × (third < slots (geometryOf g)) ⌝ }
-    requires { ⌜ Left (geometryOf g) (now table) (now map) (now empty) was lo slot third ⌝ }
-    ensures { λ r. ⌜ ((d : Left (geometryOf g) (now (table .entry)) (now (map .entry)) (now (empty .entry)) was lo slot third) → Gone d (now (table .exit)) r) ⌝ }
+    requires { ⌜ Limits (geometryOf g) × (length (now table) ≡ 140 * slots (geometryOf g)) × (tracks (geometryOf g) ≤ 64 * length (now map)) × (length (now empty) ≡ 8) × (lo ≤ tracks (geometryOf g)) × (slot < slots (geometryOf g)) × (third < slots (geometryOf g)) ⌝ }
+    requires { ⌜ Left (geometryOf g) (now table) (now map) (now empty) lo slot third ⌝ }
+    ensures { λ r. ⌜ ((d : Left (geometryOf g) (now (table .entry)) (now (map .entry)) (now (empty .entry)) lo slot third) → Gone d (now (table .exit)) r) ⌝ }
 {
     let n = (g.tracks * g.records) as usize;
     let mut chain = [0u16; 468];
-    settling::read_chain(table, g, was, &mut chain);
+    let was = settling::read_chain(table, g, &mut chain);
     let runs = tracks::count_runs(map, (g.cylinders * g.heads) as usize);
     let need = settling::fives_for(runs);
     let mut given = [0u16; 2];

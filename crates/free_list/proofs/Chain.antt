@@ -63,6 +63,9 @@ module _ (rs : List (List ℕ)) (v : Volume) (x : Sound rs v) where
   chain-positive : All (λ k. 1 ≤ k) (v .chain)
   chain-positive = tally-nonzero (v .chain) (let a = chain-tally 0 in let b = ap bit (eq-eqb 0 0 refl) in omega arith)
 
+  pub chain-inside : All (λ k. (1 ≤ k) × (k < slots (v .geometry))) (v .chain)
+  chain-inside = All-both (λ k. 1 ≤ k) (λ k. k < slots (v .geometry)) (v .chain) chain-positive (chain-below v (x .slotIn))
+
   -- it has room in a list as long as the slots
   pub chain-short : length (v .chain) ≤ slots (v .geometry)
   chain-short =
@@ -87,7 +90,7 @@ lists-all t v x = record {
   head = x .head;
   enough = room (length (free (v .geometry) (v .labels))) (length (v .chain)) (x .members);
   full = separate-full 0 (tracks (v .geometry)) (free (v .geometry) (v .labels)) (free-apart v);
-  inside = All-both (λ k. 1 ≤ k) (λ k. k < slots (v .geometry)) (v .chain) (chain-positive (chop (slots (v .geometry)) t) v x) (chain-below v (x .slotIn));
+  inside = chain-inside (chop (slots (v .geometry)) t) v x;
   hold = x .fives;
 }
 
@@ -102,13 +105,6 @@ lists-none g t n f x = go (x .members) (x .many) (x .head) (x .inside) f (x .eno
     go [] m h i [] e = refl
     go [] m h i (r ∷ f) e = absurd (omega arith)
     go (k ∷ ks) m h i f e = absurd (omega (arith, i .0 .0))
-
-pub lists-zero : (g : Geometry) (t : List ℕ) (n : ℕ) (f : List Run) → Lists g t n 0 f → n ≡ 0
-lists-zero g t n f x = go (x .members) (x .many) (x .head) (x .inside)
-  where
-    go : (ks : List ℕ) → length ks ≡ n → headOr0 ks ≡ 0 → All (λ j. (1 ≤ j) × (j < slots g)) ks → n ≡ 0
-    go [] m h i = sym m
-    go (k ∷ ks) m h i = absurd (omega (arith, i .0 .0))
 
 pub lists-end : (g : Geometry) (t : List ℕ) (k : ℕ) (f : List Run) → Lists g t 0 k f → f ≡ []
 lists-end g t k f x = go f (x .enough)
@@ -137,7 +133,7 @@ module _ (g : Geometry) (t : List ℕ) (k : ℕ) (f : List Run) where
           let u : k < slots g = omega (arith, i .0 .1) in
           (u, entries-of (headOr0 ks) (a .0 ∙ ap (recordAt (chop (slots g) t)) h ∙ chop-slot (slots g) t k u) (x .full), (length ks, sym m))
 
-  named-head : Limits g → (ks : List ℕ) → All (λ j. (1 ≤ j) × (j < slots g)) ks → (j : ℕ) → j < slots g → format5 g (take 26 f) (headOr0 ks) ≡ slotBytes t j → named g t j ≡ headOr0 ks
+  pub named-head : Limits g → (ks : List ℕ) → All (λ j. (1 ≤ j) × (j < slots g)) ks → (j : ℕ) → j < slots g → format5 g (take 26 f) (headOr0 ks) ≡ slotBytes t j → named g t j ≡ headOr0 ks
   named-head limit [] i j u e = named-next g limit t j 0 (take 26 f) u (omega arith) e
   named-head limit (q ∷ ks) i j u e = named-next g limit t j q (take 26 f) u (i .0 .1) e
 

@@ -1,13 +1,13 @@
 -- A walk along the chain of format 5s, member by member. Assumes nothing.
 use mathlib.Core.Path.{_≡_, subst}
 use mathlib.Core.List.{List, []}
-use Prim.Native.Nat.{ℕ, suc, _+_, _-_, _≤_}
+use Prim.Native.Nat.{ℕ, suc, _-_, _≤_}
 use native.Mathlib.Omega.{arith}
 use lib.ListN.{drop, take}
 use Rattle.model.specs.Model.{Geometry, Run, slots}
 use Rattle.fields.specs.Records.{slotBytes}
 use Rattle.free_list.specs.FreeList.{Entries, Listed, Lists}
-use Rattle.free_list.proofs.Chain.{lists-end, lists-here, lists-none, lists-zero}
+use Rattle.free_list.proofs.Chain.{lists-end, lists-here, lists-none}
 
 -- The members from slot k on are still to be looked at, `left` of them at most. P says what is known, by the free extents in
 -- them.
@@ -48,30 +48,3 @@ module _ (g : Geometry) (t : List ℕ) (P : List Run → Type 0) where
         let w = x .few in
         let e : x .members ≡ 0 = omega arith in
         subst P (lists-end g t k (x .rest) (subst (λ (i : ℕ). Lists g t i k (x .rest)) e (x .lists))) (x .known)
-
--- ---- members counted
-
--- c members lie behind, and the others of the n go on in slot k
-pub record Counted (g : Geometry) (t : List ℕ) (n c k : ℕ) : Type 0 where
-  pub ahead : ℕ
-  pub rest : List Run
-  pub sum : c + ahead ≡ n
-  pub lists : Lists g t ahead k rest
-
-module _ (g : Geometry) (t : List ℕ) (n c k : ℕ) (x : Counted g t n c k) where
-  pub counted-next : 1 ≤ k → (r : ℕ) → ((m : ℕ) (f : List Run) → Lists g t (suc m) k f → Lists g t m r (drop 26 f)) → Counted g t n (c + 1) r
-  counted-next p r next =
-      let y = lists-here g t k (x .rest) (x .ahead) p (x .lists) in
-      let m = y .2 .0 in
-      let e : x .ahead ≡ suc m = y .2 .1 in
-      let s = x .sum in
-      record { ahead = m; rest = drop 26 (x .rest); sum = omega arith; lists = next m (x .rest) (subst (λ (i : ℕ). Lists g t i k (x .rest)) e (x .lists)) }
-
-  pub counted-none : k ≡ 0 → c ≡ n
-  counted-none e =
-      let z = lists-zero g t (x .ahead) (x .rest) (subst (λ (i : ℕ). Lists g t (x .ahead) i (x .rest)) e (x .lists)) in
-      let s = x .sum in
-      omega arith
-
-  pub counted-all : n ≤ c → c ≡ n
-  counted-all h = let s = x .sum in omega arith

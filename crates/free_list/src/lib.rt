@@ -69,21 +69,3 @@ pub fn member_after(table: &[u8], g: Geometry, k: usize) -> usize
         (g.tracks * g.records) as usize,
     )
 }
-
-// How many format 5s the chain has.
-pub fn members(table: &[u8], g: Geometry) -> usize
-    requires { ⌜ Limits (geometryOf g) × (length (now table) ≡ 140 * slots (geometryOf g)) ⌝ }
-    ensures { λ r. ⌜ (r ≤ slots (geometryOf g)) × ((n : ℕ) (f : List Run) → n ≤ slots (geometryOf g) → Lists (geometryOf g) (now (table .entry)) n 1 f → r ≡ n) ⌝ }
-{
-    let n = (g.tracks * g.records) as usize;
-    let mut k: usize = 1;
-    let mut count: usize = 0;
-    while count < n {
-        if k == 0 {
-            return count;
-        }
-        k = member_after(table, g, k);
-        count += 1;
-    }
-    count
-}

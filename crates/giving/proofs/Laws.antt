@@ -1,21 +1,19 @@
 -- A data set that is to give tracks back, in the words of the rules. Assumes nothing.
-use mathlib.Core.Path.{_≡_, refl, sym, ap, _∙_, subst}
+use mathlib.Core.Path.{_≡_, refl, sym, ap, ap₂, _∙_, subst}
 use mathlib.Core.List.{List, _∷_}
 use Prim.Native.Nat.{ℕ, zero, suc, _+_, _*_, _≤_, _<_}
 use native.Mathlib.Omega.{arith}
-use lib.ListN.{length}
-use Rattle.model.specs.Model.{Extent, Geometry, Label, Run, Volume, free, overs, runsOf, slots, total, tracks}
+use lib.ListN.{getD, length}
+use Rattle.model.specs.Model.{Extent, Geometry, Label, Volume, runsOf, slots, total, tracks}
 use Rattle.rules.proofs.Labels.{without-sum}
 use Rattle.rules.proofs.Valid.{Limits, free-balance, held-total}
-use Rattle.tracks.specs.Map.{Given, freeFrom}
+use Rattle.tracks.specs.Map.{Given}
 use Rattle.tracks.proofs.Held.{shows-give}
 use Rattle.label_check.specs.Marks.{units}
-use Rattle.table_check.proofs.Free.{free-shown}
-use Rattle.set_change.specs.Change.{NoneBelow, SetIn, extentsIn}
-use Rattle.free_list.specs.FreeList.{Lists}
-use Rattle.free_list.proofs.Chain.{chain-short, lists-all}
-use Rattle.set_at.specs.Held.{SetAt}
-use Rattle.set_at.proofs.Laws.{Known, known}
+use Rattle.fields.specs.Records.{slotBytes}
+use Rattle.label_check.specs.Label.{namedThird}
+use Rattle.set_change.specs.Change.{GaveTail, SetIn, Spreads, Stays, extentsIn}
+use Rattle.set_at.proofs.Laws.{Stored, stored}
 use Rattle.giving.specs.Giving.{At, FreedSlot, Measures}
 
 -- ---- slots
@@ -28,6 +26,17 @@ pub freed-one : (k : ℕ) (s s′ : List ℕ) → (k ≡ 0 → ⊥) → Given s 
 freed-one zero s s′ e d = absurd (e refl)
 freed-one (suc k) s s′ e d = record { long = d .long; freed = λ n us h. shows-give s s′ n (suc k) 1 (units (suc k ∷ us)) (units us) (λ t u. refl) h d }
 
+-- ---- records of a table, looked at
+
+module _ (g : Geometry) (t : List ℕ) (k q count : ℕ) (f1 f3 : List ℕ) (e1 : f1 ≡ slotBytes t k) (e3 : f3 ≡ slotBytes t q) where
+  pub set-looked : SetIn g (slotBytes t k) (slotBytes t q) count → SetIn g f1 f3 count
+  set-looked x = subst (λ (r : List ℕ). SetIn g r f3 count) (sym e1) (subst (λ (r : List ℕ). SetIn g (slotBytes t k) r count) (sym e3) x)
+
+  pub tail-looked : (keep n whole start part : ℕ) (m m′ : List ℕ) → GaveTail keep (extentsIn g f1 f3 count) m m′ × Stays keep (extentsIn g f1 f3 count) n whole start part
+      → GaveTail keep (extentsIn g (slotBytes t k) (slotBytes t q) count) m m′ × Stays keep (extentsIn g (slotBytes t k) (slotBytes t q) count) n whole start part
+  tail-looked keep n whole start part m m′ x =
+      subst (λ (es : List Extent). GaveTail keep es m m′ × Stays keep es n whole start part) (ap₂ (λ (a b : List ℕ). extentsIn g a b count) e1 e3) x
+
 -- ---- the data set
 
 module _ (g : Geometry) (t m s : List ℕ) (k : ℕ) (d : At g t m s k) where
@@ -37,25 +46,21 @@ module _ (g : Geometry) (t m s : List ℕ) (k : ℕ) (d : At g t m s k) where
   abbrev l : Label
   l = d .it .label
 
-  module _ (one three : List ℕ) (count third : ℕ) (x : SetAt g t k one three count third) where
-    known-at : Known g l one three count third
-    known-at = known t v (d .ready) (d .name) k (d .it) one three count third g (d .geometryIs) x
+  -- the records that the code looks at
+  module _ (f1 f3 : List ℕ) (count third : ℕ) (e1 : f1 ≡ slotBytes t k) (e3 : f3 ≡ slotBytes t third) (long : length f3 ≡ 140) (many : count ≡ getD f1 59 0) (link : third ≡ namedThird g f1) where
+    stored-at : Stored g l t k count third
+    stored-at =
+        stored t v (d .ready) (d .name) k (d .it) g (d .geometryIs) count third (many ∙ ap (λ (r : List ℕ). getD r 59 0) e1) (link ∙ ap (λ (r : List ℕ). namedThird g r) e1)
+        (sym (ap length e3) ∙ long)
 
-    pub set-of : SetIn g one three count
-    set-of = known-at .set
+    pub set-of : SetIn g f1 f3 count
+    set-of = set-looked g t k third count f1 f3 e1 e3 (stored-at .set)
 
-    pub measured : (all low was : ℕ) → all ≡ total (overs (extentsIn g one three count)) → (low ≤ tracks g) × NoneBelow low (overs (extentsIn g one three count)) → ((n : ℕ) (f : List Run) → n ≤ slots g → Lists g t n 1 f → was ≡ n) → Measures g v l one three count third all low was
-    measured all low was e b f =
-        let y = known-at in
-        record {
-          known = y;
-          sum = e ∙ ap (λ (es : List Extent). total (overs es)) (y .extents);
-          lowIn = b .0;
-          lowest = subst (λ (es : List Extent). NoneBelow low (overs es)) (y .extents) (b .1);
-          members = f (length (v .chain)) (free g (v .labels))
-              (subst (λ (y : Geometry). length (v .chain) ≤ slots y) (sym (d .geometryIs)) (chain-short _ v (d .ready .sound)))
-              (subst (λ (y : Geometry). Lists y t (length (v .chain)) 1 (free y (v .labels))) (sym (d .geometryIs)) (lists-all t v (d .ready .sound)));
-        }
+    pub measured : (all low : ℕ) → Spreads (tracks g) (extentsIn g f1 f3 count) all low → Measures g t k l count third all low
+    measured all low x = record {
+      stored = stored-at;
+      spread = subst (λ (es : List Extent). Spreads (tracks g) es all low) (ap₂ (λ (a b : List ℕ). extentsIn g a b count) e1 e3 ∙ stored-at .extents) x;
+    }
 
   -- ---- bounds
 
@@ -67,23 +72,19 @@ module _ (g : Geometry) (t m s : List ℕ) (k : ℕ) (d : At g t m s k) where
       let e = d .ready .limits .tracksMost in
       omega arith
 
-  pub third-small : l .slot3 < slots g
+  third-small : l .slot3 < slots g
   third-small = let a = ap slots (d .geometryIs) in let b = d .it .records .inside3 in omega arith
 
-  pub members-few : length (v .chain) ≤ 468
-  members-few = let a = chain-short _ v (d .ready .sound) in let b = d .ready .limits .most in omega arith
+  pub third-inside : (count third all low : ℕ) → Measures g t k l count third all low → third < slots g
+  third-inside count third all low x = let a = third-small in let b = x .stored .slot3 in omega arith
 
   -- what `put_set` and `drop_set` ask of lengths and numbers
-  pub fits : length s ≡ 8 → tracks g ≤ 64 * length m → (one three : List ℕ) (count third all low was : ℕ) → Measures g v l one three count third all low was
+  pub fits : length s ≡ 8 → tracks g ≤ 64 * length m → (count third all low : ℕ) → Measures g t k l count third all low
       → (m′ s′ : List ℕ) → length m′ ≡ length m → length s′ ≡ length s
-      → Limits g × (length t ≡ 140 * slots g) × (tracks g ≤ 64 * length m′) × (length s′ ≡ 8) × (was ≤ 468) × (low ≤ tracks g) × (k < slots g) × (third < slots g)
-  fits e w one three count third all low was x m′ s′ n o =
+      → Limits g × (length t ≡ 140 * slots g) × (tracks g ≤ 64 * length m′) × (length s′ ≡ 8) × (low ≤ tracks g) × (k < slots g) × (third < slots g)
+  fits e w count third all low x m′ s′ n o =
       let a = ap slots (d .geometryIs) in
       let b = d .ready .long in
       let c = d .it .records .inside in
       let f = d .it .slot in
-      let p = third-small in
-      let q = x .known .slot3 in
-      let r = members-few in
-      let u = x .members in
-      (subst Limits (sym (d .geometryIs)) (d .ready .limits), omega arith, omega arith, o ∙ e, omega arith, x .lowIn, omega arith, omega arith)
+      (subst Limits (sym (d .geometryIs)) (d .ready .limits), omega arith, omega arith, o ∙ e, x .spread .lowIn, omega arith, third-inside count third all low x)

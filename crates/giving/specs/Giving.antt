@@ -1,16 +1,16 @@
 -- A data set that is to give tracks back: where it was found, and what is known of it. Assumes nothing.
 use mathlib.Core.Path.{_≡_}
-use Prim.Native.Nat.{ℕ, _≤_}
+use Prim.Native.Nat.{ℕ}
 use mathlib.Core.List.{List, _++_}
 use lib.ListN.{length}
-use Rattle.model.specs.Model.{Geometry, Label, Volume, oneSlot, runsOf, total, tracks}
+use Rattle.model.specs.Model.{Geometry, Label, Volume, oneSlot, tracks}
 use Rattle.tracks.specs.Map.{Shows}
 use Rattle.label_check.specs.Marks.{units}
 use Rattle.table_check.specs.Check.{Shown}
 use Rattle.opening.proofs.Laws.{Ready}
 use Rattle.opening.proofs.Lookup.{FoundAt}
-use Rattle.set_change.specs.Change.{NoneBelow}
-use Rattle.set_at.proofs.Laws.{Known}
+use Rattle.set_change.specs.Change.{Spreads}
+use Rattle.set_at.proofs.Laws.{Stored}
 
 -- slot k of the table t has the data set of this name; the maps m and s show what the volume holds
 pub record At (g : Geometry) (t m s : List ℕ) (k : ℕ) : Type 0 where
@@ -21,13 +21,10 @@ pub record At (g : Geometry) (t m s : List ℕ) (k : ℕ) : Type 0 where
   pub shown : Shown volume m s
   pub it : FoundAt t volume name k
 
--- the records of its label l, its tracks and the lowest of them, and the members of the chain of format 5s before the call
-pub record Measures (g : Geometry) (v : Volume) (l : Label) (one three : List ℕ) (count third all low was : ℕ) : Type 0 where
-  pub known : Known g l one three count third
-  pub sum : all ≡ total (runsOf l)
-  pub lowIn : low ≤ tracks g
-  pub lowest : NoneBelow low (runsOf l)
-  pub members : was ≡ length (v .chain)
+-- its label l in the records of the table t, its tracks and the lowest of them
+pub record Measures (g : Geometry) (t : List ℕ) (k : ℕ) (l : Label) (count third all low : ℕ) : Type 0 where
+  pub stored : Stored g l t k count third
+  pub spread : Spreads (tracks g) (l .extents) all low
 
 -- slot k, 0 for none, has become free, however many slots the map is taken to show
 pub record FreedSlot (k : ℕ) (s s′ : List ℕ) : Type 0 where

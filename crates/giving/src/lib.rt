@@ -1,5 +1,7 @@
-// What release and scratch share: the data set found, its tracks counted, and slots made free.
+// What release and scratch share: the data set found, its tracks counted and given back, and slots made free. Its extents are read
+// where they stand, in the table.
 use forms::Geometry;
+use set_change::Kept;
 ghost use mathlib.Core.Path.{_≡_};
 ghost use Prim.Native.Nat.{ℕ, _*_, _≤_, _<_};
 ghost use mathlib.Core.List.{List};
@@ -7,41 +9,53 @@ ghost use lib.ListN.{length};
 ghost use Rattle.model.specs.Model.{slots, tracks};
 ghost use Rattle.rules.proofs.Valid.{Limits};
 ghost use Rattle.forms.specs.Forms.{geometryOf};
+ghost use Rattle.fields.specs.Records.{slotBytes};
+ghost use Rattle.set_change.specs.Change.{GaveTail, SetIn, Stays, extentsIn};
 ghost use Rattle.giving.specs.Giving.{At, FreedSlot, Measures};
 
-// A data set: its records and the slot of its format 3 as set_at has them, its tracks and the lowest of them, and how many
-// format 5s the volume has. The last must be known before the map changes.
+// A data set: how many extents it has, the slot of its format 3, 0 for none, its tracks and the lowest of them.
 pub struct Measured {
-    pub one: [u8; 140],
-    pub three: [u8; 140],
     pub count: usize,
     pub third: usize,
     pub tracks: u32,
     pub lowest: u32,
-    pub was: usize,
 }
 
-// The data set whose format 1 is in slot k.
+// The data set whose format 1 is in slot k. Without a format 3 the record in slot 0 serves as one: no extent is read from it.
 pub fn measure(table: &[u8], g: Geometry, k: usize) -> Measured
     requires { ⌜ Limits (geometryOf g) × (length (now table) ≡ 140 * slots (geometryOf g)) × (k < slots (geometryOf g)) ⌝ }
     requires { ⌜ ((m : List ℕ) × (s : List ℕ) × At (geometryOf g) (now table) m s k) ⌝ }
-    ensures { λ r. ⌜ ((m s : List ℕ) (d : At (geometryOf g) (now (table .entry)) m s k) → Measures (geometryOf g) (d .volume) (d .it .label) (r .one) (r .three) (r .count) (r .third) (r .tracks) (r .lowest) (r .was)) ⌝ }
+    ensures { λ r. ⌜ ((m s : List ℕ) (d : At (geometryOf g) (now (table .entry)) m s k) → Measures (geometryOf g) (now (table .entry)) k (d .it .label) (r .count) (r .third) (r .tracks) (r .lowest)) ⌝ }
 {
-    let x = set_at::set_at(table, g, k);
-    let one = x.one;
-    let three = x.three;
-    let all = set_change::set_tracks(&one, &three, x.count, g);
-    let lowest = set_change::lowest_track(&one, &three, x.count, g);
-    let was = free_list::members(table, g);
+    let f1 = fields::record_at(table, k);
+    let third = opening::third(f1, g);
+    let f3 = fields::record_at(table, third);
+    let count = fields::wide(f1[59]) as usize; // DS1NOEPV
+    let x = set_change::spread_of(f1, f3, count, g);
     Measured {
-        one,
-        three,
-        count: x.count,
-        third: x.third,
-        tracks: all,
-        lowest,
-        was,
+        count,
+        third,
+        tracks: x.all,
+        lowest: x.lowest,
     }
+}
+
+// Makes free the tracks behind the first `keep` of the data set in slot k, and tells what stays of it.
+pub fn give_back(
+    table: &[u8],
+    g: Geometry,
+    k: usize,
+    x: Measured,
+    keep: u32,
+    map: &mut [u64],
+) -> Kept
+    requires { ⌜ (length (now table) ≡ 140 * slots (geometryOf g)) × (k < slots (geometryOf g)) × (x .third < slots (geometryOf g)) × (tracks (geometryOf g) ≤ 64 * length (now map)) ⌝ }
+    requires { ⌜ SetIn (geometryOf g) (slotBytes (now table) k) (slotBytes (now table) (x .third)) (x .count) ⌝ }
+    ensures { λ r. ⌜ GaveTail keep (extentsIn (geometryOf g) (slotBytes (now (table .entry)) k) (slotBytes (now (table .entry)) (x .third)) (x .count)) (now (map .entry)) (now (map .exit)) × Stays keep (extentsIn (geometryOf g) (slotBytes (now (table .entry)) k) (slotBytes (now (table .entry)) (x .third)) (x .count)) (tracks (geometryOf g)) (r .whole) (r .start) (r .count) ⌝ }
+{
+    let f1 = fields::record_at(table, k);
+    let f3 = fields::record_at(table, x.third);
+    set_change::give_tail(f1, f3, x.count, g, keep, map)
 }
 
 // Makes slot k free in the map of slots; 0 is none.

@@ -3,20 +3,20 @@ use mathlib.Core.Path.{_≡_, refl, sym, ap, ap₂, _∙_, subst}
 use mathlib.Core.Bool.{Bool, true, false, cond}
 use mathlib.Core.Option.{Option, none, some}
 use mathlib.Core.List.{List, [], _∷_, _++_, map}
-use Prim.Native.Nat.{ℕ, _+_, _*_, _≤_, _<_}
+use Prim.Native.Nat.{ℕ, _+_, _≤_}
 use native.Mathlib.Omega.{arith}
 use lib.Dec.{T, leb, eqb, leb→le}
 use lib.ListN.{length, length-append, length-map}
 use Rattle.model.specs.Basics.{bit, flat}
-use Rattle.model.specs.Model.{Extent, Geometry, Label, Run, Volume, covers, extent, fivesFor, free, held, oneSlot, overs, runsOf, slots, slotsOf, tally, times, total, tracks, used}
+use Rattle.model.specs.Model.{Extent, Geometry, Label, Run, Volume, covers, extent, held, oneSlot, overs, runsOf, slots, slotsOf, tally, times, total, tracks, used}
 use Rattle.model.proofs.Lists.{All, by, sum-append, true-is}
 use Rattle.rules.specs.Calls.{Outcome, answer, granted, settled}
 use Rattle.rules.specs.Entries.{lent, result, written}
 use Rattle.rules.specs.Layout.{encode}
 use Rattle.rules.specs.Slots.{fewExtents, kept3, settleWith}
 use Rattle.rules.proofs.Settle.{used-tally}
-use Rattle.rules.proofs.Valid.{Limits, Valid, held-times, slots-tally}
-use Rattle.tracks.specs.Map.{Shows, freeFrom}
+use Rattle.rules.proofs.Valid.{Valid, held-times, slots-tally}
+use Rattle.tracks.specs.Map.{Shows}
 use Rattle.tracks.proofs.Held.{Room, shows-same}
 use Rattle.label_check.specs.Marks.{units}
 use Rattle.grant.specs.Grant.{row}
@@ -24,10 +24,7 @@ use Rattle.request.proofs.Laws.{Good, pieces-room}
 use Rattle.set_change.specs.Change.{InRecords, NoneBelow, Piece, TookPieces}
 use Rattle.set_change.specs.Change.{granted as more}
 use Rattle.set_change.proofs.Laws.{pieces-good}
-use Rattle.free_list.specs.FreeList.{Lists}
-use Rattle.free_list.proofs.Chain.{chain-short, lists-all}
 use Rattle.commit.specs.Commit.{Becomes, Committed, Draft}
-use Rattle.commit.proofs.Put.{free-of}
 use Rattle.commit.proofs.Sets.{slots-shown}
 use Rattle.granting.specs.Granting.{Granted, Grants}
 
@@ -58,25 +55,6 @@ module _ {g : Geometry} {t m s : List ℕ} {slot third n kind : ℕ} {one three 
 
   room : Room m (tracks g) (d .pieces)
   room = subst (λ (y : Geometry). Room m (tracks y) (d .pieces)) (d .geometryIs) (pieces-room m v (d .pieces) (d .shown .freeTracks) (d .good))
-
-  -- ---- the chain
-
-  lists : Lists g t (length (v .chain)) 1 (free g (v .labels))
-  lists = subst (λ (y : Geometry). Lists y t (length (v .chain)) 1 (free y (v .labels))) (d .geometryIs) (lists-all t v (d .ready .sound))
-
-  short : length (v .chain) ≤ slots g
-  short = subst (λ (y : Geometry). length (v .chain) ≤ slots y) (d .geometryIs) (chain-short _ v (d .ready .sound))
-
-  module _ (was : ℕ) (w : (n : ℕ) (f : List Run) → n ≤ slots g → Lists g t n 1 f → was ≡ n) where
-    pub members-are : was ≡ length (v .chain)
-    members-are = w (length (v .chain)) (free g (v .labels)) short lists
-
-    pub members-fit : was ≤ 468
-    members-fit =
-        let a = members-are in
-        let b = chain-short _ v (d .ready .sound) in
-        let c = d .ready .limits .most in
-        omega arith
 
   -- ---- the pieces
 
@@ -129,13 +107,13 @@ module _ {g : Geometry} {t m s : List ℕ} {slot third n kind : ℕ} {one three 
 
   -- ---- ready to be committed
 
-  module _ (m′ : List ℕ) (took : TookPieces rows m m′) (was : ℕ) (w : (n : ℕ) (f : List Run) → n ≤ slots g → Lists g t n 1 f → was ≡ n)
+  module _ (m′ : List ℕ) (took : TookPieces rows m m′)
       (few : Bool) (f : few ≡ leb (n + count) 3) (one′ three′ : List ℕ) (recs : InRecords g L one′ three′)
       (lo : ℕ) (low : lo ≤ tracks g) (lows : (ps : List Run) → rows ≡ map row ps → NoneBelow lo ps) where
     all-shown : Shows m′ (tracks g) (d .pieces ++ held g (v .labels))
     all-shown = took .held (tracks g) (d .pieces) (d .rowsAre) below room (held g (v .labels)) tracks-shown
 
-    pub draft : Draft g t m′ s was lo slot third few one′ three′
+    pub draft : Draft g t m′ s lo slot third few one′ three′
     draft =
         record {
           volume = v;
@@ -143,7 +121,6 @@ module _ {g : Geometry} {t m s : List ℕ} {slot third n kind : ℕ} {one three 
           label = L;
           ready = d .ready;
           geometryIs = d .geometryIs;
-          members = members-are was w;
           slotIs = d .slotIs;
           thirdIs = d .thirdIs;
           fewIs = f ∙ ap (λ (k : ℕ). leb k 3) (sym length-more);

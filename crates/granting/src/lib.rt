@@ -45,7 +45,6 @@ pub fn put_grant(
     ensures { λ r. ⌜ ((d : Grants (geometryOf g) (now (table .entry)) (now (map .entry)) (now (empty .entry)) (set .slot) (set .third) (set .extents) kind (now (one .entry)) (now (three .entry)) (take (chosen .count) pieces) (chosen .count) (chosen .tracks)) → Granted d (now (answer .entry)) (now (table .exit)) (now (answer .exit)) r) ⌝ }
 {
     let lo = set_change::lowest_piece(pieces, chosen.count, g.cylinders * g.heads);
-    let was = free_list::members(table, g);
     set_change::take_pieces(map, pieces, chosen.count);
     set_change::add_pieces(one, three, g, set.extents, kind, pieces, chosen.count);
     let small = few(set.extents, chosen.count);
@@ -54,7 +53,6 @@ pub fn put_grant(
         g,
         map,
         empty,
-        was,
         lo as usize,
         set.slot,
         set.third,

@@ -83,43 +83,37 @@ pub fn add_extent3(
     records::put_extent(rec, 45 + 10 * (n - 7), g, n, kind, start, count); // DS3ADEXT
 }
 
-// The format 1 of a label, with its first n extents only.
-pub fn keep_extents1(rec: [u8; 140], n: usize) -> [u8; 140]
-    requires { ⌜ n ≤ 16 ⌝ }
-    ensures { λ r. ⌜ ((g : Geometry) (l : Label) → n ≤ length (l .extents) → Format1 g l rec → Format1 g (firstExtents n l) r) ⌝ }
+// Makes the format 1 of a label that of the label with its first n extents.
+pub fn keep_extents1(rec: &mut [u8; 140], n: usize)
+    requires { ⌜ (length (now rec) ≡ 140) × (n ≤ 16) ⌝ }
+    ensures { λ _. ⌜ ((g : Geometry) (l : Label) → n ≤ length (l .extents) → Format1 g l (now (rec .entry)) → Format1 g (firstExtents n l) (now (rec .exit))) × (length (now (rec .exit)) ≡ 140) ⌝ }
 {
-    let mut r = rec;
-    r[59] = n as u8;
+    rec[59] = n as u8; // DS1NOEPV
     if n < 3 {
-        records::put_same(&mut r, 105 + 10 * n, 135, 0);
-        return r;
+        records::put_same(rec, 105 + 10 * n, 135, 0);
+        return;
     }
-    r
 }
 
-// The format 3 of a label, with its first n extents only, three or more.
-pub fn keep_extents3(rec: [u8; 140], n: usize) -> [u8; 140]
-    requires { ⌜ (3 ≤ n) × (n ≤ 16) ⌝ }
-    ensures { λ r. ⌜ ((g : Geometry) (l : Label) → Format3 g l rec → Format3 g (firstExtents n l) r) ⌝ }
+// Makes the format 3 of a label that of the label with its first n extents, three or more.
+pub fn keep_extents3(rec: &mut [u8; 140], n: usize)
+    requires { ⌜ (length (now rec) ≡ 140) × (3 ≤ n) × (n ≤ 16) ⌝ }
+    ensures { λ _. ⌜ ((g : Geometry) (l : Label) → Format3 g l (now (rec .entry)) → Format3 g (firstExtents n l) (now (rec .exit))) × (length (now (rec .exit)) ≡ 140) ⌝ }
 {
-    let mut r = rec;
     if n < 7 {
-        records::put_same(&mut r, 4 + 10 * (n - 3), 44, 0);
-        records::put_same(&mut r, 45, 135, 0);
-        return r;
+        records::put_same(rec, 4 + 10 * (n - 3), 44, 0);
+        records::put_same(rec, 45, 135, 0);
+        return;
     }
-    records::put_same(&mut r, 45 + 10 * (n - 7), 135, 0);
-    r
+    records::put_same(rec, 45 + 10 * (n - 7), 135, 0);
 }
 
-// A format 1 with another last block.
-pub fn set_ttr(rec: [u8; 140], ttr: u32) -> [u8; 140]
-    requires { ⌜ ttr < 16777216 ⌝ }
-    ensures { λ r. ⌜ ((g : Geometry) (l : Label) → Format1 g l rec → Format1 g (withTtr ttr l) r) ⌝ }
+// Makes the format 1 one with another last block.
+pub fn set_ttr(rec: &mut [u8; 140], ttr: u32)
+    requires { ⌜ (length (now rec) ≡ 140) × (ttr < 16777216) ⌝ }
+    ensures { λ _. ⌜ ((g : Geometry) (l : Label) → Format1 g l (now (rec .entry)) → Format1 g (withTtr ttr l) (now (rec .exit))) × (length (now (rec .exit)) ≡ 140) ⌝ }
 {
-    let mut r = rec;
-    records::put_three(&mut r, 98, ttr); // DS1LSTAR
-    r
+    records::put_three(rec, 98, ttr); // DS1LSTAR
 }
 
 // A format 1 with another name.

@@ -49,6 +49,47 @@ third-record g l t three good there x =
     (λ (many : 3 < length (l .extents)). x .there (good .many many) ∙ there (good .many many))
     (le-or-lt (length (l .extents)) 3)
 
+-- the label l, in the table's own records; where it has no format 3, that is the record in slot 0
+pub record Stored (g : Geometry) (l : Label) (t : List ℕ) (k count third : ℕ) : Type 0 where
+  pub many : count ≡ length (l .extents)
+  pub extents : extentsIn g (slotBytes t k) (slotBytes t third) count ≡ l .extents
+  pub set : SetIn g (slotBytes t k) (slotBytes t third) count
+  pub slot3 : third ≡ l .slot3
+
+module _ (t : List ℕ) (v : Volume) (h : Ready t v) (name : List ℕ) (k : ℕ) (f : FoundAt t v name k) where
+  first-is : slotBytes t k ≡ format1 (v .geometry) (f .label)
+  first-is = ap (slotBytes t) (sym (f .slot)) ∙ f .records .one
+
+  stored-there : (count third : ℕ) → count ≡ getD (slotBytes t k) 59 0 → third ≡ namedThird (v .geometry) (slotBytes t k) → length (slotBytes t third) ≡ 140
+      → Stored (v .geometry) (f .label) t k count third
+  stored-there count third c e long =
+      let g = v .geometry in
+      let l = f .label in
+      let y = f .records in
+      let q : third ≡ l .slot3 = e ∙ ap (λ (i : ℕ). namedThird g (slotBytes t i)) (sym (f .slot)) ∙ third-is t g name l (h .limits) y in
+      let w : 1 ≤ l .slot3 → slotBytes t third ≡ format3 g l = λ u. ap (slotBytes t) q ∙ y .three u in
+      record {
+        many = c ∙ count-is g l (y .good) (slotBytes t k) (slotBytes t third) first-is long w;
+        extents = ap (λ (n : ℕ). extentsIn g (slotBytes t k) (slotBytes t third) n) c ∙ extents-are g l (y .good) (slotBytes t k) (slotBytes t third) first-is long w;
+        set = subst (SetIn g (slotBytes t k) (slotBytes t third)) (sym c) (set-in g l (y .good) (slotBytes t k) (slotBytes t third) first-is long w (h .limits));
+        slot3 = q;
+      }
+
+  -- with the geometry that the code has
+  pub stored : (g : Geometry) → g ≡ v .geometry → (count third : ℕ) → count ≡ getD (slotBytes t k) 59 0 → third ≡ namedThird g (slotBytes t k) → length (slotBytes t third) ≡ 140
+      → Stored g (f .label) t k count third
+  stored g e count third = subst (λ (u : Geometry). count ≡ getD (slotBytes t k) 59 0 → third ≡ namedThird u (slotBytes t k) → length (slotBytes t third) ≡ 140 → Stored u (f .label) t k count third) (sym e) (stored-there count third)
+
+  -- records that were copied from there
+  pub copied : (g : Geometry) → g ≡ v .geometry → (third : ℕ) → third ≡ f .label .slot3 → (one three : List ℕ) → one ≡ slotBytes t k → ThirdIn t third three → InRecords g (f .label) one three
+  copied g e third q one three o x =
+      let y = f .records in
+      subst (λ (u : Geometry). InRecords u (f .label) one three) (sym e)
+      (record {
+        one = good-is (v .geometry) (f .label) one (y .good) (sym (o ∙ first-is));
+        three = third-record (v .geometry) (f .label) t three (y .good) (y .three) (subst (λ (i : ℕ). ThirdIn t i three) q x);
+      })
+
 module _ (t : List ℕ) (v : Volume) (h : Ready t v) (name : List ℕ) (k : ℕ) (f : FoundAt t v name k) (one three : List ℕ) (count third : ℕ) where
   known-there : SetAt (v .geometry) t k one three count third → Known (v .geometry) (f .label) one three count third
   known-there x =

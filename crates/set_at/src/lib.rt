@@ -17,7 +17,7 @@ pub struct Held {
 }
 
 // The format 3 in slot q, or a new one where q is 0.
-fn third_record(table: &[u8], q: usize) -> [u8; 140]
+pub fn third_record(table: &[u8], q: usize) -> [u8; 140]
     requires { ⌜ 140 * q + 140 ≤ length (now table) ⌝ }
     ensures { λ r. ⌜ ThirdIn (now (table .entry)) q r ⌝ }
 {

@@ -12,7 +12,7 @@ use lib.ListN.{length, take, drop, getD, drop-of-length-le, length-take}
 use lib.Seq.{drop-cons, length-take-le, take-all, take-suc}
 use Rattle.model.specs.Basics.{bit, sumOf}
 use Rattle.model.specs.Model.{Extent, Geometry, Label, Run, covers, extent, overs, run, times, total, tracks}
-use Rattle.model.proofs.Lists.{All, All-at, All-map, by, sum-append}
+use Rattle.model.proofs.Lists.{All, All-at, by, sum-append}
 use Rattle.model.proofs.Runs.{hit-above, hit-below}
 use Rattle.rules.specs.Calls.{cut, keep}
 use Rattle.rules.specs.Layout.{extentPart}
@@ -24,10 +24,10 @@ use Rattle.tracks.proofs.Bits.{le-or-lt}
 use Rattle.tracks.proofs.Held.{covers-cut, shows-give}
 use Rattle.forms.proofs.Blocks.{noExtent}
 use Rattle.forms.proofs.Written.{read-at, read-length}
-use Rattle.listing.specs.Text.{Proper}
-use Rattle.labels.specs.Labels.{added, firstExtents}
+use Rattle.labels.specs.Labels.{Format3, added, firstExtents}
 use Rattle.labels.proofs.Following.{keep-all, keep-part, keep-whole}
-use Rattle.set_change.specs.Change.{GaveTail, InRecords, NoneBelow, Stays, partOf, shortened}
+use Rattle.labels.proofs.Format3.{three-none}
+use Rattle.set_change.specs.Change.{GaveTail, InRecords, NoneBelow, Spreads, Stays, partOf, shortened}
 
 -- ---- the extents read
 
@@ -42,10 +42,6 @@ tracks-in h x y e s z a b =
     let p = a ∙ ap (λ (w : List ℕ). trackAt h w 2) e in
     let q = b ∙ ap (λ (w : List ℕ). trackAt h w 6) e in
     λ i. record { start = p i; count = q i + 1 - p i }
-
-pub all-proper : (g : Geometry) → Limits g → (es : List Extent) → All (GoodExtent g) es → All Proper es
-all-proper g l es a =
-    All-map (GoodExtent g) Proper (λ e x. record { full = x .full; ends = let t = l .tracksMost in let u = x .ends in omega arith }) es a
 
 -- extent e has c tracks from s
 pub record At (g : Geometry) (es : List Extent) (e s c : ℕ) : Type 0 where
@@ -64,6 +60,9 @@ at-read g f1 f3 n a e s c u q =
       full = subst (λ (r : Run). 1 ≤ r .count) (sym q) (x .full);
       ends = subst (λ (r : Run). r .start + r .count ≤ tracks g) (sym q) (x .ends);
     }
+
+pub few-tracks : (g : Geometry) (es : List Extent) (e s c : ℕ) → Limits g → At g es e s c → c ≤ 65535
+few-tracks g es e s c limit x = let a = x .ends in let b = limit .tracksMost in omega arith
 
 -- ---- what stays
 
@@ -111,7 +110,7 @@ overs-sum F [] ys = omega arith
 overs-sum F (x ∷ xs) ys = let i = overs-sum F xs ys in omega arith
 
 -- none of the first e extents has a track below lo
-pub lower-next : (g : Geometry) (es : List Extent) (e s c lo lo′ : ℕ) → At g es e s c → lo′ ≡ min lo s → NoneBelow lo (overs (take e es)) → NoneBelow lo′ (overs (take (e + 1) es))
+lower-next : (g : Geometry) (es : List Extent) (e s c lo lo′ : ℕ) → At g es e s c → lo′ ≡ min lo s → NoneBelow lo (overs (take e es)) → NoneBelow lo′ (overs (take (e + 1) es))
 lower-next g es e s c lo lo′ x low before t v =
     let F : Run → ℕ = λ p. bit (covers p t) in
     let b = before t (omega arith) in
@@ -120,8 +119,26 @@ lower-next g es e s c lo lo′ x low before t v =
     let z = hit-below (run s c) t (omega arith) in
     omega arith
 
-pub lower-all : (es : List Extent) (e lo : ℕ) → length es ≤ e → NoneBelow lo (overs (take e es)) → NoneBelow lo (overs es)
-lower-all es e lo h b = subst (λ (xs : List Extent). NoneBelow lo (overs xs)) (take-all e es h) b
+-- the tracks of one extent more
+sum-next : (g : Geometry) (es : List Extent) (e s c all : ℕ) → At g es e s c → all ≡ total (overs (take e es)) → all + c ≡ total (overs (take (e + 1) es))
+sum-next g es e s c all x before =
+    let d = ap (λ (xs : List Extent). total (overs xs)) (ap (λ (i : ℕ). take i es) (add-one e) ∙ take-suc es e noExtent (x .inside)) ∙ overs-sum (λ r. r .count) (take e es) (getD es e noExtent ∷ []) in
+    let f = ap (λ (r : Run). r .count) (x .over) in
+    omega arith
+
+pub spread-none : (n : ℕ) → Spreads n [] 0 n
+spread-none n = record { sum = refl; lowIn = omega arith; lowest = λ t u. refl }
+
+pub spread-next : (g : Geometry) (es : List Extent) (e s c all low low′ : ℕ) → At g es e s c → low′ ≡ min low s
+    → Spreads (tracks g) (take e es) all low → Spreads (tracks g) (take (e + 1) es) (all + c) low′
+spread-next g es e s c all low low′ x q b = record {
+  sum = sum-next g es e s c all x (b .sum);
+  lowIn = let u = b .lowIn in omega arith;
+  lowest = lower-next g es e s c low low′ x q (b .lowest);
+}
+
+pub spread-all : (n : ℕ) (es : List Extent) (e all low : ℕ) → length es ≤ e → Spreads n (take e es) all low → Spreads n es all low
+spread-all n es e all low h x = subst (λ (xs : List Extent). Spreads n xs all low) (take-all e es h) x
 
 pub keep-zero : (es : List Extent) → All (λ e. 1 ≤ e .over .count) es → keep 0 es ≡ []
 keep-zero [] a = refl
@@ -215,14 +232,21 @@ gave-all k es e m₀ m long h b =
 
 -- ---- the records of what stays
 
-pub few-first : (n : ℕ) (l : Label) → n ≤ 3 → length (firstExtents n l .extents) ≤ 3
+few-first : (n : ℕ) (l : Label) → n ≤ 3 → length (firstExtents n l .extents) ≤ 3
 few-first n l h = let a = length-take n (l .extents) in omega arith
+
+-- no extent stands in the format 3 then, whichever of the first three stay
+pub three-first : (g : Geometry) (n : ℕ) (l : Label) (r : List ℕ) → n ≤ 3 → Format3 g (firstExtents 3 l) r → Format3 g (firstExtents n l) r
+three-first g n l r h f = f ∙ sym (three-none g (firstExtents 3 l) (few-first 3 l (omega arith))) ∙ three-none g (firstExtents n l) (few-first n l h)
 
 pub first-length : (n : ℕ) (l : Label) → n ≤ length (l .extents) → length (firstExtents n l .extents) ≡ n
 first-length n l h = length-take-le n (l .extents) h
 
-pub whole-only : (n s c : ℕ) (l : Label) → c ≡ 0 → firstExtents n l ≡ shortened n s c l
+whole-only : (n s c : ℕ) (l : Label) → c ≡ 0 → firstExtents n l ≡ shortened n s c l
 whole-only n s c l z = ap (λ (x : List Extent). withExtents x (l .ttr) l) (sym (append-nil (take n (l .extents)))) ∙ ap (λ (i : ℕ). shortened n s i l) (sym z)
+
+pub without-part : {g : Geometry} {r1 r3 : List ℕ} (n s c : ℕ) (l : Label) → c ≡ 0 → InRecords g (firstExtents n l) r1 r3 → InRecords g (shortened n s c l) r1 r3
+without-part {g} {r1} {r3} n s c l z x = subst (λ (y : Label). InRecords g y r1 r3) (whole-only n s c l z) x
 
 pub with-part : {g : Geometry} {r1 r3 : List ℕ} (n s c : ℕ) (l : Label) → (c ≡ 0 → ⊥)
     → InRecords g (added (extent 0x01 (run s c)) (firstExtents n l)) r1 r3 → InRecords g (shortened n s c l) r1 r3

@@ -4,7 +4,7 @@ use mathlib.Core.Path.{_≡_}
 use Prim.Native.Nat.{ℕ, zero, suc, _+_, _≤_, _<_}
 use mathlib.Core.List.{List, [], _∷_, _++_, map}
 use lib.ListN.{length, take, getD}
-use Rattle.model.specs.Model.{Extent, Geometry, Label, Run, extent, overs, run, times}
+use Rattle.model.specs.Model.{Extent, Geometry, Label, Run, extent, overs, run, times, total}
 use Rattle.model.proofs.Lists.{All}
 use Rattle.rules.specs.Calls.{keep}
 use Rattle.rules.specs.Reading.{readExtents}
@@ -54,6 +54,12 @@ pub record SetIn (g : Geometry) (f1 f3 : List ℕ) (n : ℕ) : Type 0 where
 
 abbrev pub extentsIn : Geometry → List ℕ → List ℕ → ℕ → List Extent
 extentsIn g f1 f3 n = readExtents (g .heads) f1 f3 n
+
+-- the extents es have `all` tracks, none of them below track low; n is the volume's number of tracks
+pub record Spreads (n : ℕ) (es : List Extent) (all low : ℕ) : Type 0 where
+  pub sum : all ≡ total (overs es)
+  pub lowIn : low ≤ n
+  pub lowest : NoneBelow low (overs es)
 
 -- the first tracks of an extent; 0 of them are none. "A shortened extent gets type X'01'"
 abbrev pub partOf : ℕ → ℕ → List Extent

@@ -3,15 +3,15 @@ ghost use mathlib.Core.Path.{_≡_};
 ghost use Prim.Native.Nat.{_+_, _*_, _≤_, _<_, min};
 ghost use mathlib.Core.List.{List, [], map};
 ghost use lib.ListN.{length, take, getD};
-ghost use Rattle.model.specs.Model.{Geometry, Label, Run, extent, overs, run, total, tracks};
+ghost use Rattle.model.specs.Model.{Geometry, Label, Run, extent, run, tracks};
 ghost use Rattle.model.proofs.Lists.{All};
 ghost use Rattle.rules.specs.Layout.{extentPart};
 ghost use Rattle.rules.specs.Reading.{readExtent};
 ghost use Rattle.rules.proofs.Valid.{Limits};
 ghost use Rattle.forms.specs.Forms.{geometryOf};
 ghost use Rattle.grant.specs.Grant.{row};
-ghost use Rattle.labels.specs.Labels.{Format1, Format3, added, firstExtents};
-ghost use Rattle.set_change.specs.Change.{GaveTail, InRecords, NoneBelow, Piece, SetIn, Stays, TookPieces, extentsIn, granted, shortened};
+ghost use Rattle.labels.specs.Labels.{Format3, added, firstExtents};
+ghost use Rattle.set_change.specs.Change.{GaveTail, InRecords, NoneBelow, Piece, SetIn, Spreads, Stays, TookPieces, extentsIn, granted, shortened};
 
 // Tracks that follow each other: the first, and how many.
 struct Tracks {
@@ -75,12 +75,6 @@ pub fn lowest_piece(pieces: [[u16; 2]; 5], count: usize, most: u32) -> u32
     lo
 }
 
-// A label's format 1, and its format 3; that of a label with no more than three extents has none in it.
-pub struct Records {
-    pub one: [u8; 140],
-    pub three: [u8; 140],
-}
-
 // Adds one extent to the records of a label with n: the first three stand in the format 1.
 fn add_extent(
     one: &mut [u8; 140],
@@ -138,27 +132,27 @@ fn extent_at<'a>(f1: &'a [u8], f3: &'a [u8], e: usize, h: u32) -> Tracks
     }
 }
 
-// How many tracks a data set with n extents has, as the listing counts them.
-pub fn set_tracks<'a>(f1: &'a [u8], f3: &'a [u8], n: usize, g: forms::Geometry) -> u32
-    requires { ⌜ SetIn (geometryOf g) (now f1) (now f3) n ⌝ }
-    ensures { λ r. ⌜ r ≡ total (overs (extentsIn (geometryOf g) (now (f1 .entry)) (now (f3 .entry)) n)) ⌝ }
-{
-    listing::tracks_of(f1, f3, n, g.heads)
+// How many tracks a data set has, and the lowest of them.
+pub struct Spread {
+    pub all: u32,
+    pub lowest: u32,
 }
 
-// The lowest track of a data set with n extents.
-pub fn lowest_track<'a>(f1: &'a [u8], f3: &'a [u8], n: usize, g: forms::Geometry) -> u32
+// The tracks of a data set with n extents.
+pub fn spread_of<'a>(f1: &'a [u8], f3: &'a [u8], n: usize, g: forms::Geometry) -> Spread
     requires { ⌜ SetIn (geometryOf g) (now f1) (now f3) n ⌝ }
-    ensures { λ r. ⌜ (r ≤ tracks (geometryOf g)) × NoneBelow r (overs (extentsIn (geometryOf g) (now (f1 .entry)) (now (f3 .entry)) n)) ⌝ }
+    ensures { λ r. ⌜ Spreads (tracks (geometryOf g)) (extentsIn (geometryOf g) (now (f1 .entry)) (now (f3 .entry)) n) (r .all) (r .lowest) ⌝ }
 {
-    let mut lo = g.cylinders * g.heads;
+    let mut all: u32 = 0;
+    let mut lowest = g.cylinders * g.heads;
     let mut e: usize = 0;
     while e < n {
         let x = extent_at(f1, f3, e, g.heads);
-        lo = lesser(lo, x.start);
+        all += x.count;
+        lowest = lesser(lowest, x.start);
         e += 1;
     }
-    lo
+    Spread { all, lowest }
 }
 
 // What stays of a data set: `whole` extents, and `count` tracks from `start` of the next, 0 for none of it.
@@ -236,31 +230,27 @@ pub fn give_tail<'a>(
     cut_at(f1, f3, n, g, keep)
 }
 
-// The format 3 of a label, with its first n extents only; a new one where none of them stands in it.
-fn keep_third(rec: [u8; 140], n: usize) -> [u8; 140]
-    requires { ⌜ n ≤ 16 ⌝ }
-    ensures { λ r. ⌜ ((g : Geometry) (l : Label) → (3 < n → Format3 g l rec) → Format3 g (firstExtents n l) r) ⌝ }
+// Makes the format 3 of a label that of the label with its first n extents. It has none of the first three.
+fn keep_third(rec: &mut [u8; 140], n: usize)
+    requires { ⌜ (length (now rec) ≡ 140) × (n ≤ 16) ⌝ }
+    ensures { λ _. ⌜ ((g : Geometry) (l : Label) → Format3 g l (now (rec .entry)) → Format3 g (firstExtents n l) (now (rec .exit))) × (length (now (rec .exit)) ≡ 140) ⌝ }
 {
     if n <= 3 {
-        return labels::empty_three();
+        labels::keep_extents3(rec, 3);
+        return;
     }
-    labels::keep_extents3(rec, n)
+    labels::keep_extents3(rec, n);
 }
 
-// The records of a label of which this stays. Its format 3 is looked at only where more than three extents stay whole.
-pub fn cut_records(recs: Records, g: forms::Geometry, k: Kept) -> Records
-    requires { ⌜ (k .whole ≤ 16) × (1 ≤ k .count → k .whole < 16) × (k .start + k .count ≤ 65535) × Limits (geometryOf g) ⌝ }
-    ensures { λ r. ⌜ ((l : Label) → k .whole ≤ length (l .extents) → Format1 (geometryOf g) l (recs .one) → (3 < length (l .extents) → Format3 (geometryOf g) l (recs .three)) → InRecords (geometryOf g) (shortened (k .whole) (k .start) (k .count) l) (r .one) (r .three)) ⌝ }
+// Makes the records of a label those of what stays of it.
+pub fn cut_records(one: &mut [u8; 140], three: &mut [u8; 140], g: forms::Geometry, k: Kept)
+    requires { ⌜ (length (now one) ≡ 140) × (length (now three) ≡ 140) × (k .whole ≤ 16) × (1 ≤ k .count → k .whole < 16) × (k .start + k .count ≤ 65535) × Limits (geometryOf g) ⌝ }
+    ensures { λ _. ⌜ ((l : Label) → k .whole ≤ length (l .extents) → InRecords (geometryOf g) l (now (one .entry)) (now (three .entry)) → InRecords (geometryOf g) (shortened (k .whole) (k .start) (k .count) l) (now (one .exit)) (now (three .exit))) × (length (now (one .exit)) ≡ 140) ⌝ }
 {
-    let first = recs.one;
-    let third = recs.three;
-    let one = labels::keep_extents1(first, k.whole);
-    let three = keep_third(third, k.whole);
-    let mut a = one;
-    let mut b = three;
+    labels::keep_extents1(one, k.whole);
+    keep_third(three, k.whole);
     if k.count == 0 {
-        return Records { one: a, three: b };
+        return;
     }
-    add_extent(&mut a, &mut b, g, k.whole, 0x01, k.start, k.count);
-    Records { one: a, three: b }
+    add_extent(one, three, g, k.whole, 0x01, k.start, k.count);
 }

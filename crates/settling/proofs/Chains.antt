@@ -1,67 +1,94 @@
 -- The chain read from a table. Assumes nothing.
 use mathlib.Core.Path.{_≡_, refl, sym, ap, _∙_, subst}
 use mathlib.Core.List.{List, [], _∷_, _++_, append-nil}
-use Prim.Native.Nat.{ℕ, zero, suc, _+_, _-_, _≤_, _<_}
+use Prim.Native.Nat.{ℕ, _+_, _≤_, _<_}
 use native.Mathlib.Numerals.{add-one}
 use native.Mathlib.Omega.{arith}
-use lib.ListN.{length, set, take, drop}
+use lib.ListN.{drop, length, length-append, length-take, set, take}
 use lib.Seq.{append-snoc, take-suc-set}
-use Rattle.model.specs.Basics.{part}
 use Rattle.model.specs.Model.{Geometry, Run, Volume, free, slots}
-use Rattle.model.proofs.Lists.{All}
+use Rattle.model.proofs.Lists.{All, All-append}
 use Rattle.rules.specs.Layout.{fives, headOr0}
 use Rattle.rules.specs.Reading.{chop}
 use Rattle.rules.proofs.Valid.{Limits}
 use Rattle.sound.specs.Sound.{FiveOk, Sound}
-use Rattle.fields.specs.Records.{slotBytes}
-use Rattle.fields.specs.Tests.{slotNamed}
 use Rattle.fields.proofs.Slots.{chop-slot}
-use Rattle.free_list.proofs.Chain.{chain-below, named, named-below, named-next}
-use Rattle.settling.specs.Settling.{Chained, walk}
+use Rattle.free_list.proofs.Chain.{chain-inside, chain-short, named, named-head}
+use Rattle.settling.specs.Settling.{Chained}
 
-module _ (g : Geometry) (limit : Limits g) (t : List ℕ) where
-  walk-below : (n k : ℕ) → k < slots g → All (λ j. j < slots g) (walk g t n k)
-  walk-below zero k u = tt
-  walk-below (suc n) k u = (u, walk-below n (named g t k) (named-below g limit t k))
+-- the first i of c are read, and the rest of the chain goes on in slot k, 0 for none
+pub record Read (g : Geometry) (t c : List ℕ) (i k : ℕ) (chain : List ℕ) : Type 0 where
+  pub rest : List ℕ
+  pub extents : List Run
+  pub whole : take i c ++ rest ≡ chain
+  pub head : headOr0 rest ≡ k
+  pub inside : All (λ j. (1 ≤ j) × (j < slots g)) rest
+  pub hold : All (FiveOk g (chop (slots g) t)) (fives rest extents)
 
-  walk-fives : (k : ℕ) (ks : List ℕ) (f : List Run) → All (FiveOk g (chop (slots g) t)) (fives (k ∷ ks) f) → All (λ j. j < slots g) (k ∷ ks) → walk g t (length (k ∷ ks)) k ≡ k ∷ ks
-  walk-fives k [] f a i = refl
-  walk-fives k (j ∷ ks) f a i =
-      let e : named g t k ≡ j = named-next g limit t k j (take 26 f) (i .0) (i .1 .0) (a .0 ∙ chop-slot (slots g) t k (i .0)) in
-      ap (λ (m : ℕ). k ∷ walk g t (length (j ∷ ks)) m) e ∙ ap (λ (z : List ℕ). k ∷ z) (walk-fives j ks (drop 26 f) (a .1) (i .1))
-
-  walk-chain : (ks : List ℕ) (f : List Run) → headOr0 ks ≡ 1 → All (FiveOk g (chop (slots g) t)) (fives ks f) → All (λ j. j < slots g) ks → walk g t (length ks) 1 ≡ ks
-  walk-chain [] f h a i = refl
-  walk-chain (k ∷ ks) f h a i = ap (walk g t (length (k ∷ ks))) (sym h) ∙ walk-fives k ks f a i
-
-pub walk-none : (g : Geometry) (t c : List ℕ) (count : ℕ) → take 0 c ++ walk g t (count - 0) 1 ≡ walk g t count 1
-walk-none g t c count = let z : count - 0 ≡ count = omega arith in ap (λ (m : ℕ). walk g t m 1) z
-
--- a turn: the slot is put, and the walk goes on from the next
-pub walk-next : (g : Geometry) (t c whole : List ℕ) (count i k j : ℕ) → i < count → i < length c
-    → j ≡ slotNamed (g .heads) (g .records) (g .vtocStart) (slots g) (part 135 5 (slotBytes t k))
-    → take i c ++ walk g t (count - i) k ≡ whole → take (i + 1) (set c i k) ++ walk g t (count - (i + 1)) j ≡ whole
-walk-next g t c whole count i k j u w e h =
-    let q : count - i ≡ suc (count - (i + 1)) = omega arith in
-    ap (λ (m : ℕ). take m (set c i k) ++ walk g t (count - (i + 1)) j) (add-one i)
-    ∙ ap (λ (z : List ℕ). z ++ walk g t (count - (i + 1)) j) (take-suc-set c i k w)
-    ∙ append-snoc (take i c) k (walk g t (count - (i + 1)) j)
-    ∙ ap (λ (m : ℕ). take i c ++ (k ∷ walk g t (count - (i + 1)) m)) e
-    ∙ sym (ap (λ (m : ℕ). take i c ++ walk g t m k) q) ∙ h
-
-sound-walk : (t : List ℕ) (v : Volume) → Sound (chop (slots (v .geometry)) t) v → walk (v .geometry) t (length (v .chain)) 1 ≡ v .chain
-sound-walk t v x = walk-chain (v .geometry) (x .limits) t (v .chain) (free (v .geometry) (v .labels)) (x .head) (x .fives) (chain-below v (x .slotIn))
-
-pub chained : (g : Geometry) (t c c′ : List ℕ) (count i k : ℕ) → Limits g → i ≤ count → count ≤ i → length c′ ≡ length c
-    → take i c′ ++ walk g t (count - i) k ≡ walk g t count 1 → Chained g t c c′ count
-chained g t c c′ count i k limit u w long h =
-    let q : count ≡ i = omega arith in
-    let z : count - i ≡ 0 = omega arith in
-    let e : take count c′ ≡ walk g t count 1 =
-    ap (λ (m : ℕ). take m c′) q ∙ sym (append-nil (take i c′)) ∙ sym (ap (λ (m : ℕ). take i c′ ++ walk g t m k) z) ∙ h in
+pub read-none : (g : Geometry) (t c : List ℕ) (v : Volume) → v .geometry ≡ g → Sound (chop (slots g) t) v → Read g t c 0 1 (v .chain)
+read-none g t c v e x =
+    subst (λ (y : Geometry). Sound (chop (slots y) t) v → Read y t c 0 1 (v .chain)) e
+    (λ z.
     record {
-      long = long;
-      inside = subst (All (λ j. j < slots g)) (sym e) (walk-below g limit t count 1 (omega (arith, limit .least)));
-      chain = λ v same x many. e ∙ ap (λ (m : ℕ). walk g t m 1) many
-          ∙ subst (λ (y : Geometry). Sound (chop (slots y) t) v → walk y t (length (v .chain)) 1 ≡ v .chain) same (sound-walk t v) x;
-    }
+      rest = v .chain;
+      extents = free (v .geometry) (v .labels);
+      whole = refl;
+      head = z .head;
+      inside = chain-inside (chop (slots (v .geometry)) t) v z;
+      hold = z .fives;
+    })
+    x
+
+module _ (g : Geometry) (t c : List ℕ) (i k : ℕ) (chain : List ℕ) (x : Read g t c i k chain) where
+  -- a turn: the slot is put, and the next is the one that its record names
+  pub read-next : Limits g → (k ≡ 0 → ⊥) → i < length c → (j : ℕ) → j ≡ named g t k → Read g t (set c i k) (i + 1) j chain
+  read-next limit p u j e = go (x .rest) (x .whole) (x .head) (x .inside) (x .hold)
+    where
+      go : (ks : List ℕ) → take i c ++ ks ≡ chain → headOr0 ks ≡ k → All (λ j. (1 ≤ j) × (j < slots g)) ks → All (FiveOk g (chop (slots g) t)) (fives ks (x .extents)) → Read g t (set c i k) (i + 1) j chain
+      go [] w h a f = absurd (p (sym h))
+      go (q ∷ ks) w h a f = record {
+        rest = ks;
+        extents = drop 26 (x .extents);
+        whole = ap (λ (m : ℕ). take m (set c i k) ++ ks) (add-one i)
+            ∙ ap (λ (z : List ℕ). z ++ ks) (take-suc-set c i k u)
+            ∙ append-snoc (take i c) k ks
+            ∙ ap (λ (m : ℕ). take i c ++ (m ∷ ks)) (sym h) ∙ w;
+        head = sym (e ∙ ap (named g t) (sym h) ∙ named-head g t k (x .extents) limit ks (a .1) q (a .0 .1) (f .0 ∙ chop-slot (slots g) t q (a .0 .1)));
+        inside = a .1;
+        hold = f .1;
+      }
+
+  -- no member is left
+  pub read-end : k ≡ 0 → take i c ≡ chain
+  read-end e = go (x .rest) (x .whole) (x .head) (x .inside)
+    where
+      go : (ks : List ℕ) → take i c ++ ks ≡ chain → headOr0 ks ≡ k → All (λ j. (1 ≤ j) × (j < slots g)) ks → take i c ≡ chain
+      go [] w h a = sym (append-nil (take i c)) ∙ w
+      go (q ∷ ks) w h a = absurd (omega (arith, a .0 .0))
+
+  -- nor is there room for one
+  pub read-full : length chain ≤ i → i ≤ length c → take i c ≡ chain
+  read-full u l = go (x .rest) (x .whole)
+    where
+      go : (ks : List ℕ) → take i c ++ ks ≡ chain → take i c ≡ chain
+      go [] w = sym (append-nil (take i c)) ∙ w
+      go (q ∷ ks) w = let a = length-append (take i c) (q ∷ ks) in let b = length-take i c in let d = ap length w in absurd (omega arith)
+
+pub inside-next : (n : ℕ) (c : List ℕ) (i k : ℕ) → i < length c → k < n → All (λ j. j < n) (take i c) → All (λ j. j < n) (take (i + 1) (set c i k))
+inside-next n c i k u w a =
+    subst (All (λ j. j < n)) (sym (ap (λ (m : ℕ). take m (set c i k)) (add-one i) ∙ take-suc-set c i k u))
+    (All-append (λ j. j < n) (take i c) (k ∷ []) a (w, tt))
+
+-- as long as a chain of the table can be
+pub chain-room : (g : Geometry) (t : List ℕ) (v : Volume) → v .geometry ≡ g → Sound (chop (slots g) t) v → length (v .chain) ≤ slots g
+chain-room g t v e x = subst (λ (y : Geometry). Sound (chop (slots y) t) v → length (v .chain) ≤ slots y) e (λ z. chain-short (chop (slots (v .geometry)) t) v z) x
+
+pub chained : (g : Geometry) (t c c′ : List ℕ) (i : ℕ) → length c′ ≡ length c → slots g ≤ length c → i ≤ slots g → All (λ j. j < slots g) (take i c′)
+    → ((v : Volume) → v .geometry ≡ g → Sound (chop (slots g) t) v → take i c′ ≡ v .chain) → Chained g t c c′ i
+chained g t c c′ i long room few inside whole = record {
+  long = long;
+  few = few;
+  inside = inside;
+  chain = whole;
+  many = λ v e x. let a = length-take i c′ in let b = ap length (whole v e x) in omega arith;
+}

@@ -1,21 +1,18 @@
 -- The slots that a change of data sets needs, in the map of free slots: taken, given back, and settled. The lists of slots in
 -- use and of labels are the caller's: they are quantified. Assumes nothing.
 use mathlib.Core.Path.{_≡_}
-use Prim.Native.Nat.{ℕ, zero, suc, _+_, _≤_, _<_}
+use Prim.Native.Nat.{ℕ, _+_, _≤_, _<_}
 use mathlib.Core.Bool.{Bool, true, cond}
 use mathlib.Core.Option.{some, none}
-use mathlib.Core.List.{List, [], _∷_, _++_}
+use mathlib.Core.List.{List, _++_}
 use lib.ListN.{length, take}
 use lib.Seq.{slice}
-use Rattle.model.specs.Basics.{part}
 use Rattle.model.specs.Model.{Geometry, Label, Volume, fivesFor, free, slots, tally, unused, used}
 use Rattle.model.proofs.Lists.{All}
 use Rattle.rules.specs.Reading.{chop}
 use Rattle.rules.specs.Slots.{settle}
 use Rattle.sound.specs.Sound.{Sound}
 use Rattle.tracks.specs.Map.{Shows, freeBit}
-use Rattle.fields.specs.Records.{slotBytes}
-use Rattle.fields.specs.Tests.{slotNamed}
 use Rattle.label_check.specs.Marks.{units}
 
 -- ---- the map of free slots
@@ -40,16 +37,13 @@ pub record Gave (s s′ ks : List ℕ) : Type 0 where
 
 -- ---- the chain of a table
 
--- n slots from slot k on, each named at the end of the record before it; 0 where that names none
-abbrev pub walk : Geometry → List ℕ → ℕ → ℕ → List ℕ
-walk g t zero k = []
-walk g t (suc n) k = k ∷ walk g t n (slotNamed (g .heads) (g .records) (g .vtocStart) (slots g) (part 135 5 (slotBytes t k)))
-
--- the first of c′ are slots of the table; they are the volume's chain where the table is sound
+-- the first `count` of c′ are slots of the table; they are the volume's chain where the table is sound
 pub record Chained (g : Geometry) (t c c′ : List ℕ) (count : ℕ) : Type 0 where
   pub long : length c′ ≡ length c
+  pub few : count ≤ slots g
   pub inside : All (λ k. k < slots g) (take count c′)
-  pub chain : (v : Volume) → v .geometry ≡ g → Sound (chop (slots g) t) v → count ≡ length (v .chain) → take count c′ ≡ v .chain
+  pub chain : (v : Volume) → v .geometry ≡ g → Sound (chop (slots g) t) v → take count c′ ≡ v .chain
+  pub many : (v : Volume) → v .geometry ≡ g → Sound (chop (slots g) t) v → count ≡ length (v .chain)
 
 -- ---- settled
 

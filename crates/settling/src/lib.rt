@@ -91,20 +91,24 @@ pub fn fives_for(f: usize) -> usize
     (f + 25) / 26
 }
 
-// Reads the slots of the first `count` members of a table's chain. In a table that is not sound they are some slots of it.
-pub fn read_chain(table: &[u8], g: Geometry, count: usize, chain: &mut [u16])
-    requires { ⌜ Limits (geometryOf g) × (length (now table) ≡ 140 * slots (geometryOf g)) × (count ≤ length (now chain)) ⌝ }
-    ensures { λ _. ⌜ Chained (geometryOf g) (now (table .entry)) (now (chain .entry)) (now (chain .exit)) count ⌝ }
+// Reads the slots of a table's chain, and how many they are. In a table that is not sound they are some slots of it.
+pub fn read_chain(table: &[u8], g: Geometry, chain: &mut [u16]) -> usize
+    requires { ⌜ Limits (geometryOf g) × (length (now table) ≡ 140 * slots (geometryOf g)) × (slots (geometryOf g) ≤ length (now chain)) ⌝ }
+    ensures { λ r. ⌜ Chained (geometryOf g) (now (table .entry)) (now (chain .entry)) (now (chain .exit)) r ⌝ }
 {
     let n = (g.tracks * g.records) as usize;
     let mut k: usize = 1;
     let mut i: usize = 0;
-    while i < count {
+    while i < n {
+        if k == 0 {
+            return i;
+        }
         chain[i] = k as u16;
         let rec = fields::record_at(table, k);
         k = fields::slot_of(&rec[135..140], g.heads, g.records, g.start, n);
         i += 1;
     }
+    i
 }
 
 // ---- settled

@@ -1,7 +1,7 @@
 use mathlib.Core.Path.{sym, _∙_}
 use native.Mathlib.Omega.{arith}
-use Rattle.giving.proofs.Laws.{fits, set-small, third-small}
-use Rattle.call_release.proofs.Laws.{bad-ttr, cut-done, cut-fits, draft, freed-small, full, ttr-fits}
+use Rattle.giving.proofs.Laws.{fits, set-small, third-inside}
+use Rattle.call_release.proofs.Laws.{bad-ttr, cut, cut-done, cut-fits, draft, freed-small, full, ttr-fits}
 use borrow.Author.Needs.{needs}
 use Rattle.call_release.proofs.release_set.Statement.{statement}
 use Rattle.call_release.proofs.release_set.Tie as tie
@@ -9,105 +9,153 @@ use Rattle.call_release.proofs.release_set.Reads as reads
 use Rattle.call_release.proofs.release_set.Lts as lts
 use Rattle.answers.proofs.put_back.Reads as put-back-reads
 use Rattle.call_release.proofs.cut_set.Reads as cut-set-reads
-use Rattle.commit.proofs.if_few.Reads as if-few-reads
 use Rattle.call_release.proofs.good_ttr.Reads as good-ttr-reads
+use Rattle.commit.proofs.if_few.Reads as if-few-reads
 use Rattle.commit.proofs.put_set.Reads as put-set-reads
+use Rattle.fields.proofs.record_at.Reads as record-at-reads
 use Rattle.giving.proofs.free_slot.Reads as free-slot-reads
+use Rattle.giving.proofs.give_back.Reads as give-back-reads
 use Rattle.giving.proofs.measure.Reads as measure-reads
+use Rattle.records.proofs.record_of.Reads as record-of-reads
+use Rattle.set_at.proofs.third_record.Reads as third-record-reads
 
--- src/lib.rt:100:9
+-- src/lib.rt:73:9
 measure-requires : tie.Need-measure-requires
 measure-requires c κs = search needs
 
--- src/lib.rt:101:8
+-- src/lib.rt:74:8
 good-ttr-requires : tie.Need-good-ttr-requires
 good-ttr-requires c κs = search needs
 
--- src/lib.rt:102:9
+-- src/lib.rt:75:9
 same-length : tie.Need-same-length
 same-length c = search needs
 
--- src/lib.rt:102:9
+-- src/lib.rt:75:9
 returns : tie.Need-returns
-returns c = λ d. bad-ttr _ _ _ _ _ d (c .before .before .before .before .before .before .before .before .args .ttr) _ _ _ _ _ _ _ (c .before .before .measure .ensures _ _ d) _ (sym (c .before .good-ttr .ensures) ∙ c .if1 .left)
+returns c = λ d. bad-ttr _ _ _ _ _ d (c .before .before .before .before .before .before .before .before .args .ttr) _ _ _ _ (c .before .before .measure .ensures _ _ d) _ (sym (c .before .good-ttr .ensures) ∙ c .if1 .left)
 
--- src/lib.rt:104:9
+-- src/lib.rt:77:50
+add-give-back : tie.Need-add-give-back
+add-give-back c = search needs
+
+-- src/lib.rt:77:9
+give-back-requires : tie.Need-give-back-requires
+give-back-requires c κs =
+    let top = c .before .before .before .before .before .before .before .before .before .before in
+    let x = c .before .before .before .before .measure .ensures _ _ (top .pre .1) in
+    ((top .pre .0 .1, top .pre .0 .4, third-inside _ _ _ _ _ (top .pre .1) _ _ _ _ x, top .pre .0 .2), x .stored .set)
+
+-- src/lib.rt:78:38
+record-at-requires : tie.Need-record-at-requires
+record-at-requires c κs = search needs
+
+-- src/lib.rt:78:19
+record-of-requires : tie.Need-record-of-requires
+record-of-requires c κs = search needs
+
+-- src/lib.rt:79:21
+third-record-requires : tie.Need-third-record-requires
+third-record-requires c κs =
+    let top = c .before .before .before .before .before .before .before .before .before .before .before .before .before .before .before .before .before in
+    let a = third-inside _ _ _ _ _ (top .pre .1) _ _ _ _ (c .before .before .before .before .before .before .before .before .before .before .before .measure .ensures _ _ (top .pre .1)) in
+    omega (arith, top .pre .0 .1)
+
+-- src/lib.rt:80:9
 cut-set-requires : tie.Need-cut-set-requires
 cut-set-requires c κs =
-    let x = c .before .before .before .measure .ensures _ _ (c .before .before .before .before .before .before .before .before .before .pre .1) in
-    (ttr-fits (c .before .before .before .before .before .before .before .before .before .args .ttr) (c .before .before .before .measure .result .tracks) (sym (c .before .before .good-ttr .ensures) ∙ c .before .if1 .taken) .0, c .before .before .before .before .before .before .before .before .before .pre .0 .2, x .known .set, cut-fits _ _ _ _ _ _ (x .known))
+    let top = c .before .before .before .before .before .before .before .before .before .before .before .before .before .before .before .before .before .before .before .before in
+    let x = c .before .before .before .before .before .before .before .before .before .before .before .before .before .before .measure .ensures _ _ (top .pre .1) in
+    let z = cut-fits _ _ _ _ _ _ (x .stored) _ _ _ _ _ (c .before .before .before .before .before .before .before .before .before .give-back .ensures .1) (top .pre .0 .0 .tracksMost) in
+    (search needs, c .before .before .third-record .ensures .long, z .0, z .1, z .2, top .pre .0 .0, ttr-fits (top .args .ttr) (c .before .before .before .before .before .before .before .before .before .before .before .before .before .before .measure .result .tracks) (sym (c .before .before .before .before .before .before .before .before .before .before .before .before .before .good-ttr .ensures) ∙ c .before .before .before .before .before .before .before .before .before .before .before .before .if1 .taken) .0)
 
--- src/lib.rt:107:30
+-- src/lib.rt:81:30
 if-few-requires : tie.Need-if-few-requires
 if-few-requires c κs = search needs
 
--- src/lib.rt:107:5
+-- src/lib.rt:81:5
 free-slot-requires : tie.Need-free-slot-requires
-free-slot-requires c κs = (c .before .before .before .before .before .before .before .before .before .before .before .before .before .before .before .before .pre .0 .3, freed-small (c .before .before .before .before .before .before .cut-set .result .few) (c .before .before .before .before .before .before .before .before .before .before .measure .result .third) (c .if-few .result) _ _ (c .if-few .ensures) (c .before .before .before .before .before .before .before .before .before .before .measure .ensures _ _ (c .before .before .before .before .before .before .before .before .before .before .before .before .before .before .before .before .pre .1) .known .slot3) (third-small _ _ _ _ _ (c .before .before .before .before .before .before .before .before .before .before .before .before .before .before .before .before .pre .1)) (c .before .before .before .before .before .before .before .before .before .before .before .before .before .before .before .before .pre .0 .0 .most))
+free-slot-requires c κs =
+    let top = c .before .before .before .before .before .before .before .before .before .before .before .before .before .before .before .before .before .before .before .before .before .before .before in
+    let x = c .before .before .before .before .before .before .before .before .before .before .before .before .before .before .before .before .before .measure .ensures _ _ (top .pre .1) in
+    (top .pre .0 .3, freed-small (c .before .before .cut-set .result) (c .before .before .before .before .before .before .before .before .before .before .before .before .before .before .before .before .before .measure .result .third) (c .if-few .result) _ (c .if-few .ensures) (third-inside _ _ _ _ _ (top .pre .1) _ _ _ _ x) (top .pre .0 .0 .most))
 
+-- src/lib.rt:87:9
 cast-put-set : tie.Need-cast-put-set
 cast-put-set c = search needs
 
--- src/lib.rt:108:8
+-- src/lib.rt:82:8
 put-set-requires : tie.Need-put-set-requires
 put-set-requires c κs =
-    let x = c .before .before .before .before .before .before .before .before .before .before .before .before .before .before .before .before .before .before .before .measure .ensures _ _ (c .before .before .before .before .before .before .before .before .before .before .before .before .before .before .before .before .before .before .before .before .before .before .before .before .before .pre .1) in
-    let y = c .before .before .before .before .before .before .before .before .before .before .before .before .before .before .before .cut-set .ensures _ (x .known) in
-    let z = fits _ _ _ _ _ (c .before .before .before .before .before .before .before .before .before .before .before .before .before .before .before .before .before .before .before .before .before .before .before .before .before .pre .1) (c .before .before .before .before .before .before .before .before .before .before .before .before .before .before .before .before .before .before .before .before .before .before .before .before .before .pre .0 .3) (c .before .before .before .before .before .before .before .before .before .before .before .before .before .before .before .before .before .before .before .before .before .before .before .before .before .pre .0 .2) _ _ _ _ _ _ _ x (c .before .before .before .before .before .before .before .before .before .before .before .before .before .before .before .cut-set .last .1 .1 .1 .0) (c .before .before .before .before .before .before .before .before .free-slot .last .0) (y .long) (c .before .before .before .before .before .before .before .before .free-slot .ensures .long) in (
-      (z .0, z .1, z .2, z .3, z .4, z .5, z .6, z .7, search needs),
-      draft _ _ _ _ _ (c .before .before .before .before .before .before .before .before .before .before .before .before .before .before .before .before .before .before .before .before .before .before .before .before .before .pre .1) (c .before .before .before .before .before .before .before .before .before .before .before .before .before .before .before .before .before .before .before .before .before .before .before .before .before .args .ttr) _ _ _ _ _ _ _ x (sym (c .before .before .before .before .before .before .before .before .before .before .before .before .before .before .before .before .before .before .good-ttr .ensures) ∙ c .before .before .before .before .before .before .before .before .before .before .before .before .before .before .before .before .before .if1 .taken) _ _ _ _ y _ _ (c .before .before .before .before .before .before .before .before .before .if-few .ensures) (c .before .before .before .before .before .before .before .before .free-slot .ensures),
+    let top = c .before .before .before .before .before .before .before .before .before .before .before .before .before .before .before .before .before .before .before .before .before .before .before .before .before .before .before .before .before .before .before .before in
+    let x = c .before .before .before .before .before .before .before .before .before .before .before .before .before .before .before .before .before .before .before .before .before .before .before .before .before .before .measure .ensures _ _ (top .pre .1) in
+    let y = cut _ _ _ _ _ (top .pre .1) (top .args .ttr) _ _ _ _ x _ _ _ _ _ (c .before .before .before .before .before .before .before .before .before .before .before .before .before .before .before .before .before .before .before .before .before .give-back .ensures) _ _ (c .before .before .before .before .before .before .before .before .before .before .before .before .before .before .before .before .record-of .ensures ∙ c .before .before .before .before .before .before .before .before .before .before .before .before .before .before .before .before .before .record-at .ensures .0) (c .before .before .before .before .before .before .before .before .before .before .before .before .before .before .third-record .ensures) _ _ _ (c .before .before .before .before .before .before .before .before .before .before .before .cut-set .ensures) in
+    let z = fits _ _ _ _ _ (top .pre .1) (top .pre .0 .3) (top .pre .0 .2) _ _ _ _ x (c .before .before .before .before .before .before .before .before .before .before .before .before .before .before .before .before .before .before .before .before .before .give-back .last .1 .1 .1 .1 .1 .0) (c .before .before .before .before .before .before .before .before .free-slot .last .0) (y .long) (c .before .before .before .before .before .before .before .before .free-slot .ensures .long) in (
+      (z .0, z .1, z .2, z .3, z .4, z .5, z .6, c .before .before .before .before .before .before .before .before .before .before .before .cut-set .ensures .long),
+      draft _ _ _ _ _ (top .pre .1) (top .args .ttr) _ _ _ _ x (sym (c .before .before .before .before .before .before .before .before .before .before .before .before .before .before .before .before .before .before .before .before .before .before .before .before .before .good-ttr .ensures) ∙ c .before .before .before .before .before .before .before .before .before .before .before .before .before .before .before .before .before .before .before .before .before .before .before .before .if1 .taken) _ _ _ _ y _ _ (c .before .before .before .before .before .before .before .before .before .if-few .ensures) (c .before .before .before .before .before .before .before .before .free-slot .ensures),
     )
 
--- src/lib.rt:109:9
+-- src/lib.rt:94:9
 same-length-2 : tie.Need-same-length-2
 same-length-2 c = search needs
 
--- src/lib.rt:109:9
+-- src/lib.rt:94:9
 same-length-3 : tie.Need-same-length-3
-same-length-3 c = search needs
+same-length-3 c = c .before .before .before .before .before .before .before .before .before .before .before .before .before .before .before .before .before .before .before .before .before .before .before .before .before .before .before .give-back .ensures .0 .long
 
--- src/lib.rt:109:9
+-- src/lib.rt:94:9
 same-length-4 : tie.Need-same-length-4
 same-length-4 c = search needs
 
--- src/lib.rt:109:9
+-- src/lib.rt:94:9
 returns-2 : tie.Need-returns-2
-returns-2 c = λ d. full _ _ _ _ _ d (c .before .before .before .before .before .before .before .before .before .before .before .before .before .before .before .before .before .before .before .before .before .before .before .before .before .before .before .before .before .before .before .args .ttr) _ _ _ _ _ _ _ (c .before .before .before .before .before .before .before .before .before .before .before .before .before .before .before .before .before .before .before .before .before .before .before .before .before .measure .ensures _ _ d) (sym (c .before .before .before .before .before .before .before .before .before .before .before .before .before .before .before .before .before .before .before .before .before .before .before .before .good-ttr .ensures) ∙ c .before .before .before .before .before .before .before .before .before .before .before .before .before .before .before .before .before .before .before .before .before .before .before .if1 .taken) _ _ _ _ (c .before .before .before .before .before .before .before .before .before .before .before .before .before .before .before .before .before .before .before .before .before .cut-set .ensures _ (c .before .before .before .before .before .before .before .before .before .before .before .before .before .before .before .before .before .before .before .before .before .before .before .before .before .measure .ensures _ _ d .known)) _ _ (c .before .before .before .before .before .before .before .before .before .before .before .before .before .before .before .if-few .ensures) (c .before .before .before .before .before .before .before .before .before .before .before .before .before .before .free-slot .ensures) _ _ _ (c .before .before .before .before .before .put-set .ensures) (c .if2 .left)
+returns-2 c =
+    let top = c .before .before .before .before .before .before .before .before .before .before .before .before .before .before .before .before .before .before .before .before .before .before .before .before .before .before .before .before .before .before .before .before .before .before .before .before .before .before in
+    λ d.
+    let x = c .before .before .before .before .before .before .before .before .before .before .before .before .before .before .before .before .before .before .before .before .before .before .before .before .before .before .before .before .before .before .before .before .measure .ensures _ _ d in
+    let y = cut _ _ _ _ _ d (top .args .ttr) _ _ _ _ x _ _ _ _ _ (c .before .before .before .before .before .before .before .before .before .before .before .before .before .before .before .before .before .before .before .before .before .before .before .before .before .before .before .give-back .ensures) _ _ (c .before .before .before .before .before .before .before .before .before .before .before .before .before .before .before .before .before .before .before .before .before .before .record-of .ensures ∙ c .before .before .before .before .before .before .before .before .before .before .before .before .before .before .before .before .before .before .before .before .before .before .before .record-at .ensures .0) (c .before .before .before .before .before .before .before .before .before .before .before .before .before .before .before .before .before .before .before .before .third-record .ensures) _ _ _ (c .before .before .before .before .before .before .before .before .before .before .before .before .before .before .before .before .before .cut-set .ensures) in
+    full _ _ _ _ _ d (top .args .ttr) _ _ _ _ x (sym (c .before .before .before .before .before .before .before .before .before .before .before .before .before .before .before .before .before .before .before .before .before .before .before .before .before .before .before .before .before .before .before .good-ttr .ensures) ∙ c .before .before .before .before .before .before .before .before .before .before .before .before .before .before .before .before .before .before .before .before .before .before .before .before .before .before .before .before .before .before .if1 .taken) _ _ _ _ y _ _ (c .before .before .before .before .before .before .before .before .before .before .before .before .before .before .before .if-few .ensures) (c .before .before .before .before .before .before .before .before .before .before .before .before .before .before .free-slot .ensures) _ _ _ (c .before .before .before .before .before .put-set .ensures) (c .if2 .left)
 
--- src/lib.rt:111:43
+-- src/lib.rt:96:43
 add-put-back : tie.Need-add-put-back
-add-put-back c = omega (arith, ttr-fits (c .before .before .before .before .before .before .before .before .before .before .before .before .before .before .before .before .before .before .before .before .before .before .before .before .before .before .before .before .before .before .before .before .args .ttr) (c .before .before .before .before .before .before .before .before .before .before .before .before .before .before .before .before .before .before .before .before .before .before .before .before .before .before .measure .result .tracks) (sym (c .before .before .before .before .before .before .before .before .before .before .before .before .before .before .before .before .before .before .before .before .before .before .before .before .before .good-ttr .ensures) ∙ c .before .before .before .before .before .before .before .before .before .before .before .before .before .before .before .before .before .before .before .before .before .before .before .before .if1 .taken) .0)
+add-put-back c = omega (arith, ttr-fits (c .before .before .before .before .before .before .before .before .before .before .before .before .before .before .before .before .before .before .before .before .before .before .before .before .before .before .before .before .before .before .before .before .before .before .before .before .before .before .before .args .ttr) (c .before .before .before .before .before .before .before .before .before .before .before .before .before .before .before .before .before .before .before .before .before .before .before .before .before .before .before .before .before .before .before .before .before .measure .result .tracks) (sym (c .before .before .before .before .before .before .before .before .before .before .before .before .before .before .before .before .before .before .before .before .before .before .before .before .before .before .before .before .before .before .before .before .good-ttr .ensures) ∙ c .before .before .before .before .before .before .before .before .before .before .before .before .before .before .before .before .before .before .before .before .before .before .before .before .before .before .before .before .before .before .before .if1 .taken) .0)
 
--- src/lib.rt:111:31
+-- src/lib.rt:96:31
 sub-put-back : tie.Need-sub-put-back
-sub-put-back c = omega (arith, ttr-fits (c .before .before .before .before .before .before .before .before .before .before .before .before .before .before .before .before .before .before .before .before .before .before .before .before .before .before .before .before .before .before .before .before .before .args .ttr) (c .before .before .before .before .before .before .before .before .before .before .before .before .before .before .before .before .before .before .before .before .before .before .before .before .before .before .before .measure .result .tracks) (sym (c .before .before .before .before .before .before .before .before .before .before .before .before .before .before .before .before .before .before .before .before .before .before .before .before .before .before .good-ttr .ensures) ∙ c .before .before .before .before .before .before .before .before .before .before .before .before .before .before .before .before .before .before .before .before .before .before .before .before .before .if1 .taken) .1)
+sub-put-back c = omega (arith, ttr-fits (c .before .before .before .before .before .before .before .before .before .before .before .before .before .before .before .before .before .before .before .before .before .before .before .before .before .before .before .before .before .before .before .before .before .before .before .before .before .before .before .before .args .ttr) (c .before .before .before .before .before .before .before .before .before .before .before .before .before .before .before .before .before .before .before .before .before .before .before .before .before .before .before .before .before .before .before .before .before .before .measure .result .tracks) (sym (c .before .before .before .before .before .before .before .before .before .before .before .before .before .before .before .before .before .before .before .before .before .before .before .before .before .before .before .before .before .before .before .before .before .good-ttr .ensures) ∙ c .before .before .before .before .before .before .before .before .before .before .before .before .before .before .before .before .before .before .before .before .before .before .before .before .before .before .before .before .before .before .before .before .if1 .taken) .1)
 
--- src/lib.rt:111:5
+-- src/lib.rt:96:5
 put-back-requires : tie.Need-put-back-requires
 put-back-requires c κs =
-    let a = set-small _ _ _ _ _ (c .before .before .before .before .before .before .before .before .before .before .before .before .before .before .before .before .before .before .before .before .before .before .before .before .before .before .before .before .before .before .before .before .before .pre .1) in
-    let b = c .before .before .before .before .before .before .before .before .before .before .before .before .before .before .before .before .before .before .before .before .before .before .before .before .before .before .before .measure .ensures _ _ (c .before .before .before .before .before .before .before .before .before .before .before .before .before .before .before .before .before .before .before .before .before .before .before .before .before .before .before .before .before .before .before .before .before .pre .1) .sum in
-    (c .before .before .before .before .before .before .before .before .before .before .before .before .before .before .before .before .before .before .before .before .before .before .before .before .before .before .before .before .before .before .before .before .before .pre .0 .5, omega arith)
+    let top = c .before .before .before .before .before .before .before .before .before .before .before .before .before .before .before .before .before .before .before .before .before .before .before .before .before .before .before .before .before .before .before .before .before .before .before .before .before .before .before .before in
+    let a = set-small _ _ _ _ _ (top .pre .1) in
+    let b = c .before .before .before .before .before .before .before .before .before .before .before .before .before .before .before .before .before .before .before .before .before .before .before .before .before .before .before .before .before .before .before .before .before .before .measure .ensures _ _ (top .pre .1) .spread .sum in
+    (top .pre .0 .5, omega arith)
 
--- src/lib.rt:87:1
+-- src/lib.rt:60:1
 same-length-5 : tie.Need-same-length-5
 same-length-5 c = search needs
 
--- src/lib.rt:87:1
+-- src/lib.rt:60:1
 same-length-6 : tie.Need-same-length-6
-same-length-6 c = search needs
+same-length-6 c = c .before .before .before .before .before .before .before .before .before .before .before .before .before .before .before .before .before .before .before .before .before .before .before .before .before .before .before .before .before .before .before .before .give-back .ensures .0 .long
 
--- src/lib.rt:87:1
+-- src/lib.rt:60:1
 same-length-7 : tie.Need-same-length-7
 same-length-7 c = search needs
 
--- src/lib.rt:87:1
+-- src/lib.rt:60:1
 same-length-8 : tie.Need-same-length-8
 same-length-8 c = search needs
 
--- src/lib.rt:87:1
+-- src/lib.rt:60:1
 returns-3 : tie.Need-returns-3
-returns-3 c = λ d. cut-done _ _ _ _ _ d (c .before .before .before .before .before .before .before .before .before .before .before .before .before .before .before .before .before .before .before .before .before .before .before .before .before .before .before .before .before .before .before .before .before .before .before .before .args .ttr) _ _ _ _ _ _ _ (c .before .before .before .before .before .before .before .before .before .before .before .before .before .before .before .before .before .before .before .before .before .before .before .before .before .before .before .before .before .before .measure .ensures _ _ d) (sym (c .before .before .before .before .before .before .before .before .before .before .before .before .before .before .before .before .before .before .before .before .before .before .before .before .before .before .before .before .before .good-ttr .ensures) ∙ c .before .before .before .before .before .before .before .before .before .before .before .before .before .before .before .before .before .before .before .before .before .before .before .before .before .before .before .before .if1 .taken) _ _ _ _ (c .before .before .before .before .before .before .before .before .before .before .before .before .before .before .before .before .before .before .before .before .before .before .before .before .before .before .cut-set .ensures _ (c .before .before .before .before .before .before .before .before .before .before .before .before .before .before .before .before .before .before .before .before .before .before .before .before .before .before .before .before .before .before .measure .ensures _ _ d .known)) _ _ (c .before .before .before .before .before .before .before .before .before .before .before .before .before .before .before .before .before .before .before .before .if-few .ensures) (c .before .before .before .before .before .before .before .before .before .before .before .before .before .before .before .before .before .before .before .free-slot .ensures) _ _ _ (c .before .before .before .before .before .before .before .before .before .before .put-set .ensures) (c .before .before .before .before .before .if2 .taken) _ (c .before .before .put-back .ensures)
+returns-3 c =
+    let top = c .before .before .before .before .before .before .before .before .before .before .before .before .before .before .before .before .before .before .before .before .before .before .before .before .before .before .before .before .before .before .before .before .before .before .before .before .before .before .before .before .before .before .before in
+    λ d.
+    let x = c .before .before .before .before .before .before .before .before .before .before .before .before .before .before .before .before .before .before .before .before .before .before .before .before .before .before .before .before .before .before .before .before .before .before .before .before .before .measure .ensures _ _ d in
+    let y = cut _ _ _ _ _ d (top .args .ttr) _ _ _ _ x _ _ _ _ _ (c .before .before .before .before .before .before .before .before .before .before .before .before .before .before .before .before .before .before .before .before .before .before .before .before .before .before .before .before .before .before .before .before .give-back .ensures) _ _ (c .before .before .before .before .before .before .before .before .before .before .before .before .before .before .before .before .before .before .before .before .before .before .before .before .before .before .before .record-of .ensures ∙ c .before .before .before .before .before .before .before .before .before .before .before .before .before .before .before .before .before .before .before .before .before .before .before .before .before .before .before .before .record-at .ensures .0) (c .before .before .before .before .before .before .before .before .before .before .before .before .before .before .before .before .before .before .before .before .before .before .before .before .before .third-record .ensures) _ _ _ (c .before .before .before .before .before .before .before .before .before .before .before .before .before .before .before .before .before .before .before .before .before .before .cut-set .ensures) in
+    cut-done _ _ _ _ _ d (top .args .ttr) _ _ _ _ x (sym (c .before .before .before .before .before .before .before .before .before .before .before .before .before .before .before .before .before .before .before .before .before .before .before .before .before .before .before .before .before .before .before .before .before .before .before .before .good-ttr .ensures) ∙ c .before .before .before .before .before .before .before .before .before .before .before .before .before .before .before .before .before .before .before .before .before .before .before .before .before .before .before .before .before .before .before .before .before .before .before .if1 .taken) _ _ _ _ y _ _ (c .before .before .before .before .before .before .before .before .before .before .before .before .before .before .before .before .before .before .before .before .if-few .ensures) (c .before .before .before .before .before .before .before .before .before .before .before .before .before .before .before .before .before .before .before .free-slot .ensures) _ _ _ (c .before .before .before .before .before .before .before .before .before .before .put-set .ensures) (c .before .before .before .before .before .if2 .taken) _ (c .before .before .put-back .ensures)
 
 pub release-set-spec : {M : Type 1} → statement M
 release-set-spec =
@@ -117,6 +165,11 @@ release-set-spec =
     good-ttr-requires
     same-length
     returns
+    add-give-back
+    give-back-requires
+    record-at-requires
+    record-of-requires
+    third-record-requires
     cut-set-requires
     if-few-requires
     free-slot-requires

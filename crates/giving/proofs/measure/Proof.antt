@@ -5,61 +5,65 @@ use Rattle.giving.proofs.measure.Statement.{statement}
 use Rattle.giving.proofs.measure.Tie as tie
 use Rattle.giving.proofs.measure.Reads as reads
 use Rattle.giving.proofs.measure.Lts as lts
-use Rattle.free_list.proofs.members.Reads as members-reads
-use Rattle.set_at.proofs.set_at.Reads as set-at-reads
-use Rattle.set_change.proofs.set_tracks.Reads as set-tracks-reads
+use Rattle.fields.proofs.record_at.Reads as record-at-reads
+use Rattle.fields.proofs.wide.Reads as wide-reads
+use Rattle.opening.proofs.third.Reads as third-reads
+use Rattle.set_change.proofs.spread_of.Reads as spread-of-reads
 
--- src/lib.rt:38:9
-set-at-requires : tie.Need-set-at-requires
-set-at-requires c κs = search needs
+-- src/lib.rt:29:9
+record-at-requires : tie.Need-record-at-requires
+record-at-requires c κs = search needs
 
--- src/lib.rt:41:38
-slice-aggregate-set-tracks : tie.Need-slice-aggregate-set-tracks
-slice-aggregate-set-tracks c = search needs
+-- src/lib.rt:30:9
+third-requires : tie.Need-third-requires
+third-requires c κs = search needs
 
--- src/lib.rt:41:44
-slice-aggregate-set-tracks-2 : tie.Need-slice-aggregate-set-tracks-2
-slice-aggregate-set-tracks-2 c = search needs
+-- src/lib.rt:31:9
+record-at-requires-2 : tie.Need-record-at-requires-2
+record-at-requires-2 c κs = search needs
 
--- src/lib.rt:41:9
-set-tracks-requires : tie.Need-set-tracks-requires
-set-tracks-requires c κs =
+-- src/lib.rt:32:30
+shared-slice-read-wide : tie.Need-shared-slice-read-wide
+shared-slice-read-wide c = search needs
+
+-- src/lib.rt:32:17
+wide-requires : tie.Need-wide-requires
+wide-requires c κs = search needs
+
+-- src/lib.rt:32:17
+cast-count : tie.Need-cast-count
+cast-count c = search needs
+
+-- src/lib.rt:33:9
+spread-of-requires : tie.Need-spread-of-requires
+spread-of-requires c κs =
     let top = c .before .before .before .before .before .before in
+    let a = top .args in
+    let one = c .before .before .before .before .record-at in
+    let three = c .before .before .record-at2 in
+    let link = c .before .before .before .third in
     let x = top .pre .1 in
-    set-of (geometryOf (top .args .g)) (top .args .table .now) (x .0) (x .1) (top .args .k) (x .2) _ _ _ _ (c .before .before .before .before .set-at .ensures)
+    set-of (geometryOf (a .g)) (a .table .now) (x .0) (x .1) (a .k) (x .2) (one .result .now) (three .result .now) _ (link .result) (one .ensures .0) (three .ensures .0) (three .ensures .1) (c .wide .ensures .0) (link .ensures .0)
 
-slice-aggregate-lowest-track : tie.Need-slice-aggregate-lowest-track
-slice-aggregate-lowest-track c = search needs
-
-slice-aggregate-lowest-track-2 : tie.Need-slice-aggregate-lowest-track-2
-slice-aggregate-lowest-track-2 c = search needs
-
-lowest-track-requires : tie.Need-lowest-track-requires
-lowest-track-requires c κs =
-    let top = c .before .before .before .before .before .before .before .before .before in
-    let x = top .pre .1 in
-    set-of (geometryOf (top .args .g)) (top .args .table .now) (x .0) (x .1) (top .args .k) (x .2) _ _ _ _ (c .before .before .before .before .before .before .before .set-at .ensures)
-
--- src/lib.rt:42:9
-members-requires : tie.Need-members-requires
-members-requires c κs = search needs
-
--- src/lib.rt:33:1
+-- src/lib.rt:24:1
 returns : tie.Need-returns
 returns c =
-    let a = c .before .before .before .before .before .before .before .before .before .before .before .args in
-    λ m s d. measured (geometryOf (a .g)) (a .table .now) m s (a .k) d _ _ _ _ (c .before .before .before .before .before .before .before .before .before .set-at .ensures) _ _ _ (c .before .before .before .before .set-tracks .ensures) (c .before .lowest-track .ensures) (c .members .ensures .1)
+    let top = c .before .before .before .before .before .before .before in
+    let a = top .args in
+    let one = c .before .before .before .before .before .record-at in
+    let three = c .before .before .before .record-at2 in
+    let link = c .before .before .before .before .third in
+    λ m s d. measured (geometryOf (a .g)) (a .table .now) m s (a .k) d (one .result .now) (three .result .now) _ (link .result) (one .ensures .0) (three .ensures .0) (three .ensures .1) (c .before .wide .ensures .0) (link .ensures .0) _ _ (c .spread-of .ensures)
 
 pub measure-spec : {M : Type 1} → statement M
 measure-spec =
     tie.close
     (tie.spec
-    set-at-requires
-    slice-aggregate-set-tracks
-    slice-aggregate-set-tracks-2
-    set-tracks-requires
-    slice-aggregate-lowest-track
-    slice-aggregate-lowest-track-2
-    lowest-track-requires
-    members-requires
+    record-at-requires
+    third-requires
+    record-at-requires-2
+    shared-slice-read-wide
+    wide-requires
+    cast-count
+    spread-of-requires
     returns)

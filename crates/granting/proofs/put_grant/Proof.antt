@@ -1,7 +1,5 @@
-use Prim.Native.Nat.{_*_}
-use lib.ListN.{length}
 use native.Mathlib.Omega.{arith}
-use Rattle.granting.proofs.Laws.{done, draft, full, members-fit, pieces-in}
+use Rattle.granting.proofs.Laws.{done, draft, full, pieces-in}
 use borrow.Author.Needs.{needs}
 use Rattle.granting.proofs.put_grant.Statement.{statement}
 use Rattle.granting.proofs.put_grant.Tie as tie
@@ -10,7 +8,6 @@ use Rattle.granting.proofs.put_grant.Lts as lts
 use Rattle.answers.proofs.put_granted.Reads as put-granted-reads
 use Rattle.commit.proofs.put_set.Reads as put-set-reads
 use Rattle.granting.proofs.few.Reads as few-reads
-use Rattle.free_list.proofs.members.Reads as members-reads
 use Rattle.set_change.proofs.add_pieces.Reads as add-pieces-reads
 use Rattle.set_change.proofs.take_pieces.Reads as take-pieces-reads
 
@@ -20,14 +17,11 @@ mul-lowest-piece c = let l = c .before .before .before .before .before .pre .0 .
 lowest-piece-requires : tie.Need-lowest-piece-requires
 lowest-piece-requires c κs = c .before .before .before .before .before .pre .0 .7
 
-members-requires : tie.Need-members-requires
-members-requires c κs = search needs
-
 take-pieces-requires : tie.Need-take-pieces-requires
-take-pieces-requires c κs = (c .before .before .before .before .before .before .before .before .before .pre .0 .7, pieces-in (c .before .before .before .before .before .before .before .before .before .pre .1) _ (omega (arith, c .before .before .before .before .before .before .before .before .before .pre .0 .2, c .before .before .before .before .before .before .before .before .before .pre .0 .0 .tracksMost)))
+take-pieces-requires c κs = (c .before .before .before .before .before .before .before .pre .0 .7, pieces-in (c .before .before .before .before .before .before .before .pre .1) _ (omega (arith, c .before .before .before .before .before .before .before .pre .0 .2, c .before .before .before .before .before .before .before .pre .0 .0 .tracksMost)))
 
 add-pieces-requires : tie.Need-add-pieces-requires
-add-pieces-requires c κs = (c .before .before .before .before .before .before .before .before .before .before .before .before .before .before .pre .0 .10, c .before .before .before .before .before .before .before .before .before .before .before .before .before .before .pre .0 .11, c .before .before .before .before .before .before .before .before .before .before .before .before .before .before .pre .0 .7, c .before .before .before .before .before .before .before .before .before .before .before .before .before .before .pre .0 .8, c .before .before .before .before .before .before .before .before .before .before .before .before .before .before .pre .0 .0, pieces-in (c .before .before .before .before .before .before .before .before .before .before .before .before .before .before .pre .1) 65535 (c .before .before .before .before .before .before .before .before .before .before .before .before .before .before .pre .0 .0 .tracksMost))
+add-pieces-requires c κs = (c .before .before .before .before .before .before .before .before .before .before .before .before .pre .0 .10, c .before .before .before .before .before .before .before .before .before .before .before .before .pre .0 .11, c .before .before .before .before .before .before .before .before .before .before .before .before .pre .0 .7, c .before .before .before .before .before .before .before .before .before .before .before .before .pre .0 .8, c .before .before .before .before .before .before .before .before .before .before .before .before .pre .0 .0, pieces-in (c .before .before .before .before .before .before .before .before .before .before .before .before .pre .1) 65535 (c .before .before .before .before .before .before .before .before .before .before .before .before .pre .0 .0 .tracksMost))
 
 few-requires : tie.Need-few-requires
 few-requires c κs = search needs
@@ -37,9 +31,9 @@ cast-put-set c = search needs
 
 put-set-requires : tie.Need-put-set-requires
 put-set-requires c κs =
-    let d = c .before .before .before .before .before .before .before .before .before .before .before .before .before .before .before .before .before .before .before .before .before .pre .1 in (
-      (c .before .before .before .before .before .before .before .before .before .before .before .before .before .before .before .before .before .before .before .before .before .pre .0 .0, c .before .before .before .before .before .before .before .before .before .before .before .before .before .before .before .before .before .before .before .before .before .pre .0 .1, omega (arith, c .before .before .before .before .before .before .before .before .before .before .before .before .before .before .before .before .before .before .before .before .before .pre .0 .2, c .before .before .before .before .before .before .before .before .before .before .before .before .before .before .before .before .before .before .before .before .before .pre .0 .0 .tracksMost, c .before .before .before .before .before .before .before .before .before .before .before .take-pieces .ensures .long), c .before .before .before .before .before .before .before .before .before .before .before .before .before .before .before .before .before .before .before .before .before .pre .0 .3, members-fit d _ (c .before .before .before .before .before .before .before .before .before .before .before .before .before .members .ensures .1), c .before .before .before .before .before .before .before .before .before .before .before .before .before .before .before .lowest-piece .ensures .0, c .before .before .before .before .before .before .before .before .before .before .before .before .before .before .before .before .before .before .before .before .before .pre .0 .5, c .before .before .before .before .before .before .before .before .before .before .before .before .before .before .before .before .before .before .before .before .before .pre .0 .6, c .before .before .before .before .before .before .add-pieces .ensures .1),
-      draft d _ (c .before .before .before .before .before .before .before .before .before .before .before .take-pieces .ensures) _ (c .before .before .before .before .before .before .before .before .before .before .before .before .before .members .ensures .1) _ (c .before .before .before .before .before .few .ensures) _ _ (c .before .before .before .before .before .before .add-pieces .ensures .0 (d .label) (d .pieces) (d .extentsAre) (d .rowsAre) (d .records)) _ (c .before .before .before .before .before .before .before .before .before .before .before .before .before .before .before .lowest-piece .ensures .0) (c .before .before .before .before .before .before .before .before .before .before .before .before .before .before .before .lowest-piece .ensures .1),
+    let d = c .before .before .before .before .before .before .before .before .before .before .before .before .before .before .before .before .before .before .before .pre .1 in (
+      (c .before .before .before .before .before .before .before .before .before .before .before .before .before .before .before .before .before .before .before .pre .0 .0, c .before .before .before .before .before .before .before .before .before .before .before .before .before .before .before .before .before .before .before .pre .0 .1, omega (arith, c .before .before .before .before .before .before .before .before .before .before .before .before .before .before .before .before .before .before .before .pre .0 .2, c .before .before .before .before .before .before .before .before .before .before .before .before .before .before .before .before .before .before .before .pre .0 .0 .tracksMost, c .before .before .before .before .before .before .before .before .before .before .before .take-pieces .ensures .long), c .before .before .before .before .before .before .before .before .before .before .before .before .before .before .before .before .before .before .before .pre .0 .3, c .before .before .before .before .before .before .before .before .before .before .before .before .before .lowest-piece .ensures .0, c .before .before .before .before .before .before .before .before .before .before .before .before .before .before .before .before .before .before .before .pre .0 .5, c .before .before .before .before .before .before .before .before .before .before .before .before .before .before .before .before .before .before .before .pre .0 .6, c .before .before .before .before .before .before .add-pieces .ensures .1),
+      draft d _ (c .before .before .before .before .before .before .before .before .before .before .before .take-pieces .ensures) _ (c .before .before .before .before .before .few .ensures) _ _ (c .before .before .before .before .before .before .add-pieces .ensures .0 (d .label) (d .pieces) (d .extentsAre) (d .rowsAre) (d .records)) _ (c .before .before .before .before .before .before .before .before .before .before .before .before .before .lowest-piece .ensures .0) (c .before .before .before .before .before .before .before .before .before .before .before .before .before .lowest-piece .ensures .1),
     )
 
 same-length : tie.Need-same-length
@@ -54,10 +48,10 @@ same-length-3 c = search needs
 returns : tie.Need-returns
 returns c = λ d.
     let x = c .before .before .before .before .before .before .before .before .before .before .before .before .add-pieces .ensures .0 (d .label) (d .pieces) (d .extentsAre) (d .rowsAre) (d .records) in
-    full d _ (c .before .before .before .before .before .before .before .before .before .before .before .before .before .before .before .before .before .take-pieces .ensures) _ (c .before .before .before .before .before .before .before .before .before .before .before .before .before .before .before .before .before .before .before .members .ensures .1) _ (c .before .before .before .before .before .before .before .before .before .before .before .few .ensures) _ _ x _ (c .before .before .before .before .before .before .before .before .before .before .before .before .before .before .before .before .before .before .before .before .before .lowest-piece .ensures .0) (c .before .before .before .before .before .before .before .before .before .before .before .before .before .before .before .before .before .before .before .before .before .lowest-piece .ensures .1) _ _ (c .before .before .before .before .before .put-set .ensures (draft d _ (c .before .before .before .before .before .before .before .before .before .before .before .before .before .before .before .before .before .take-pieces .ensures) _ (c .before .before .before .before .before .before .before .before .before .before .before .before .before .before .before .before .before .before .before .members .ensures .1) _ (c .before .before .before .before .before .before .before .before .before .before .before .few .ensures) _ _ x _ (c .before .before .before .before .before .before .before .before .before .before .before .before .before .before .before .before .before .before .before .before .before .lowest-piece .ensures .0) (c .before .before .before .before .before .before .before .before .before .before .before .before .before .before .before .before .before .before .before .before .before .lowest-piece .ensures .1))) _ (c .if1 .left)
+    full d _ (c .before .before .before .before .before .before .before .before .before .before .before .before .before .before .before .before .before .take-pieces .ensures) _ (c .before .before .before .before .before .before .before .before .before .before .before .few .ensures) _ _ x _ (c .before .before .before .before .before .before .before .before .before .before .before .before .before .before .before .before .before .before .before .lowest-piece .ensures .0) (c .before .before .before .before .before .before .before .before .before .before .before .before .before .before .before .before .before .before .before .lowest-piece .ensures .1) _ _ (c .before .before .before .before .before .put-set .ensures (draft d _ (c .before .before .before .before .before .before .before .before .before .before .before .before .before .before .before .before .before .take-pieces .ensures) _ (c .before .before .before .before .before .before .before .before .before .before .before .few .ensures) _ _ x _ (c .before .before .before .before .before .before .before .before .before .before .before .before .before .before .before .before .before .before .before .lowest-piece .ensures .0) (c .before .before .before .before .before .before .before .before .before .before .before .before .before .before .before .before .before .before .before .lowest-piece .ensures .1))) _ (c .if1 .left)
 
 put-granted-requires : tie.Need-put-granted-requires
-put-granted-requires c κs = (c .before .before .before .before .before .before .before .before .before .before .before .before .before .before .before .before .before .before .before .before .before .before .before .before .before .before .before .before .pre .0 .4, c .before .before .before .before .before .before .before .before .before .before .before .before .before .before .before .before .before .before .before .before .before .before .before .before .before .before .before .before .pre .0 .7, omega (arith, c .before .before .before .before .before .before .before .before .before .before .before .before .before .before .before .before .before .before .before .before .before .before .before .before .before .before .before .before .pre .0 .9))
+put-granted-requires c κs = (c .before .before .before .before .before .before .before .before .before .before .before .before .before .before .before .before .before .before .before .before .before .before .before .before .before .before .pre .0 .4, c .before .before .before .before .before .before .before .before .before .before .before .before .before .before .before .before .before .before .before .before .before .before .before .before .before .before .pre .0 .7, omega (arith, c .before .before .before .before .before .before .before .before .before .before .before .before .before .before .before .before .before .before .before .before .before .before .before .before .before .before .pre .0 .9))
 
 same-length-4 : tie.Need-same-length-4
 same-length-4 c = search needs
@@ -74,7 +68,7 @@ same-length-7 c = search needs
 returns-2 : tie.Need-returns-2
 returns-2 c = λ d.
     let x = c .before .before .before .before .before .before .before .before .before .before .before .before .before .before .before .before .add-pieces .ensures .0 (d .label) (d .pieces) (d .extentsAre) (d .rowsAre) (d .records) in
-    done d _ (c .before .before .before .before .before .before .before .before .before .before .before .before .before .before .before .before .before .before .before .before .before .take-pieces .ensures) _ (c .before .before .before .before .before .before .before .before .before .before .before .before .before .before .before .before .before .before .before .before .before .before .before .members .ensures .1) _ (c .before .before .before .before .before .before .before .before .before .before .before .before .before .before .before .few .ensures) _ _ x _ (c .before .before .before .before .before .before .before .before .before .before .before .before .before .before .before .before .before .before .before .before .before .before .before .before .before .lowest-piece .ensures .0) (c .before .before .before .before .before .before .before .before .before .before .before .before .before .before .before .before .before .before .before .before .before .before .before .before .before .lowest-piece .ensures .1) _ _ (c .before .before .before .before .before .before .before .before .before .put-set .ensures (draft d _ (c .before .before .before .before .before .before .before .before .before .before .before .before .before .before .before .before .before .before .before .before .before .take-pieces .ensures) _ (c .before .before .before .before .before .before .before .before .before .before .before .before .before .before .before .before .before .before .before .before .before .before .before .members .ensures .1) _ (c .before .before .before .before .before .before .before .before .before .before .before .before .before .before .before .few .ensures) _ _ x _ (c .before .before .before .before .before .before .before .before .before .before .before .before .before .before .before .before .before .before .before .before .before .before .before .before .before .lowest-piece .ensures .0) (c .before .before .before .before .before .before .before .before .before .before .before .before .before .before .before .before .before .before .before .before .before .before .before .before .before .lowest-piece .ensures .1))) _ (c .before .before .before .before .if1 .taken) _ (c .before .before .put-granted .ensures)
+    done d _ (c .before .before .before .before .before .before .before .before .before .before .before .before .before .before .before .before .before .before .before .before .before .take-pieces .ensures) _ (c .before .before .before .before .before .before .before .before .before .before .before .before .before .before .before .few .ensures) _ _ x _ (c .before .before .before .before .before .before .before .before .before .before .before .before .before .before .before .before .before .before .before .before .before .before .before .lowest-piece .ensures .0) (c .before .before .before .before .before .before .before .before .before .before .before .before .before .before .before .before .before .before .before .before .before .before .before .lowest-piece .ensures .1) _ _ (c .before .before .before .before .before .before .before .before .before .put-set .ensures (draft d _ (c .before .before .before .before .before .before .before .before .before .before .before .before .before .before .before .before .before .before .before .before .before .take-pieces .ensures) _ (c .before .before .before .before .before .before .before .before .before .before .before .before .before .before .before .few .ensures) _ _ x _ (c .before .before .before .before .before .before .before .before .before .before .before .before .before .before .before .before .before .before .before .before .before .before .before .lowest-piece .ensures .0) (c .before .before .before .before .before .before .before .before .before .before .before .before .before .before .before .before .before .before .before .before .before .before .before .lowest-piece .ensures .1))) _ (c .before .before .before .before .if1 .taken) _ (c .before .before .put-granted .ensures)
 
 pub put-grant-spec : {M : Type 1} → statement M
 put-grant-spec =
@@ -82,7 +76,6 @@ put-grant-spec =
     (tie.spec
     mul-lowest-piece
     lowest-piece-requires
-    members-requires
     take-pieces-requires
     add-pieces-requires
     few-requires

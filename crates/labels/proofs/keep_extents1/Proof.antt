@@ -1,13 +1,19 @@
+use mathlib.Core.Path.{subst, sym}
+use mathlib.Core.List.{List}
+use Prim.Native.Nat.{ℕ}
+use lib.ListN.{length-set}
 use borrow.Author.Needs.{needs}
+use Rattle.records.proofs.Putting.{put-keeps}
+use Rattle.labels.specs.Labels.{Format1, firstExtents}
 use Rattle.labels.proofs.Format1.{first-in-one, first-past-one}
 use Rattle.labels.proofs.keep_extents1.Statement.{statement}
 use Rattle.labels.proofs.keep_extents1.Tie as tie
 
-cast-r : tie.Need-cast-r
-cast-r c = search needs
+cast-rec : tie.Need-cast-rec
+cast-rec c = search needs
 
-array-write-r : tie.Need-array-write-r
-array-write-r c = search needs
+element-write-rec : tie.Need-element-write-rec
+element-write-rec c = search needs
 
 mul-put-same : tie.Need-mul-put-same
 mul-put-same c = search needs
@@ -20,13 +26,25 @@ put-same-requires c κs = search needs
 
 returns : tie.Need-returns
 returns c =
-    let a = c .before .before .before .args in
-    λ g l k f. rw (c .put-same .ensures) (first-in-one g l (a .rec) f (a .n) k (c .before .before .if1 .taken))
+    let top = c .before .before .before in
+    let a = top .args in (
+      λ g l k f. subst (λ (r : List ℕ). Format1 g (firstExtents (a .n) l) r) (sym (c .put-same .ensures)) (first-in-one g l (a .rec .now) f (a .n) k (c .before .before .if1 .taken)),
+      put-keeps _ _ _ _ 140 (c .put-same .ensures) (simp length-set (top .pre .0)),
+    )
 
 returns-2 : tie.Need-returns-2
-returns-2 c = λ g l k f. first-past-one g l (c .before .args .rec) f (c .before .args .n) k (c .if1 .left)
+returns-2 c =
+    let a = c .before .args in
+    (λ g l k f. first-past-one g l (a .rec .now) f (a .n) k (c .if1 .left), simp length-set (c .before .pre .0))
 
 pub keep-extents1-spec : {M : Type 1} → statement M
 keep-extents1-spec =
     tie.close
-    (tie.spec cast-r array-write-r mul-put-same add-put-same put-same-requires returns returns-2)
+    (tie.spec
+    cast-rec
+    element-write-rec
+    mul-put-same
+    add-put-same
+    put-same-requires
+    returns
+    returns-2)

@@ -1,7 +1,10 @@
-use mathlib.Core.Path.{_≡_, _∙_}
+use mathlib.Core.Path.{_∙_, ap}
+use mathlib.Core.List.{List}
+use Prim.Native.Nat.{ℕ}
 use native.Mathlib.Omega.{arith}
-use lib.ListN.{length}
 use borrow.Author.Needs.{needs}
+use Rattle.model.specs.Basics.{zeros}
+use Rattle.records.specs.Put.{putAt}
 use Rattle.records.proofs.Putting.{put-keeps}
 use Rattle.labels.proofs.Format3.{first-in-three, first-past-three}
 use Rattle.labels.proofs.keep_extents3.Statement.{statement}
@@ -21,13 +24,15 @@ put-same-requires c κs = search needs
 
 put-same-requires-2 : tie.Need-put-same-requires-2
 put-same-requires-2 c κs =
-    let l : length (c .before .before .before .before .args .rec) ≡ 140 = search needs in
-    (put-keeps _ _ _ _ 140 (c .before .put-same .ensures) l, omega arith, omega arith)
+    (put-keeps _ _ _ _ 140 (c .before .put-same .ensures) (c .before .before .before .before .pre .0), omega arith, omega arith)
 
 returns : tie.Need-returns
 returns c =
     let top = c .before .before .before .before .before in
-    λ g l f. rw (c .put-same2 .ensures, c .before .before .put-same .ensures) (first-in-three g l (top .args .rec) f (top .args .n) (top .pre .0) (c .before .before .before .before .if1 .taken))
+    let a = top .args in (
+      λ g l f. c .put-same2 .ensures ∙ ap (λ (r : List ℕ). putAt r 45 (zeros 90)) (c .before .before .put-same .ensures) ∙ first-in-three g l (a .rec .now) f (a .n) (top .pre .1) (c .before .before .before .before .if1 .taken),
+      put-keeps _ _ _ _ 140 (c .put-same2 .ensures) (put-keeps _ _ _ _ 140 (c .before .before .put-same .ensures) (top .pre .0)),
+    )
 
 mul-put-same-2 : tie.Need-mul-put-same-2
 mul-put-same-2 c = search needs
@@ -41,7 +46,10 @@ put-same-requires-3 c κs = search needs
 returns-2 : tie.Need-returns-2
 returns-2 c =
     let top = c .before .before .before in
-    λ g l f. c .put-same3 .ensures ∙ first-past-three g l (top .args .rec) f (top .args .n) (c .before .before .if1 .left) (top .pre .1)
+    let a = top .args in (
+      λ g l f. c .put-same3 .ensures ∙ first-past-three g l (a .rec .now) f (a .n) (c .before .before .if1 .left) (top .pre .2),
+      put-keeps _ _ _ _ 140 (c .put-same3 .ensures) (top .pre .0),
+    )
 
 pub keep-extents3-spec : {M : Type 1} → statement M
 keep-extents3-spec =

@@ -1,49 +1,59 @@
-use mathlib.Core.Path.{_≡_, subst}
 use native.Mathlib.Omega.{arith}
-use lib.ListN.{length}
-use borrow.Author.Needs.{needs}
-use Rattle.model.specs.Model.{Label}
 use Rattle.forms.specs.Forms.{geometryOf}
 use Rattle.labels.specs.Labels.{firstExtents}
-use Rattle.set_change.specs.Change.{InRecords}
-use Rattle.set_change.proofs.Cutting.{first-length, whole-only, with-part}
+use Rattle.set_change.proofs.Cutting.{first-length, with-part, without-part}
+use borrow.Author.Needs.{needs}
 use Rattle.set_change.proofs.cut_records.Statement.{statement}
 use Rattle.set_change.proofs.cut_records.Tie as tie
+use Rattle.set_change.proofs.cut_records.Reads as reads
+use Rattle.set_change.proofs.cut_records.Lts as lts
+use Rattle.labels.proofs.keep_extents1.Reads as keep-extents1-reads
+use Rattle.set_change.proofs.add_extent.Reads as add-extent-reads
+use Rattle.set_change.proofs.keep_third.Reads as keep-third-reads
 
+-- src/lib.rt:250:5
 keep-extents1-requires : tie.Need-keep-extents1-requires
 keep-extents1-requires c κs = search needs
 
+-- src/lib.rt:251:5
 keep-third-requires : tie.Need-keep-third-requires
 keep-third-requires c κs = search needs
 
+-- src/lib.rt:253:9
 returns : tie.Need-returns
 returns c =
     let a = c .before .before .before .before .before .before .args in
     let g = geometryOf (a .g) in
-    let one = c .before .before .before .keep-extents1 in
-    let three = c .before .before .keep-third in
-    λ l h f1 f3.
-    subst (λ (y : Label). InRecords g y (one .result) (three .result)) (whole-only (a .k .whole) (a .k .start) (a .k .count) l (c .if1 .taken))
-    (record { one = one .ensures g l h f1; three = three .ensures g l (λ u. f3 (omega arith)) })
+    let one = c .before .before .before .before .keep-extents1 .ensures in
+    let three = c .before .before .keep-third .ensures in (
+      λ l h x.
+          without-part (a .k .whole) (a .k .start) (a .k .count) l (c .if1 .taken)
+          (record { one = one .0 g l h (x .one); three = three .0 g l (x .three) }),
+      one .1,
+    )
 
+-- src/lib.rt:255:5
 add-extent-requires : tie.Need-add-extent-requires
 add-extent-requires c κs =
     let p = c .before .before .before .before .before .before .before .before .pre in
     let u = c .before .before .if1 .left in
-    let m : length (c .before .before .before .before .before .keep-extents1 .result) ≡ 140 = search needs in
-    let n : length (c .before .before .before .before .keep-third .result) ≡ 140 = search needs in
-    (m, n, p .1 (omega arith), omega arith, p .2, p .3)
+    let one = c .before .before .before .before .before .before .keep-extents1 .ensures in
+    let three = c .before .before .before .before .keep-third .ensures in
+    (one .1, three .1, p .3 (omega arith), omega arith, p .4, p .5)
 
+-- src/lib.rt:246:1
 returns-2 : tie.Need-returns-2
 returns-2 c =
     let a = c .before .before .before .before .before .before .before .before .before .args in
     let g = geometryOf (a .g) in
-    let one = c .before .before .before .before .before .before .keep-extents1 in
-    let three = c .before .before .before .before .before .keep-third in
-    λ l h f1 f3.
-    with-part (a .k .whole) (a .k .start) (a .k .count) l (c .before .before .before .if1 .left)
-    (c .add-extent .ensures .0 (firstExtents (a .k .whole) l) (first-length (a .k .whole) l h)
-    (record { one = one .ensures g l h f1; three = three .ensures g l (λ u. f3 (omega arith)) }))
+    let one = c .before .before .before .before .before .before .before .keep-extents1 .ensures in
+    let three = c .before .before .before .before .before .keep-third .ensures in
+    let more = c .add-extent .ensures in (
+      λ l h x.
+          with-part (a .k .whole) (a .k .start) (a .k .count) l (c .before .before .before .if1 .left)
+          (more .0 (firstExtents (a .k .whole) l) (first-length (a .k .whole) l h) (record { one = one .0 g l h (x .one); three = three .0 g l (x .three) })),
+      more .1,
+    )
 
 pub cut-records-spec : {M : Type 1} → statement M
 cut-records-spec =

@@ -1,25 +1,29 @@
-use Rattle.set_change.proofs.Cutting.{few-first}
-use Rattle.labels.specs.Labels.{firstExtents}
+use Rattle.set_change.proofs.Cutting.{three-first}
 use borrow.Author.Needs.{needs}
 use Rattle.set_change.proofs.keep_third.Statement.{statement}
 use Rattle.set_change.proofs.keep_third.Tie as tie
+use Rattle.set_change.proofs.keep_third.Reads as reads
+use Rattle.set_change.proofs.keep_third.Lts as lts
+use Rattle.labels.proofs.keep_extents3.Reads as keep-extents3-reads
 
--- src/lib.rt:191:9
-empty-three-requires : tie.Need-empty-three-requires
-empty-three-requires c κs = search needs
-
--- src/lib.rt:191:9
-returns : tie.Need-returns
-returns c = λ g l f. c .empty-three .ensures g (firstExtents (c .before .before .args .n) l) (few-first (c .before .before .args .n) l (c .before .if1 .taken))
-
--- src/lib.rt:193:5
+-- src/lib.rt:239:9
 keep-extents3-requires : tie.Need-keep-extents3-requires
 keep-extents3-requires c κs = search needs
 
--- src/lib.rt:186:1
+-- src/lib.rt:240:9
+returns : tie.Need-returns
+returns c =
+    let a = c .before .before .before .args in
+    (λ g l f. three-first g (a .n) l _ (c .before .before .if1 .taken) (c .keep-extents3 .ensures .0 g l f), c .keep-extents3 .ensures .1)
+
+-- src/lib.rt:242:5
+keep-extents3-requires-2 : tie.Need-keep-extents3-requires-2
+keep-extents3-requires-2 c κs = search needs
+
+-- src/lib.rt:234:1
 returns-2 : tie.Need-returns-2
-returns-2 c = λ g l f. c .keep-extents3 .ensures g l (f (c .before .if1 .left))
+returns-2 c = search needs
 
 pub keep-third-spec : {M : Type 1} → statement M
 keep-third-spec =
-    tie.close (tie.spec empty-three-requires returns keep-extents3-requires returns-2)
+    tie.close (tie.spec keep-extents3-requires returns keep-extents3-requires-2 returns-2)

@@ -1,98 +1,127 @@
 use mathlib.Core.Path.{_≡_, refl, sym, _∙_, subst}
-use mathlib.Core.List.{_++_}
 use Prim.Native.Nat.{ℕ, _-_, _≤_, _<_}
 use native.Mathlib.Omega.{arith}
 use lib.ListN.{length-set, length, take}
-use Rattle.model.specs.Model.{slots}
+use Rattle.model.specs.Model.{Volume, slots}
+use Rattle.model.proofs.Lists.{All}
+use Rattle.rules.specs.Reading.{chop}
+use Rattle.sound.specs.Sound.{Sound}
 use Rattle.forms.specs.Forms.{geometryOf}
-use Rattle.settling.specs.Settling.{walk}
 use Rattle.free_list.proofs.Chain.{named-below, next-named}
-use Rattle.settling.proofs.Chains.{chained, walk-none, walk-next}
+use Rattle.settling.proofs.Chains.{Read, chain-room, chained, inside-next, read-end, read-full, read-next, read-none}
 use borrow.Author.Needs.{needs}
 use Rattle.settling.proofs.read_chain.Statement.{statement}
 use Rattle.settling.proofs.read_chain.Tie as tie
+use Rattle.settling.proofs.read_chain.Reads as reads
+use Rattle.settling.proofs.read_chain.Lts as lts
+use Rattle.fields.proofs.record_at.Reads as record-at-reads
+use Rattle.fields.proofs.slot_of.Reads as slot-of-reads
 
 abbrev Inv-loop : tie.InvT-loop
-Inv-loop table g count chain₀ n k₀ i₀ chain k i = (i ≤ count) × (k < slots (geometryOf g)) × (n ≡ slots (geometryOf g)) × (length chain ≡ length chain₀) × (take i chain ++ walk (geometryOf g) table (count - i) k ≡ walk (geometryOf g) table count 1)
+Inv-loop table g chain₀ n k₀ i₀ chain k i =
+    (i ≤ n) × (k < slots (geometryOf g)) × (n ≡ slots (geometryOf g)) × (length chain ≡ length chain₀) × All (λ j. j < slots (geometryOf g)) (take i chain)
+    × ((v : Volume) → v .geometry ≡ geometryOf g → Sound (chop (slots (geometryOf g)) table) v → Read (geometryOf g) table chain i k (v .chain))
 
 abbrev μ-loop : tie.MeasureT-loop
-μ-loop table g count chain₀ n k₀ i₀ chain k i = count - i
+μ-loop table g chain₀ n k₀ i₀ chain k i = n - i
 
--- src/lib.rt:100:14
+-- src/lib.rt:99:14
 mul-n : tie.Need-mul-n Inv-loop μ-loop
 mul-n c = search needs
 
--- src/lib.rt:100:13
+-- src/lib.rt:99:13
 cast-n : tie.Need-cast-n Inv-loop μ-loop
 cast-n c = search needs
 
--- src/lib.rt:103:5
+-- src/lib.rt:102:5
 loop-holds : tie.Need-loop-holds Inv-loop μ-loop
-loop-holds c = (omega arith, omega (arith, c .before .before .before .pre .0 .least), refl, refl, walk-none (geometryOf (c .before .before .before .args .g)) (c .before .before .before .args .table .now) (c .before .before .before .args .chain .now) (c .before .before .before .args .count))
+loop-holds c = (omega arith, omega (arith, c .before .before .before .pre .0 .least), refl, refl, tt, read-none (geometryOf (c .before .before .before .args .g)) (c .before .before .before .args .table .now) (c .before .before .before .args .chain .now))
 
--- src/lib.rt:104:20
-cast-chain : tie.Need-cast-chain Inv-loop μ-loop
-cast-chain c = search needs
-
--- src/lib.rt:104:9
-mul-chain : tie.Need-mul-chain Inv-loop μ-loop
-mul-chain c = search needs
-
--- src/lib.rt:104:9
-slice-write-chain : tie.Need-slice-write-chain Inv-loop μ-loop
-slice-write-chain c = search needs
-
--- src/lib.rt:105:13
-record-at-requires : tie.Need-record-at-requires Inv-loop μ-loop
-record-at-requires c κs = search needs
-
--- src/lib.rt:106:29
-sub-slot-of : tie.Need-sub-slot-of Inv-loop μ-loop
-sub-slot-of c = search needs
-
--- src/lib.rt:106:29
-part-slot-of-start : tie.Need-part-slot-of-start Inv-loop μ-loop
-part-slot-of-start c = search needs
-
--- src/lib.rt:106:29
-part-slot-of-end : tie.Need-part-slot-of-end Inv-loop μ-loop
-part-slot-of-end c = search needs
-
--- src/lib.rt:106:9
-slot-of-requires : tie.Need-slot-of-requires Inv-loop μ-loop
-slot-of-requires c κs = search needs
-
--- src/lib.rt:107:9
-add-i : tie.Need-add-i Inv-loop μ-loop
-add-i c = search needs
-
--- src/lib.rt:103:5
-loop-less : tie.Need-loop-less Inv-loop μ-loop
-loop-less c = search needs
-
--- src/lib.rt:103:5
-loop-again : tie.Need-loop-again Inv-loop μ-loop
-loop-again c =
-    let i = c .before .before .before .before .loop .inv in
-    let t = c .before .before .before .loop-test .taken in
-    let w = c .before .before .before .before .before .before .before .before .pre .2 in
-    let e = next-named (geometryOf (c .before .before .before .before .before .before .before .before .args .g)) (c .before .before .before .before .before .before .before .before .args .table .now) (c .before .before .record-at .result .now) _ (c .before .before .before .before .loop .k) (c .slot-of .result) (i .2) (c .before .before .record-at .ensures .0) (c .slot-of .ensures) in (
-      omega arith,
-      subst (λ (x : ℕ). x < slots (geometryOf (c .before .before .before .before .before .before .before .before .args .g))) (sym e) (named-below (geometryOf (c .before .before .before .before .before .before .before .before .args .g)) (c .before .before .before .before .before .before .before .before .pre .0) (c .before .before .before .before .before .before .before .before .args .table .now) (c .before .before .before .before .loop .k)),
-      i .2,
-      length-set (c .before .before .before .before .loop .chain) (c .before .before .before .before .loop .i) _ ∙ i .3,
-      walk-next (geometryOf (c .before .before .before .before .before .before .before .before .args .g)) (c .before .before .before .before .before .before .before .before .args .table .now) (c .before .before .before .before .loop .chain) _ (c .before .before .before .before .before .before .before .before .args .count) (c .before .before .before .before .loop .i) (c .before .before .before .before .loop .k) (c .slot-of .result) t (omega (arith, i .3)) e (i .4),
-    )
-
--- src/lib.rt:96:1
+-- src/lib.rt:104:13
 same-length : tie.Need-same-length Inv-loop μ-loop
 same-length c = search needs
 
--- src/lib.rt:96:1
+-- src/lib.rt:104:13
 returns : tie.Need-returns Inv-loop μ-loop
 returns c =
-    let i = c .before .loop .inv in
-    chained (geometryOf (c .before .before .before .before .before .args .g)) (c .before .before .before .before .before .args .table .now) (c .before .before .before .before .before .args .chain .now) _ (c .before .before .before .before .before .args .count) (c .before .loop .i) (c .before .loop .k) (c .before .before .before .before .before .pre .0) (i .0) (c .loop-test .left) (i .3) (i .4)
+    let a = c .before .before .before .before .before .before .args in
+    let p = c .before .before .before .before .before .before .pre in
+    let l = c .before .before .loop in
+    chained (geometryOf (a .g)) (a .table .now) (a .chain .now) (l .chain) (l .i) (l .inv .3) (p .2) (omega (arith, l .inv .0, l .inv .2)) (l .inv .4)
+    (λ v e x. read-end (geometryOf (a .g)) (a .table .now) (l .chain) (l .i) (l .k) (v .chain) (l .inv .5 v e x) (c .if1 .taken))
+
+-- src/lib.rt:106:20
+cast-chain : tie.Need-cast-chain Inv-loop μ-loop
+cast-chain c = search needs
+
+-- src/lib.rt:106:9
+mul-chain : tie.Need-mul-chain Inv-loop μ-loop
+mul-chain c = search needs
+
+-- src/lib.rt:106:9
+slice-write-chain : tie.Need-slice-write-chain Inv-loop μ-loop
+slice-write-chain c = search needs
+
+-- src/lib.rt:107:13
+record-at-requires : tie.Need-record-at-requires Inv-loop μ-loop
+record-at-requires c κs = search needs
+
+-- src/lib.rt:108:29
+sub-slot-of : tie.Need-sub-slot-of Inv-loop μ-loop
+sub-slot-of c = search needs
+
+-- src/lib.rt:108:29
+part-slot-of-start : tie.Need-part-slot-of-start Inv-loop μ-loop
+part-slot-of-start c = search needs
+
+-- src/lib.rt:108:29
+part-slot-of-end : tie.Need-part-slot-of-end Inv-loop μ-loop
+part-slot-of-end c = search needs
+
+-- src/lib.rt:108:9
+slot-of-requires : tie.Need-slot-of-requires Inv-loop μ-loop
+slot-of-requires c κs = search needs
+
+-- src/lib.rt:109:9
+add-i : tie.Need-add-i Inv-loop μ-loop
+add-i c = search needs
+
+-- src/lib.rt:102:5
+loop-less : tie.Need-loop-less Inv-loop μ-loop
+loop-less c = search needs
+
+-- src/lib.rt:102:5
+loop-again : tie.Need-loop-again Inv-loop μ-loop
+loop-again c =
+    let top = c .before .before .before .before .before .before .before .before .before in
+    let g = geometryOf (top .args .g) in
+    let t = top .args .table .now in
+    let l = c .before .before .before .before .before .loop in
+    let i = l .inv in
+    let u : l .i < length (l .chain) = omega (arith, c .before .before .before .before .loop-test .taken, i .2, i .3, top .pre .2) in
+    let e = next-named g t (c .before .before .record-at .result .now) _ (l .k) (c .slot-of .result) (i .2) (c .before .before .record-at .ensures .0) (c .slot-of .ensures) in (
+      omega (arith, c .before .before .before .before .loop-test .taken),
+      subst (λ (x : ℕ). x < slots g) (sym e) (named-below g (top .pre .0) t (l .k)),
+      i .2,
+      length-set (l .chain) (l .i) _ ∙ i .3,
+      inside-next (slots g) (l .chain) (l .i) (l .k) u (i .1) (i .4),
+      λ v same x. read-next g t (l .chain) (l .i) (l .k) (v .chain) (i .5 v same x) (top .pre .0) (c .before .before .before .if1 .left) u (c .slot-of .result) e,
+    )
+
+-- src/lib.rt:95:1
+same-length-2 : tie.Need-same-length-2 Inv-loop μ-loop
+same-length-2 c = search needs
+
+-- src/lib.rt:95:1
+returns-2 : tie.Need-returns-2 Inv-loop μ-loop
+returns-2 c =
+    let a = c .before .before .before .before .before .args in
+    let p = c .before .before .before .before .before .pre in
+    let l = c .before .loop in
+    chained (geometryOf (a .g)) (a .table .now) (a .chain .now) (l .chain) (l .i) (l .inv .3) (p .2) (omega (arith, l .inv .0, l .inv .2)) (l .inv .4)
+    (λ v e x.
+    read-full (geometryOf (a .g)) (a .table .now) (l .chain) (l .i) (l .k) (v .chain) (l .inv .5 v e x)
+    (omega (arith, chain-room (geometryOf (a .g)) (a .table .now) v e x, c .loop-test .left, l .inv .2)) (omega (arith, l .inv .0, l .inv .2, l .inv .3, p .2)))
 
 pub read-chain-spec : {M : Type 1} → statement M
 read-chain-spec =
@@ -103,6 +132,8 @@ read-chain-spec =
     mul-n
     cast-n
     loop-holds
+    same-length
+    returns
     cast-chain
     mul-chain
     slice-write-chain
@@ -114,5 +145,5 @@ read-chain-spec =
     add-i
     loop-less
     loop-again
-    same-length
-    returns)
+    same-length-2
+    returns-2)

@@ -1,0 +1,43 @@
+use Rattle.forms.specs.Forms.{geometryOf}
+use Rattle.giving.proofs.Laws.{set-looked, tail-looked}
+use borrow.Author.Needs.{needs}
+use Rattle.giving.proofs.give_back.Statement.{statement}
+use Rattle.giving.proofs.give_back.Tie as tie
+use Rattle.giving.proofs.give_back.Reads as reads
+use Rattle.giving.proofs.give_back.Lts as lts
+use Rattle.fields.proofs.record_at.Reads as record-at-reads
+use Rattle.set_change.proofs.give_tail.Reads as give-tail-reads
+
+-- src/lib.rt:55:9
+record-at-requires : tie.Need-record-at-requires
+record-at-requires c κs = search needs
+
+-- src/lib.rt:56:9
+record-at-requires-2 : tie.Need-record-at-requires-2
+record-at-requires-2 c κs = search needs
+
+-- src/lib.rt:57:5
+give-tail-requires : tie.Need-give-tail-requires
+give-tail-requires c κs =
+    let top = c .before .before .before .before .before in
+    let a = top .args in
+    let one = c .before .before .record-at in
+    let three = c .before .record-at2 in
+    (set-looked (geometryOf (a .g)) (a .table .now) (a .k) (a .x .third) (a .x .count) (one .result .now) (three .result .now) (one .ensures .0) (three .ensures .0) (top .pre .1), top .pre .0 .3)
+
+-- src/lib.rt:43:1
+same-length : tie.Need-same-length
+same-length c = search needs
+
+-- src/lib.rt:43:1
+returns : tie.Need-returns
+returns c =
+    let a = c .before .before .before .before .before .before .before .before .args in
+    let one = c .before .before .before .before .before .record-at in
+    let three = c .before .before .before .before .record-at2 in
+    tail-looked (geometryOf (a .g)) (a .table .now) (a .k) (a .x .third) (a .x .count) (one .result .now) (three .result .now) (one .ensures .0) (three .ensures .0) (a .keep) _ _ _ _ _ _ (c .before .before .give-tail .ensures)
+
+pub give-back-spec : {M : Type 1} → statement M
+give-back-spec =
+    tie.close
+    (tie.spec record-at-requires record-at-requires-2 give-tail-requires same-length returns)

@@ -1,0 +1,99 @@
+use Prim.Native.Nat.{_-_, _*_, _≤_}
+use native.Mathlib.Omega.{arith}
+use lib.ListN.{take}
+use Rattle.model.specs.Model.{tracks}
+use Rattle.rules.specs.Reading.{readExtents}
+use Rattle.forms.specs.Forms.{geometryOf}
+use Rattle.forms.proofs.Written.{read-length}
+use Rattle.set_change.specs.Change.{Spreads}
+use Rattle.set_change.proofs.Cutting.{at-read, few-tracks, good-read, spread-all, spread-next, spread-none}
+use borrow.Author.Needs.{needs}
+use Rattle.set_change.proofs.spread_of.Statement.{statement}
+use Rattle.set_change.proofs.spread_of.Tie as tie
+use Rattle.set_change.proofs.spread_of.Reads as reads
+use Rattle.set_change.proofs.spread_of.Lts as lts
+use Rattle.set_change.proofs.extent_at.Reads as extent-at-reads
+use Rattle.set_change.proofs.lesser.Reads as lesser-reads
+
+abbrev Inv-loop : tie.InvT-loop
+Inv-loop f1 f3 n g all₀ lowest₀ e₀ all lowest e = (e ≤ n) × Spreads (tracks (geometryOf g)) (take e (readExtents (g .heads) f1 f3 n)) all lowest × (all ≤ 65535 * e)
+
+abbrev μ-loop : tie.MeasureT-loop
+μ-loop f1 f3 n g all₀ lowest₀ e₀ all lowest e = n - e
+
+-- src/lib.rt:147:22
+mul-lowest : tie.Need-mul-lowest Inv-loop μ-loop
+mul-lowest c = search needs
+
+-- src/lib.rt:149:5
+loop-holds : tie.Need-loop-holds Inv-loop μ-loop
+loop-holds c = (omega arith, spread-none _, omega arith)
+
+-- src/lib.rt:150:13
+extent-at-requires : tie.Need-extent-at-requires Inv-loop μ-loop
+extent-at-requires c κs =
+    let top = c .before .before .before .before .before in
+    let a = top .args in
+    let p = top .pre in
+    (p .long1, p .long3, omega (arith, p .most), omega (arith, p .limits .headsMost), good-read (geometryOf (a .g)) (a .f1 .now) (a .f3 .now) (a .n) (c .before .loop .e) (p .good) (c .loop-test .taken) .full)
+
+-- src/lib.rt:151:9
+add-all : tie.Need-add-all Inv-loop μ-loop
+add-all c =
+    let top = c .before .before .before .before .before .before .before in
+    let a = top .args in
+    let l = c .before .before .before .loop in
+    let x = c .before .extent-at in
+    let y = at-read (geometryOf (a .g)) (a .f1 .now) (a .f3 .now) (a .n) (top .pre .good) (l .e) (x .result .start) (x .result .count) (c .before .before .loop-test .taken) (x .ensures) in
+    let q = few-tracks (geometryOf (a .g)) _ (l .e) (x .result .start) (x .result .count) (top .pre .limits) y in
+    omega (arith, l .inv .2, top .pre .most, c .before .before .loop-test .taken)
+
+-- src/lib.rt:152:9
+lesser-requires : tie.Need-lesser-requires Inv-loop μ-loop
+lesser-requires c κs = search needs
+
+-- src/lib.rt:153:9
+add-e : tie.Need-add-e Inv-loop μ-loop
+add-e c = search needs
+
+-- src/lib.rt:149:5
+loop-less : tie.Need-loop-less Inv-loop μ-loop
+loop-less c = search needs
+
+-- src/lib.rt:149:5
+loop-again : tie.Need-loop-again Inv-loop μ-loop
+loop-again c =
+    let top = c .before .before .before .before .before .before .before .before in
+    let a = top .args in
+    let l = c .before .before .before .before .loop in
+    let x = c .before .before .extent-at in
+    let y = at-read (geometryOf (a .g)) (a .f1 .now) (a .f3 .now) (a .n) (top .pre .good) (l .e) (x .result .start) (x .result .count) (c .before .before .before .loop-test .taken) (x .ensures) in
+    let q = few-tracks (geometryOf (a .g)) _ (l .e) (x .result .start) (x .result .count) (top .pre .limits) y in (
+      omega arith,
+      spread-next (geometryOf (a .g)) (readExtents (a .g .heads) (a .f1 .now) (a .f3 .now) (a .n)) (l .e) (x .result .start) (x .result .count) (l .all) (l .lowest) (c .lesser .result) y (c .lesser .ensures) (l .inv .1),
+      omega (arith, l .inv .2),
+    )
+
+-- src/lib.rt:142:1
+returns : tie.Need-returns Inv-loop μ-loop
+returns c =
+    let a = c .before .before .before .before .before .args in
+    let l = c .before .loop in
+    let n = read-length (geometryOf (a .g)) (a .f1 .now) (a .f3 .now) (a .n) in
+    spread-all (tracks (geometryOf (a .g))) (readExtents (a .g .heads) (a .f1 .now) (a .f3 .now) (a .n)) (l .e) (l .all) (l .lowest) (omega (arith, c .loop-test .left)) (l .inv .1)
+
+pub spread-of-spec : {M : Type 1} → statement M
+spread-of-spec =
+    tie.close
+    (tie.spec
+    Inv-loop
+    μ-loop
+    mul-lowest
+    loop-holds
+    extent-at-requires
+    add-all
+    lesser-requires
+    add-e
+    loop-less
+    loop-again
+    returns)
