@@ -5,15 +5,14 @@ use Prim.Native.Nat.{ℕ, _+_, _*_, _/_, _%_, _≤_, _<_}
 use native.Mathlib.Nat.{mul-suc, mul-zero}
 use native.Mathlib.Numerals.{add-one}
 use native.Mathlib.Omega.{arith}
-use lib.ListN.{drop, drop-of-length-le, getD, length, length-append, length-take, take}
-use lib.Seq.{take-length, take-suc}
+use lib.ListN.{getD, length, length-append, length-take, take}
+use lib.Seq.{take-suc}
 use Rattle.model.specs.Basics.{be2, fill, flat, zeros}
 use Rattle.model.specs.Model.{Run, total}
 use Rattle.rules.specs.Calls.{answer, givenBack, granted, numbers}
 use Rattle.grant.specs.Grant.{row}
 use Rattle.records.specs.Put.{putAt}
 use Rattle.records.proofs.Filling.{put-fill}
-use Rattle.records.proofs.Putting.{put-then}
 use Rattle.answers.specs.Bytes24.{pieceBytes}
 
 -- ---- one after the other

@@ -1,23 +1,22 @@
 -- Allocate as a whole: its refusals in their order. Assumes nothing.
-use mathlib.Core.Path.{_≡_, refl, sym, ap, ap₂, _∙_, subst}
-use mathlib.Core.Bool.{Bool, true, false, not, cond, _&&_}
-use mathlib.Core.Option.{Option, none, some}
-use mathlib.Core.List.{List, [], _∷_}
+use mathlib.Core.Path.{_≡_, refl, sym, ap, ap₂, _∙_}
+use mathlib.Core.Bool.{Bool, true, false, not, _&&_}
+use mathlib.Core.Option.{Option, some}
+use mathlib.Core.List.{List, []}
 use Prim.Native.Nat.{ℕ, _≤_}
-use native.Mathlib.Omega.{arith}
 use lib.Dec.{T, eqb, eqb→eq}
 use lib.ListN.{length}
 use Rattle.names.specs.declared.Found.{Found}
-use Rattle.model.specs.Basics.{any, find}
-use Rattle.model.specs.Model.{Geometry, Label, slots}
-use Rattle.model.proofs.Lists.{and-l, and-r, by, true-is}
+use Rattle.model.specs.Basics.{any}
+use Rattle.model.specs.Model.{Geometry, slots}
+use Rattle.model.proofs.Lists.{and-l, and-r, true-is}
 use Rattle.rules.specs.Calls.{Amount, Call, Outcome, allocate, allocate₁, allocate₂, amountOf, grant, inRange, refuse, rule}
 use Rattle.rules.specs.Entries.{lent, perform, result, written}
 use Rattle.rules.specs.Reading.{read}
 use Rattle.rules.specs.Table.{goodName, named, taken}
 use Rattle.names.specs.Find.{findSlot, isNothing}
 use Rattle.table_check.specs.Check.{Roomy, Shown}
-use Rattle.opening.specs.Opening.{foundSlot, openNumber}
+use Rattle.opening.specs.Opening.{openNumber}
 use Rattle.opening.proofs.Lookup.{any-is, looked-up}
 use Rattle.opening.proofs.Numbers.{opened-good, opened-taken, passed, refused}
 use Rattle.opening.proofs.Room.{room-of}

@@ -1,21 +1,19 @@
 -- A new data set gets its pieces: what is refused, and what is put. Assumes nothing.
 use mathlib.Core.Path.{_≡_, refl, sym, ap, ap₂, _∙_, subst}
-use mathlib.Core.Bool.{Bool, true, false}
-use mathlib.Core.Option.{Option, none, some}
+use mathlib.Core.Bool.{true}
+use mathlib.Core.Option.{Option, some}
 use mathlib.Core.List.{List, [], _∷_, map}
-use Prim.Native.Nat.{ℕ, _*_, _+_, _≤_, _<_}
+use Prim.Native.Nat.{ℕ, _*_, _≤_, _<_}
 use native.Mathlib.Omega.{arith}
 use lib.Dec.{T, eqb, eqb→eq, leb, leb→le}
 use lib.ListN.{length, take}
-use Rattle.model.specs.Basics.{any}
-use Rattle.model.specs.Model.{Extent, Geometry, Label, Run, Volume, extent, free, held, overs, slots, slotsOf, tally, tracks, used}
+use Rattle.model.specs.Model.{Extent, Geometry, Label, Run, Volume, extent, free, held, overs, slots, tracks}
 use Rattle.model.proofs.Lists.{and-l, and-r, is-true}
-use Rattle.rules.specs.Calls.{Amount, Outcome, absolute, allocate, allocate₁, allocate₂, granted, inCylinders, inRange, inTracks, settled, unitOf}
+use Rattle.rules.specs.Calls.{Amount, absolute, allocate, allocate₁, allocate₂, granted, inCylinders, inRange, inTracks, settled, unitOf}
 use Rattle.rules.specs.Calls.{grant as granting}
-use Rattle.rules.specs.Entries.{lent, result, written}
+use Rattle.rules.specs.Entries.{lent, written}
 use Rattle.rules.specs.Reading.{read}
 use Rattle.rules.specs.Slots.{settleWith}
-use Rattle.rules.specs.Table.{named}
 use Rattle.rules.proofs.Grants.{allocate-keeps}
 use Rattle.rules.proofs.Kept.{Keeps}
 use Rattle.rules.proofs.Settle.{used-tally}

@@ -84,7 +84,7 @@ fn allocate_in(
     if request::in_range(request, g) {} else {
         return 7;
     }
-    if opening::on_volume(table, (g.tracks * g.records) as usize, name) {
+    if opening::on_volume(table, (g.vtoc_tracks * g.records) as usize, name) {
         return 6;
     }
     place(table, g, map, &mut empty, name, attributes, request, answer)

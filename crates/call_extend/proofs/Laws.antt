@@ -1,13 +1,13 @@
 -- Extend as a whole: its refusals in their order. Assumes nothing.
 use mathlib.Core.Path.{_≡_, refl, sym, ap, _∙_}
 use mathlib.Core.Bool.{Bool, true, false, _&&_}
-use mathlib.Core.Option.{Option, none, some}
+use mathlib.Core.Option.{some}
 use mathlib.Core.List.{List, []}
 use Prim.Native.Nat.{ℕ}
 use lib.Dec.{T, eqb, eqb→eq}
 use lib.ListN.{length}
 use Rattle.names.specs.declared.Found.the-variants.{Nothing, Slot}
-use Rattle.model.specs.Model.{Geometry, Label, slots}
+use Rattle.model.specs.Model.{Geometry, slots}
 use Rattle.model.proofs.Lists.{and-l, true-is}
 use Rattle.rules.specs.Calls.{Call, Outcome, extend, extend₁, refuse, rule}
 use Rattle.rules.specs.Entries.{lent, perform, result, written}
@@ -17,7 +17,7 @@ use Rattle.rules.specs.Table.{goodName, taken}
 use Rattle.names.specs.Find.{findSlot}
 use Rattle.table_check.specs.Check.{Roomy, Shown}
 use Rattle.opening.specs.Opening.{openNumber}
-use Rattle.opening.proofs.Lookup.{FoundAt, not-there, there}
+use Rattle.opening.proofs.Lookup.{not-there, there}
 use Rattle.opening.proofs.Numbers.{opened-good, opened-taken, passed, refused}
 use Rattle.opening.proofs.Room.{room-of}
 use Rattle.call_extend.specs.Longer.{Extended, Longer}

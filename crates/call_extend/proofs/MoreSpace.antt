@@ -1,18 +1,18 @@
 -- A data set gets more pieces: what is refused, and what is put. Assumes nothing.
 use mathlib.Core.Path.{_≡_, refl, sym, ap, ap₂, _∙_, subst}
-use mathlib.Core.Bool.{Bool, true, false, cond}
-use mathlib.Core.Option.{Option, none, some}
-use mathlib.Core.List.{List, [], _∷_, _++_, map}
+use mathlib.Core.Bool.{true, false, cond}
+use mathlib.Core.Option.{Option, some}
+use mathlib.Core.List.{List, [], _++_, map}
 use Prim.Native.Nat.{ℕ, suc, _*_, _+_, _≤_, _<_}
 use native.Mathlib.Omega.{arith}
 use borrow.Author.Tests.{le-leb, lt-leb}
-use lib.Dec.{T, eqb, leb}
+use lib.Dec.{eqb, leb}
 use lib.ListN.{length, take, getD, length-map}
 use Rattle.model.specs.Basics.{get3, upFrom}
 use Rattle.model.specs.Model.{Extent, Geometry, Label, Run, Volume, extent, free, held, overs, runsOf, slots, times, tracks}
 use Rattle.rules.specs.Calls.{Amount, extend, extend₁, extend₂, granted, inCylinders, inTracks, refuse, secondaryOf, settled}
 use Rattle.rules.specs.Calls.{grant as granting}
-use Rattle.rules.specs.Entries.{lent, result, written}
+use Rattle.rules.specs.Entries.{lent, written}
 use Rattle.rules.specs.Layout.{format1, format3}
 use Rattle.rules.specs.Reading.{read, readLabel, recordAt}
 use Rattle.rules.specs.Slots.{settleWith, withExtents, without}

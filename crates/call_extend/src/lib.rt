@@ -72,7 +72,7 @@ fn extend_in(table: &mut [u8], name: &[u8], answer: &mut [u8], map: &mut [u64]) 
         return 4;
     }
     let g = opening::geometry(table);
-    let n = (g.tracks * g.records) as usize;
+    let n = (g.vtoc_tracks * g.records) as usize;
     let Found::Slot(k) = names::find(table, n, name) else {
         return 5;
     };

@@ -43,8 +43,8 @@ fn fresh_five(g: Geometry) -> [u8; 140]
     ensures { λ r. ⌜ r ≡ format5 (geometryOf g) (free (geometryOf g) []) 0 ⌝ }
 {
     let mut rec = records::blank(4, 0x05, 0xF5);
-    let behind = g.start + g.tracks;
-    let j = put_some(&mut rec, 0, g, 1, g.start - 1);
+    let behind = g.vtoc_start + g.vtoc_tracks;
+    let j = put_some(&mut rec, 0, g, 1, g.vtoc_start - 1);
     put_some(&mut rec, j, g, behind, g.cylinders * g.heads - behind);
     rec
 }
@@ -57,7 +57,7 @@ fn write_fresh(table: &mut [u8], g: Geometry)
     erase(table);
     let five = fresh_five(g);
     fields::put_record(table, 1, &five);
-    let four = records::four(g, 0, (g.tracks * g.records) as usize - 2);
+    let four = records::four(g, 0, (g.vtoc_tracks * g.records) as usize - 2);
     fields::put_record(table, 0, &four);
 }
 
@@ -77,8 +77,8 @@ pub fn initialise(
         cylinders: c,
         heads: h,
         records: d,
-        start: s,
-        tracks: v,
+        vtoc_start: s,
+        vtoc_tracks: v,
     };
     if forms::limits(g) {} else {
         return 1;

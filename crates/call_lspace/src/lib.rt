@@ -62,7 +62,7 @@ fn add_all(table: &[u8], g: Geometry) -> Sums
         long: 0,
     };
     let mut k: usize = 1;
-    let mut left = (g.tracks * g.records) as usize;
+    let mut left = (g.vtoc_tracks * g.records) as usize;
     while 0 < left {
         if k == 0 {
             return s;

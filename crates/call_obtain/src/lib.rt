@@ -49,7 +49,7 @@ pub fn obtain(table: &[u8], name: &[u8], labels: &mut [u8], answer: &mut [u8]) -
         return 4;
     }
     let g = opening::geometry(table);
-    let Found::Slot(k) = names::find(table, (g.tracks * g.records) as usize, name) else {
+    let Found::Slot(k) = names::find(table, (g.vtoc_tracks * g.records) as usize, name) else {
         return 5;
     };
     put_labels(table, g, k, labels);

@@ -112,7 +112,7 @@ fn release_in(table: &mut [u8], name: &[u8], ttr: u32, answer: &mut [u8], map: &
         return 4;
     }
     let g = opening::geometry(table);
-    let Found::Slot(k) = names::find(table, (g.tracks * g.records) as usize, name) else {
+    let Found::Slot(k) = names::find(table, (g.vtoc_tracks * g.records) as usize, name) else {
         return 5;
     };
     release_set(table, g, map, &mut empty, k, ttr, answer)

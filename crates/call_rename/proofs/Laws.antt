@@ -2,7 +2,7 @@
 use mathlib.Core.Path.{_≡_, refl, sym, ap, ap₂, _∙_}
 use mathlib.Core.Bool.{Bool, true, false, not, cond, _&&_}
 use mathlib.Core.Option.{some}
-use mathlib.Core.List.{List, [], _∷_}
+use mathlib.Core.List.{List, []}
 use Prim.Native.Nat.{ℕ}
 use native.Mathlib.Omega.{arith}
 use borrow.Author.Tests.{eq-eqb, eqb-false, eqb-true, ne-eqb}
@@ -10,7 +10,7 @@ use lib.Dec.{T, eqb, eqb→eq}
 use lib.ListN.{length}
 use Rattle.names.specs.declared.Found.{Found}
 use Rattle.names.specs.declared.Found.the-variants.{Nothing, Slot}
-use Rattle.model.specs.Basics.{any, find, zeros}
+use Rattle.model.specs.Basics.{any, zeros}
 use Rattle.model.specs.Model.{Geometry, Label, slots}
 use Rattle.model.proofs.Lists.{and-l, and-r, by, true-is}
 use Rattle.rules.specs.Calls.{accept, nothing, refuse, rename, rename₁, rule}
@@ -24,7 +24,7 @@ use Rattle.fields.specs.Records.{putRecord, slotBytes}
 use Rattle.names.specs.Find.{findSlot, isNothing}
 use Rattle.labels.specs.Labels.{Format1}
 use Rattle.labels.proofs.Following.{good-is}
-use Rattle.opening.specs.Opening.{foundSlot, openNumber}
+use Rattle.opening.specs.Opening.{openNumber}
 use Rattle.opening.proofs.Laws.{Ready, ready}
 use Rattle.opening.proofs.Lookup.{FoundAt, any-is, looked-up, not-there, there}
 use Rattle.opening.proofs.Numbers.{opened-good, opened-taken, passed, refused}

@@ -48,7 +48,7 @@ pub fn rename(table: &mut [u8], old: &[u8], new: &[u8], answer: &mut [u8]) -> u3
         return r;
     }
     let g = opening::geometry(table);
-    let n = (g.tracks * g.records) as usize;
+    let n = (g.vtoc_tracks * g.records) as usize;
     let Found::Slot(k) = names::find(table, n, old) else {
         return 5;
     };

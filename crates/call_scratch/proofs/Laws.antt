@@ -1,7 +1,7 @@
 -- Scratch: what is left, and the call. Assumes nothing.
 use mathlib.Core.Path.{_≡_, refl, sym, ap, ap₂, _∙_, subst}
 use mathlib.Core.Bool.{Bool, true, false}
-use mathlib.Core.Option.{Option, none, some}
+use mathlib.Core.Option.{Option, some}
 use mathlib.Core.List.{List, [], _∷_, _++_, append-assoc}
 use Prim.Native.Nat.{ℕ, _≤_}
 use Rattle.model.specs.Model.{Extent, Geometry, Label, Volume, held, oneSlot, overs, runsOf, slots, slotsOf, tally, times, total, tracks, used}

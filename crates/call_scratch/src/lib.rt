@@ -54,7 +54,7 @@ fn scratch_in(table: &mut [u8], name: &[u8], answer: &mut [u8], map: &mut [u64])
         return 4;
     }
     let g = opening::geometry(table);
-    let Found::Slot(k) = names::find(table, (g.tracks * g.records) as usize, name) else {
+    let Found::Slot(k) = names::find(table, (g.vtoc_tracks * g.records) as usize, name) else {
         return 5;
     };
     scratch_set(table, g, map, &mut empty, k, answer)

@@ -1,18 +1,18 @@
 -- The entries of a format 5 compared with the runs, one after the other, and the record that they make. Assumes nothing.
 use mathlib.Core.Path.{_≡_, refl, sym, ap, ap₂, _∙_, subst}
-use mathlib.Core.Bool.{Bool, true, false, cond, _&&_}
+use mathlib.Core.Bool.{Bool, true, false}
 use mathlib.Core.List.{List, [], _∷_, _++_}
 use Prim.Native.Nat.{ℕ, zero, suc, _+_, _-_, _*_, _/_, _%_, _≤_, _<_}
 use native.Mathlib.Nat.{div-add-mod', le-refl, mod-lt, sub-zero}
 use native.Mathlib.Omega.{arith}
 use borrow.Author.Tests.{eq-eqb, eqb-true, lt-ltb, ltb-true}
 use lib.Dec.{eqb, ltb}
-use lib.ListN.{drop, getD, length, length-drop, length-take, replicate, take, take-append-drop}
+use lib.ListN.{drop, getD, length, length-drop, replicate, take, take-append-drop}
 use lib.Seq.{drop-cons, drop-drop, drop-nil, take-nil, take-take}
 use Rattle.model.specs.Basics.{be2, fill, flat, get2, part, zeros}
 use Rattle.model.specs.Model.{Geometry, Run, run}
-use Rattle.model.proofs.Lists.{and-l, and-r, by, clash, drop-take, is-true, true-is}
-use Rattle.rules.specs.Layout.{entry, fields5, format5, link, whole}
+use Rattle.model.proofs.Lists.{and-l, and-r, clash, drop-take, is-true, true-is}
+use Rattle.rules.specs.Layout.{entry, fields5, format5, whole}
 use Rattle.rules.proofs.Bytes.{be2-back}
 use Rattle.rules.proofs.Fields.{field-at}
 use Rattle.rules.proofs.TableBack.{lens5, lengths5}
@@ -23,7 +23,7 @@ use Rattle.fields.specs.Tests.{allAre}
 use Rattle.fields.proofs.Bytes10.{cyl-of, five-of, head-of, two-back}
 use Rattle.fields.proofs.Rows.{are→, →are}
 use Rattle.fields.proofs.Slots.{length-part}
-use Rattle.forms.proofs.Cutting.{cutAt, whole-cut}
+use Rattle.forms.proofs.Cutting.{whole-cut}
 use Rattle.chain.specs.Entries.{HoldsRuns, Rows, entriesOf, entryOk}
 
 -- ---- one entry
@@ -141,9 +141,6 @@ rows-bad g m n at w x t f =
     record { upTo = λ q. clash {b = false} q refl; rest = λ q. clash {b = false} q refl; yes = λ q. clash {b = false} q refl; no = λ q. f }
 
 -- ---- the record
-
-abbrev header : List ℕ
-header = replicate 4 0x05
 
 byte-part : (r : List ℕ) (i : ℕ) → i < length r → part i 1 r ≡ getD r i 0 ∷ []
 byte-part r i h = ap (take 1) (drop-cons r i 0 h)

@@ -7,11 +7,11 @@ use native.Mathlib.Omega.{arith}
 use borrow.Author.Tests.{ne-eqb}
 use lib.Dec.{eqb}
 use lib.ListN.{drop, length, length-drop, take}
-use Rattle.model.specs.Basics.{bit, part, same, zeros}
+use Rattle.model.specs.Basics.{bit, part}
 use Rattle.model.specs.Model.{Geometry, Run, covers, fivesFor, run, slots, times, tracks}
-use Rattle.model.proofs.Lists.{All, clash, is-true, same-refl, same→eq, sum-append, true-is}
+use Rattle.model.proofs.Lists.{All, clash, is-true, sum-append, true-is}
 use Rattle.model.proofs.Runs.{Once}
-use Rattle.rules.specs.Layout.{Five, fields5, fives, format5, headOr0, link}
+use Rattle.rules.specs.Layout.{fives, format5, headOr0, link}
 use Rattle.rules.specs.Reading.{chop, follow, recordAt, slotAt}
 use Rattle.rules.proofs.Valid.{Limits}
 use Rattle.rules.proofs.FreeBack.{five-link}

@@ -145,8 +145,8 @@ fn take_member(
             at: behind,
         };
     }
-    let n = (g.tracks * g.records) as usize;
-    let slot = fields::slot_of(&rec[135..140], g.heads, g.records, g.start, n);
+    let n = (g.vtoc_tracks * g.records) as usize;
+    let slot = fields::slot_of(&rec[135..140], g.heads, g.records, g.vtoc_start, n);
     let ok = is_linked(rec, slot);
     Member {
         ok,

@@ -1,9 +1,9 @@
 -- From a volume to the one that `settle` leaves: which slots are written, and that then all are right. Assumes nothing.
 use mathlib.Core.Path.{_≡_, refl, sym, ap, _∙_, subst}
 use mathlib.Core.Bool.{Bool, true, false, cond}
-use mathlib.Core.Option.{Option, none, some}
+use mathlib.Core.Option.{none, some}
 use mathlib.Core.List.{List, [], _∷_, _++_}
-use Prim.Native.Nat.{ℕ, zero, suc, _+_, _-_, _*_, _≤_, _<_}
+use Prim.Native.Nat.{ℕ, zero, suc, _+_, _-_, _*_, _≤_}
 use native.Mathlib.Nat.{lt-of-not-le}
 use native.Mathlib.Decide.{decLe}
 use native.Mathlib.Omega.{arith}
@@ -11,15 +11,14 @@ use lib.ListN.{length, take, drop}
 use lib.Dec.{eqb, leb}
 use borrow.Author.Tests.{eq-eqb, eqb-true}
 use Rattle.model.specs.Basics.{bit, flat}
-use Rattle.model.specs.Model.{Geometry, Label, Run, Volume, fivesFor, format0s, free, oneSlot, slots, slotsOf, tally, unused, used}
+use Rattle.model.specs.Model.{Geometry, Label, Run, Volume, fivesFor, format0s, free, slots, slotsOf, tally, unused, used}
 use Rattle.model.proofs.Lists.{All, by, some-is, sum-append, sum-take}
-use Rattle.rules.specs.Layout.{encode, fives, format3}
-use Rattle.rules.specs.Slots.{insertLabel, settle, withSlots}
+use Rattle.rules.specs.Layout.{encode, fives}
+use Rattle.rules.specs.Slots.{settle}
 use Rattle.rules.proofs.Settle.{used-tally}
 use Rattle.rules.proofs.Valid.{Valid}
 use Rattle.change.specs.Pending.{Pending, recordOf}
 use Rattle.change.proofs.Begin.{Alike, alike-both, begin, same-slot}
-use Rattle.change.proofs.Laws.{put-more}
 use Rattle.writing.specs.Writing.{cleared, fivesPut, fourPut}
 use Rattle.commit.proofs.Kept.{Stay}
 use Rattle.writing.proofs.Changed.{EmptyOr, chain-pending, clear-pending, four-done}

@@ -3,13 +3,13 @@ use mathlib.Core.Path.{_≡_, refl, sym, ap, _∙_, subst}
 use mathlib.Core.Bool.{Bool, true, false, cond}
 use mathlib.Core.Option.{none, some}
 use mathlib.Core.List.{List, [], _∷_, _++_}
-use Prim.Native.Nat.{ℕ, _+_, _≤_, _<_, min}
+use Prim.Native.Nat.{ℕ, min}
 use native.Mathlib.Omega.{arith}
 use lib.ListN.{length, take, drop}
 use lib.Seq.{slice, take-take}
 use lib.Dec.{eqb}
 use Rattle.model.specs.Basics.{bit}
-use Rattle.model.specs.Model.{Geometry, Label, Run, Volume, fivesFor, free, held, oneSlot, slots, slotsOf, tally, total, tracks, used}
+use Rattle.model.specs.Model.{Geometry, Run, Volume, fivesFor, free, held, oneSlot, slots, slotsOf, tally, total, tracks, used}
 use Rattle.model.proofs.Lists.{clash, sum-append}
 use Rattle.rules.specs.Layout.{encode, fives}
 use Rattle.rules.specs.Reading.{chop}
@@ -19,7 +19,6 @@ use Rattle.sound.specs.Sound.{Sound}
 use Rattle.tracks.specs.Map.{Shows, freeFrom}
 use Rattle.label_check.specs.Marks.{units}
 use Rattle.change.specs.Pending.{Pending}
-use Rattle.change.proofs.Begin.{Alike}
 use Rattle.settling.specs.Settling.{Chained, Settles}
 use Rattle.writing.specs.Writing.{Reached, cleared, fivesPut, fourPut}
 use Rattle.commit.specs.Commit.{Becomes, Left}

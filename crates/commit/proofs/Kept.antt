@@ -2,24 +2,21 @@
 -- nothing.
 use mathlib.Core.Path.{_≡_, refl, sym, ap, ap₂, _∙_, subst}
 use mathlib.Core.Bool.{Bool, true, false}
-use mathlib.Core.List.{List, [], _∷_, _++_}
-use Prim.Native.Nat.{ℕ, zero, suc, _+_, _-_, _*_, _≤_, _<_, min}
+use mathlib.Core.List.{List, _∷_, _++_}
+use Prim.Native.Nat.{ℕ, zero, suc, _-_, _*_, _≤_, _<_, min}
 use native.Mathlib.Omega.{arith}
 use lib.ListN.{length, take, drop, getD, length-take}
 use lib.Seq.{drop-append-seam, drop-cons, getD-take, take-append-seam, take-take}
 use lib.Dec.{eqb}
 use Rattle.model.specs.Basics.{bit, get2}
-use Rattle.model.specs.Model.{Geometry, Label, Run, Volume, fivesFor, free, gaps, held, run, runs, slots, tally, times, tracks, used}
+use Rattle.model.specs.Model.{Geometry, Label, Run, Volume, fivesFor, free, gaps, held, run, runs, slots, tally, times, tracks}
 use Rattle.model.proofs.Lists.{All, All-at, All-drop, All-take, sum-take}
-use Rattle.model.proofs.Runs.{bit-zero, runs-separate}
-use Rattle.rules.specs.Demand3.{readEntry}
-use Rattle.rules.specs.Layout.{Five, encode, fives, format5, headOr0, records}
-use Rattle.rules.specs.Reading.{recordAt}
+use Rattle.model.proofs.Runs.{bit-zero}
+use Rattle.rules.specs.Layout.{encode, fives, format5, headOr0, records}
 use Rattle.rules.proofs.FreeBack.{entry-at}
-use Rattle.rules.proofs.Settle.{used-tally}
 use Rattle.rules.proofs.Valid.{Valid}
 use Rattle.sound.specs.Sound.{FiveOk}
-use Rattle.tracks.specs.Map.{Shows, freeBit, freeFrom, isFree}
+use Rattle.tracks.specs.Map.{Shows, freeFrom, isFree}
 use Rattle.tracks.proofs.Counting.{bit-of}
 use Rattle.tracks.proofs.Walk.{free-from-zero}
 use Rattle.free_list.proofs.Chain.{chain-below}

@@ -1,14 +1,14 @@
 -- A data set found in a volume, apart from the others: what the calls that change it need to know. Assumes nothing.
 use mathlib.Core.Path.{_≡_, sym, _∙_}
 use mathlib.Core.Option.{some}
-use mathlib.Core.List.{List, [], _∷_, _++_}
+use mathlib.Core.List.{List, _∷_, _++_}
 use Prim.Native.Nat.{ℕ, _+_, _≤_, _<_}
 use native.Mathlib.Omega.{arith}
 use lib.Dec.{eqb}
-use Rattle.model.specs.Basics.{bit, flat, sumOf}
-use Rattle.model.specs.Model.{Geometry, Label, Run, Volume, covers, held, oneSlot, runsOf, slots, slotsOf, tally, times, tracks, used}
+use Rattle.model.specs.Basics.{bit, sumOf}
+use Rattle.model.specs.Model.{Geometry, Label, Run, Volume, covers, held, runsOf, slots, slotsOf, tally, times, used}
 use Rattle.model.proofs.Lists.{sum-append}
-use Rattle.rules.specs.Slots.{found, kept3, without}
+use Rattle.rules.specs.Slots.{found, without}
 use Rattle.rules.proofs.Labels.{without-sum}
 use Rattle.rules.proofs.Settle.{used-tally}
 use Rattle.rules.proofs.Valid.{Valid, held-times, slots-tally}

@@ -101,7 +101,7 @@ fn finish(
     ensures { λ _. ⌜ now (table .exit) ≡ fourPut (geometryOf g) (fivesPut (geometryOf g) (now (table .entry)) (fives (drop (place .from) (take need (now (chain .entry)))) (freeFrom (now (map .entry)) (tracks (geometryOf g)) (place .at)))) (total (freeFrom (now (empty .entry)) (slots (geometryOf g)) 0)) ⌝ }
 {
     writing::put_chain(table, g, map, chain, need, place.from, place.at);
-    let count = settling::count_free(empty, (g.tracks * g.records) as usize);
+    let count = settling::count_free(empty, (g.vtoc_tracks * g.records) as usize);
     writing::put_four(table, g, count);
 }
 
@@ -123,7 +123,7 @@ pub fn put_set(
     requires { ⌜ Draft (geometryOf g) (now table) (now map) (now empty) lo slot third few (now one) (now three) ⌝ }
     ensures { λ r. ⌜ ((d : Draft (geometryOf g) (now (table .entry)) (now (map .entry)) (now (empty .entry)) lo slot third few (now (one .entry)) (now (three .entry))) → Committed d (now (table .exit)) r) ⌝ }
 {
-    let n = (g.tracks * g.records) as usize;
+    let n = (g.vtoc_tracks * g.records) as usize;
     let mut chain = [0u16; 468];
     let was = settling::read_chain(table, g, &mut chain);
     let runs = tracks::count_runs(map, (g.cylinders * g.heads) as usize);
@@ -158,7 +158,7 @@ pub fn drop_set(
     requires { ⌜ Left (geometryOf g) (now table) (now map) (now empty) lo slot third ⌝ }
     ensures { λ r. ⌜ ((d : Left (geometryOf g) (now (table .entry)) (now (map .entry)) (now (empty .entry)) lo slot third) → Gone d (now (table .exit)) r) ⌝ }
 {
-    let n = (g.tracks * g.records) as usize;
+    let n = (g.vtoc_tracks * g.records) as usize;
     let mut chain = [0u16; 468];
     let was = settling::read_chain(table, g, &mut chain);
     let runs = tracks::count_runs(map, (g.cylinders * g.heads) as usize);

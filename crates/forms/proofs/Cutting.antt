@@ -5,9 +5,9 @@ use Prim.Native.Nat.{ℕ, zero, suc, _+_, _-_, _≤_, _<_, _/_, _%_}
 use native.Mathlib.Omega.{arith}
 use lib.Dec.{T}
 use lib.ListN.{length, getD, take, drop, replicate, drop-of-length-le, length-replicate, take-append-drop, replicate-append-replicate}
-use lib.Seq.{drop-at, drop-cons, drop-drop, getD-drop, take-at, take-nil, take-take}
+use lib.Seq.{drop-at, drop-cons, drop-drop, getD-drop, take-at, take-take}
 use Rattle.model.proofs.Lists.{drop-take}
-use Rattle.model.specs.Basics.{be2, be3, get2, get3, part, sumOf, zeros}
+use Rattle.model.specs.Basics.{be3, get3, part, sumOf, zeros}
 use Rattle.rules.specs.Layout.{whole}
 use Rattle.fields.specs.Records.{Bytes}
 use Rattle.fields.specs.Tests.{allAre}
@@ -41,14 +41,6 @@ three-at r i h =
     ap (λ (j : ℕ). getD r i 0 ∷ getD r (i + 1) 0 ∷ getD r j 0 ∷ []) b
     ∙ ap (λ (l : List ℕ). getD r i 0 ∷ l) (two-at r (i + 1) (omega arith) ∙ ap (λ (j : ℕ). part j 2 r) a)
     ∙ sym (ap (take 3) (drop-cons r i 0 (omega arith)))
-
-pub be2-at : (r : List ℕ) (i : ℕ) → i + 1 < length r → Bytes r → be2 (get2 r i) ≡ part i 2 r
-be2-at r i h s =
-    let a = s i in
-    let b = s (i + 1) in
-    let x : get2 r i / 256 ≡ getD r i 0 = omega arith in
-    let y : get2 r i % 256 ≡ getD r (i + 1) 0 = omega arith in
-    (λ j. x j ∷ y j ∷ []) ∙ two-at r i h
 
 pub be3-at : (r : List ℕ) (i : ℕ) → i + 2 < length r → Bytes r → be3 (get3 r i) ≡ part i 3 r
 be3-at r i h s =

@@ -203,10 +203,6 @@ module _ (g : Geometry) (l : Label) (h : GoodLabel g l) where
   ls : Lengths lengths1 (fields1 g l)
   ls = lens1 g l h
 
-  pub id1-back : getD (format1 g l) 44 0 ≡ 0xF1
-  unfolding format1
-  id1-back = byte-at lengths1 (fields1 g l) ls 44
-
   pub count-back : getD (format1 g l) 59 0 ≡ length (l .extents)
   unfolding format1
   count-back = byte-at lengths1 (fields1 g l) ls 59

@@ -13,7 +13,7 @@ use Rattle.fields.specs.Tests.{allAre, goodTen}
 -- the numbers as the model's geometry
 abbrev pub geometryOf : Numbers → Geometry
 geometryOf n =
-    record { cylinders = n .cylinders; heads = n .heads; records = n .records; vtocStart = n .start; vtocTracks = n .tracks }
+    record { cylinders = n .cylinders; heads = n .heads; records = n .records; vtocStart = n .«vtoc_start»; vtocTracks = n .«vtoc_tracks» }
 
 -- format 1 but for its id, its extents and its link
 unfoldable pub oneOk : List ℕ → Bool

@@ -13,8 +13,8 @@ pub struct Geometry {
     pub cylinders: u32,
     pub heads: u32,
     pub records: u32,
-    pub start: u32,
-    pub tracks: u32,
+    pub vtoc_start: u32,
+    pub vtoc_tracks: u32,
 }
 
 // The number of tracks from a to b, both counted.
@@ -34,17 +34,17 @@ pub fn geometry_of(rec: &[u8]) -> Geometry
     ensures { λ r. ⌜ geometryOf r ≡ readGeometry (now (rec .entry)) ⌝ }
 {
     let heads = fields::two(rec, 64);
-    let start = fields::track_at(rec, 107, heads);
+    let vtoc_start = fields::track_at(rec, 107, heads);
     let last = fields::track_at(rec, 111, heads);
-    let tracks = span(start, last);
+    let vtoc_tracks = span(vtoc_start, last);
     let cylinders = fields::two(rec, 62);
     let records = fields::wide(rec[74]);
     Geometry {
         cylinders,
         heads,
         records,
-        start,
-        tracks,
+        vtoc_start,
+        vtoc_tracks,
     }
 }
 
@@ -70,23 +70,23 @@ pub fn limits(g: Geometry) -> bool
     if g.records > 255 {
         return false;
     }
-    if g.start < 1 {
+    if g.vtoc_start < 1 {
         return false;
     }
-    if g.tracks < 1 {
+    if g.vtoc_tracks < 1 {
         return false;
     }
     let t = g.cylinders * g.heads;
     if t > 65535 {
         return false;
     }
-    if g.start > t {
+    if g.vtoc_start > t {
         return false;
     }
-    if g.tracks > t - g.start {
+    if g.vtoc_tracks > t - g.vtoc_start {
         return false;
     }
-    let n = g.tracks * g.records;
+    let n = g.vtoc_tracks * g.records;
     if n < 3 {
         return false;
     }

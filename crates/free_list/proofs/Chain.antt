@@ -1,6 +1,5 @@
 -- The chain of format 5s: where it goes on, and what it holds. Assumes nothing.
-use mathlib.Core.Path.{_≡_, refl, sym, ap, _∙_, subst}
-use mathlib.Core.Bool.{true}
+use mathlib.Core.Path.{_≡_, refl, sym, ap, _∙_}
 use mathlib.Core.List.{List, [], _∷_}
 use Prim.Native.Nat.{ℕ, zero, suc, _+_, _*_, _≤_, _<_}
 use native.Mathlib.Omega.{arith}
@@ -11,7 +10,7 @@ use Rattle.model.specs.Basics.{bit, get2, part}
 use Rattle.model.specs.Model.{Geometry, Run, Separate, Volume, fivesFor, free, run, slots, tally, tracks, used}
 use Rattle.model.proofs.Lists.{All, All-both, All-drop, All-left, All-take}
 use Rattle.rules.specs.Demand3.{entryPlace, readEntry}
-use Rattle.rules.specs.Layout.{fields5, fives, format5, headOr0, link, whole}
+use Rattle.rules.specs.Layout.{fives, format5, headOr0, link}
 use Rattle.rules.specs.Reading.{chop, recordAt}
 use Rattle.rules.proofs.FreeBack.{entry-at, five-link, pigeonhole}
 use Rattle.rules.proofs.Placed.{tally-nonzero}

@@ -65,7 +65,7 @@ pub fn member_after(table: &[u8], g: Geometry, k: usize) -> usize
         &rec[135..140],
         g.heads,
         g.records,
-        g.start,
-        (g.tracks * g.records) as usize,
+        g.vtoc_start,
+        (g.vtoc_tracks * g.records) as usize,
     )
 }

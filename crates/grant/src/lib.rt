@@ -125,7 +125,7 @@ fn survey(table: &[u8], g: Geometry, u: u32, amount: u32, five: &mut [[u32; 2]; 
 {
     let mut best = Units { start: 0, count: 0 };
     let mut k: usize = 1;
-    let mut left = (g.tracks * g.records) as usize;
+    let mut left = (g.vtoc_tracks * g.records) as usize;
     while 0 < left {
         if k == 0 {
             return best;

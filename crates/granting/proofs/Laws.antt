@@ -1,26 +1,25 @@
 -- A grant, ready to be committed, and what it leaves. Assumes nothing.
 use mathlib.Core.Path.{_≡_, refl, sym, ap, ap₂, _∙_, subst}
 use mathlib.Core.Bool.{Bool, true, false, cond}
-use mathlib.Core.Option.{Option, none, some}
+use mathlib.Core.Option.{Option}
 use mathlib.Core.List.{List, [], _∷_, _++_, map}
 use Prim.Native.Nat.{ℕ, _+_, _≤_}
 use native.Mathlib.Omega.{arith}
-use lib.Dec.{T, leb, eqb, leb→le}
+use lib.Dec.{leb, eqb, leb→le}
 use lib.ListN.{length, length-append, length-map}
-use Rattle.model.specs.Basics.{bit, flat}
-use Rattle.model.specs.Model.{Extent, Geometry, Label, Run, Volume, covers, extent, held, oneSlot, overs, runsOf, slots, slotsOf, tally, times, total, tracks, used}
-use Rattle.model.proofs.Lists.{All, by, sum-append, true-is}
-use Rattle.rules.specs.Calls.{Outcome, answer, granted, settled}
+use Rattle.model.specs.Basics.{bit}
+use Rattle.model.specs.Model.{Extent, Geometry, Label, Run, Volume, covers, extent, held, oneSlot, overs, runsOf, slots, tally, times, total, tracks, used}
+use Rattle.model.proofs.Lists.{All, sum-append, true-is}
+use Rattle.rules.specs.Calls.{answer, granted, settled}
 use Rattle.rules.specs.Entries.{lent, result, written}
-use Rattle.rules.specs.Layout.{encode}
 use Rattle.rules.specs.Slots.{fewExtents, kept3, settleWith}
 use Rattle.rules.proofs.Settle.{used-tally}
-use Rattle.rules.proofs.Valid.{Valid, held-times, slots-tally}
+use Rattle.rules.proofs.Valid.{held-times, slots-tally}
 use Rattle.tracks.specs.Map.{Shows}
 use Rattle.tracks.proofs.Held.{Room, shows-same}
 use Rattle.label_check.specs.Marks.{units}
 use Rattle.grant.specs.Grant.{row}
-use Rattle.request.proofs.Laws.{Good, pieces-room}
+use Rattle.request.proofs.Laws.{pieces-room}
 use Rattle.set_change.specs.Change.{InRecords, NoneBelow, Piece, TookPieces}
 use Rattle.set_change.specs.Change.{granted as more}
 use Rattle.set_change.proofs.Laws.{pieces-good}

@@ -2,7 +2,7 @@
 use mathlib.Core.Path.{_≡_, _∙_, sym, subst, ap, refl, ap₂}
 use mathlib.Core.Bool.{Bool, true, false}
 use mathlib.Core.List.{List, _∷_, _++_, [], map}
-use Prim.Native.Nat.{ℕ, _+_, _*_, _≤_, zero, suc, _-_, _<_}
+use Prim.Native.Nat.{ℕ, _+_, _≤_, zero, suc, _-_, _<_}
 use native.Mathlib.Omega.{arith}
 use native.Mathlib.Nat.{zero-add, le-refl, add-zero}
 use native.Mathlib.Numerals.{add-one}

@@ -8,7 +8,6 @@ use lib.ListN.{length, getD}
 use Rattle.model.specs.Model.{Geometry, Label, Run, oneSlot, overs, run, runsOf, slots, slotsOf, tracks}
 use Rattle.model.proofs.Runs.{Once}
 use Rattle.rules.specs.Reading.{chop, readExtents, readLabel, trackAt}
-use Rattle.rules.specs.Table.{limits}
 use Rattle.rules.proofs.Valid.{Limits}
 use Rattle.sound.specs.Sound.{LabelOk}
 use Rattle.tracks.specs.Map.{Shows, Taken}

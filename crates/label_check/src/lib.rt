@@ -46,8 +46,8 @@ fn third_of<'a>(table: &'a [u8], f1: &'a [u8], n: usize, g: Geometry) -> usize
     requires { ⌜ (length (now f1) ≡ 140) × (n ≤ 16) × Limits (geometryOf g) × (140 * slots (geometryOf g) ≤ length (now table)) ⌝ }
     ensures { λ r. ⌜ r ≡ thirdShape (geometryOf g) (now (table .entry)) (now (f1 .entry)) n ⌝ }
 {
-    let many = (g.tracks * g.records) as usize;
-    let q = fields::slot_of(&f1[135..140], g.heads, g.records, g.start, many);
+    let many = (g.vtoc_tracks * g.records) as usize;
+    let q = fields::slot_of(&f1[135..140], g.heads, g.records, g.vtoc_start, many);
     if q == 0 {
         return 0;
     }

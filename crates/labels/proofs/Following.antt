@@ -7,35 +7,21 @@ use native.Mathlib.Numerals.{add-one}
 use lib.Seq.{append-snoc, take-suc, take-all, drop-cons}
 use lib.ListN.{length, take, drop-of-length-le, getD, drop}
 use borrow.Author.Tests.{lt-leb, le-leb}
-use Rattle.model.specs.Basics.{get3}
 use Rattle.model.specs.Model.{Extent, Geometry, Label, extent, run}
 use Rattle.rules.specs.Calls.{cut, keep}
 use Rattle.rules.specs.Layout.{format1, format3}
-use Rattle.rules.specs.Reading.{readExtents, readLabel, recordAt, slotAt}
-use Rattle.rules.specs.Slots.{withExtents, withSlots}
+use Rattle.rules.specs.Slots.{withExtents}
 use Rattle.rules.proofs.Valid.{GoodLabel}
-use Rattle.labels.specs.Labels.{Format1, added, firstExtents, labelIn}
+use Rattle.labels.specs.Labels.{Format1, added, firstExtents}
 
 -- ---- records and labels
 
 pub good-is : (g : Geometry) (l : Label) (r : List ℕ) → GoodLabel g l → format1 g l ≡ r → Format1 g l r
 good-is g l r x e = record { nameLength = x .nameLength; attributesLength = x .attributesLength; bytes = sym e }
 
--- the format 1 does not say its own slot, the format 3 says extents only
-pub any-slot : (g : Geometry) (l : Label) (r : List ℕ) (k : ℕ) → Format1 g l r → Format1 g (withSlots k (l .slot3) l) r
-unfolding format1
-any-slot g l r k f = record { nameLength = f .nameLength; attributesLength = f .attributesLength; bytes = f .bytes }
-
 pub same-extents : (g : Geometry) (l m : Label) → l .extents ≡ m .extents → format3 g l ≡ format3 g m
 unfolding format3
 same-extents g l m e = rw e
-
--- the label that is read: the bare one, with extents and the slot of its format 3
-pub read-is : (g : Geometry) (rs : List (List ℕ)) (k : ℕ) (r : List ℕ)
-    → readLabel g rs k r
-    ≡ withSlots k (slotAt g r 135) (withExtents (readExtents (g .heads) r (recordAt rs (slotAt g r 135)) (getD r 59 0)) (get3 r 98) (labelIn r))
-unfolding readLabel
-read-is g rs k r = refl
 
 -- ---- extents added one after the other
 
@@ -71,6 +57,3 @@ pub part-added : (l : Label) (q : ℕ) (e : Extent) (m : ℕ) → 1 ≤ m
     → added (extent 0x01 (run (e .over .start) m)) (firstExtents q l) ≡ withExtents (take q (l .extents) ++ cut m e) (l .ttr) l
 part-added l q e zero h = absurd (omega arith)
 part-added l q e (suc m) h = refl
-
-pub no-part : (l : Label) (q : ℕ) (e : Extent) → firstExtents q l ≡ withExtents (take q (l .extents) ++ cut 0 e) (l .ttr) l
-no-part l q e = ap (λ (x : List Extent). withExtents x (l .ttr) l) (sym (append-nil (take q (l .extents))))

@@ -1,4 +1,3 @@
 pub mod Format1
-pub mod Bare
 pub mod Format3
 pub mod Following

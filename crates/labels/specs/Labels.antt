@@ -2,8 +2,7 @@
 use mathlib.Core.Path.{_≡_}
 use Prim.Native.Nat.{ℕ}
 use mathlib.Core.List.{List, [], _∷_, _++_}
-use lib.ListN.{length, take, getD}
-use Rattle.model.specs.Basics.{get3, part}
+use lib.ListN.{length, take}
 use Rattle.model.specs.Model.{Extent, Geometry, Label}
 use Rattle.rules.specs.Layout.{format1, format3}
 use Rattle.rules.specs.Slots.{withExtents}
@@ -22,20 +21,6 @@ Format3 g l r = r ≡ format3 g l
 abbrev pub newLabel : List ℕ → List ℕ → ℕ → ℕ → Label
 newLabel n at unit secondary =
     record { slot = 0; name = n; attributes = at; unit = unit; secondary = secondary; ttr = 0; extents = []; slot3 = 0 }
-
--- what the bytes of a format 1 say, but for its extents and its format 3
-abbrev pub labelIn : List ℕ → Label
-labelIn r =
-    record {
-      slot = 0;
-      name = part 0 44 r;
-      attributes = part 45 14 r ++ part 60 34 r ++ part 101 4 r;
-      unit = getD r 94 0;
-      secondary = get3 r 95;
-      ttr = get3 r 98;
-      extents = [];
-      slot3 = 0;
-    }
 
 -- one extent more
 abbrev pub added : Extent → Label → Label

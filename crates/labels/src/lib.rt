@@ -7,7 +7,7 @@ ghost use Rattle.model.specs.Model.{Geometry, Label, extent, run, slots};
 ghost use Rattle.rules.specs.Slots.{withName, withSlots};
 ghost use Rattle.rules.proofs.Valid.{Limits};
 ghost use Rattle.forms.specs.Forms.{geometryOf};
-ghost use Rattle.labels.specs.Labels.{Format1, Format3, added, firstExtents, labelIn, newLabel, withTtr};
+ghost use Rattle.labels.specs.Labels.{Format1, Format3, added, firstExtents, newLabel, withTtr};
 
 // The format 1 of a label that has no extent yet.
 pub fn new_label(name: &[u8], attributes: &[u8], unit: u8, secondary: u32) -> [u8; 140]
@@ -22,19 +22,6 @@ pub fn new_label(name: &[u8], attributes: &[u8], unit: u8, secondary: u32) -> [u
     records::put_row(&mut r, 45, &attributes[0..14]);
     records::put_row(&mut r, 60, &attributes[14..48]);
     records::put_row(&mut r, 101, &attributes[48..52]);
-    r
-}
-
-// The format 1 of the label that a record holds, with no extent and no format 3, whatever the record's identifier,
-// count, extents and pointer are: to be written whole, and compared.
-pub fn bare_label(s: &[u8]) -> [u8; 140]
-    requires { ⌜ length (now s) ≡ 140 ⌝ }
-    ensures { λ r. ⌜ ((g : Geometry) → Format1 g (labelIn (now (s .entry))) r) ⌝ }
-{
-    let mut r = records::record_of(s);
-    r[44] = 0xF1;
-    r[59] = 0;
-    records::put_same(&mut r, 105, 140, 0);
     r
 }
 

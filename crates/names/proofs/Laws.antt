@@ -16,7 +16,6 @@ use Rattle.names.specs.declared.Found.the-variants.{Slot, Nothing}
 use lib.Seq.{getD-set-other, getD-take, getD-set-same, drop-cons}
 use borrow.Author.Tests.{eq-eqb, ne-eqb}
 use Rattle.model.specs.Basics.{same}
-use Rattle.model.specs.Choice.{before}
 use Rattle.model.proofs.Lists.{and-l, and-r, by, clash, is-true, same→eq, true-is}
 use Rattle.tracks.specs.Map.{Given, freeBit, isFree}
 use Rattle.tracks.proofs.Bits.{le-or-lt}

@@ -97,8 +97,8 @@ pub fn third(one: &[u8], g: Geometry) -> usize
         &one[135..140],
         g.heads,
         g.records,
-        g.start,
-        (g.tracks * g.records) as usize,
+        g.vtoc_start,
+        (g.vtoc_tracks * g.records) as usize,
     )
 }
 

@@ -57,7 +57,7 @@ pub fn put_link(rec: &mut [u8; 140], at: usize, g: Geometry, k: usize)
     }
     let q = k as u32;
     let d = g.records;
-    let t = g.start + q / d;
+    let t = g.vtoc_start + q / d;
     put_track(rec, at, g, t);
     rec[at + 4] = (q % d + 1) as u8;
 }
@@ -179,7 +179,7 @@ pub fn four(g: Geometry, highest: usize, empty: usize) -> [u8; 140]
     put_two(&mut r, 62, g.cylinders); // DS4DEVSZ
     put_two(&mut r, 64, g.heads);
     r[74] = g.records as u8; // DS4DEVDT
-    put_extent(&mut r, 105, g, 0, 0x01, g.start, g.tracks); // DS4VTOCE
+    put_extent(&mut r, 105, g, 0, 0x01, g.vtoc_start, g.vtoc_tracks); // DS4VTOCE
     r
 }
 

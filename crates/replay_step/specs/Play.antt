@@ -6,7 +6,6 @@ use mathlib.Core.Bool.{cond}
 use mathlib.Core.List.{List, [], _++_}
 use lib.Dec.{eqb}
 use lib.ListN.{getD, take, drop, replicate}
-use Rattle.model.specs.Model.{Geometry}
 use Rattle.rules.specs.Calls.{Call, allocate, extend, lspace, obtain, release, rename, scratch}
 use Rattle.rules.specs.Contracts.{geometry}
 use Rattle.rules.specs.Entries.{Lent, Result, initialise, lent, perform, result}

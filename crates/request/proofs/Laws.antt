@@ -10,7 +10,7 @@ use lib.ListN.{length, drop, take, length-map}
 use lib.Seq.{take-all, take-append-le}
 use Rattle.model.specs.Basics.{all, bit, mapOption, upFrom}
 use Rattle.model.specs.Model.{Extent, Geometry, Label, Run, Volume, covers, extent, free, held, overs, run, times, total, tracks}
-use Rattle.model.proofs.Lists.{All, and-l, and-r, by, some-is, sum-append}
+use Rattle.model.proofs.Lists.{All, and-l, and-r, by, sum-append}
 use Rattle.model.proofs.Runs.{Inside, Once, balance}
 use Rattle.rules.specs.Calls.{Amount, absolute, amountOf, inCylinders, inRange, inTracks}
 use Rattle.rules.specs.Calls.{grant as granting}
@@ -73,12 +73,6 @@ module _ (g : Geometry) (ls : List Label) where
       go : (x : Bool) → cond x (some (extent 0x01 (run s n) ∷ [])) none ≡ mapOption (map (extent 0x01)) (mapOption overs (cond x (some (extent 0x01 (run s n) ∷ [])) none))
       go true = refl
       go false = refl
-
-  pub granted-extents : (a : Amount) (es : List Extent) → granting g ls a ≡ some es → es ≡ map (extent (typeOf a)) (overs es)
-  unfolding piecesOf
-  granted-extents a es e =
-      some-is es (map (extent (typeOf a)) (overs es))
-      (sym e ∙ granted-typed a ∙ ap (λ (x : Option (List Extent)). mapOption (map (extent (typeOf a))) (mapOption overs x)) e)
 
   pub granted-some : (a : Amount) (ps : List Run) → piecesOf g ls a ≡ some ps → granting g ls a ≡ some (map (extent (typeOf a)) ps)
   granted-some a ps e = granted-typed a ∙ ap (mapOption (map (extent (typeOf a)))) e

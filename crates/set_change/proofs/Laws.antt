@@ -4,12 +4,10 @@ use mathlib.Core.Path.{_≡_, sym, ap, ap₂, _∙_, subst}
 use mathlib.Core.List.{List, [], _∷_, _++_, map}
 use Prim.Native.Nat.{ℕ, suc, _+_, _≤_, _<_}
 use native.Mathlib.Omega.{arith}
-use lib.ListN.{length, take, getD, length-map}
-use lib.Seq.{take-at}
-use Rattle.model.specs.Basics.{bit, upFrom}
-use Rattle.model.specs.Model.{Extent, Geometry, Label, Run, covers, overs}
-use Rattle.model.proofs.Lists.{All, All-map, sum-append}
-use Rattle.model.proofs.Runs.{Once}
+use lib.ListN.{length, getD}
+use Rattle.model.specs.Basics.{upFrom}
+use Rattle.model.specs.Model.{Extent, Geometry, Label, Run, overs}
+use Rattle.model.proofs.Lists.{All, All-map}
 use Rattle.rules.specs.Calls.{keep}
 use Rattle.rules.specs.Layout.{format1, format3}
 use Rattle.rules.specs.Reading.{readExtents, readLabel, recordAt, slotAt}
@@ -18,7 +16,6 @@ use Rattle.rules.proofs.Keyed.{getD-map-range}
 use Rattle.rules.proofs.LabelBack.{label-back, length-1}
 use Rattle.rules.proofs.Valid.{GoodExtent, GoodLabel, Limits}
 use Rattle.tracks.specs.Map.{Shows}
-use Rattle.tracks.proofs.Held.{Room}
 use Rattle.grant.specs.Grant.{row}
 use Rattle.forms.proofs.Written.{count-back}
 use Rattle.set_change.specs.Change.{GaveTail, Piece, SetIn, Stays, extentsIn, shortened}
@@ -61,20 +58,12 @@ module _ (g : Geometry) (l : Label) (good : GoodLabel g l) (f1 f3 : List ℕ) (o
 
 -- ---- pieces
 
--- what a grant leaves in the places is the pieces
-pub places-are : (count : ℕ) (ps : List Run) (rows rest : List (List ℕ)) → count ≡ length ps → rows ≡ map row ps ++ rest → take count rows ≡ map row ps
-places-are count ps rows rest n e = ap (take count) e ∙ take-at (map row ps) rest count (length-map ps row ∙ sym n)
-
 pub pieces-good : (n k : ℕ) (ps : List Run) → n ≤ k → All (λ p. 1 ≤ p .count) ps → All (λ p. p .start + p .count ≤ n) ps → (rows : List (List ℕ)) → rows ≡ map row ps → All (Piece k) rows
 pieces-good n k ps h full below rows e = subst (All (Piece k)) (sym e) (go ps full below)
   where
     go : (ps : List Run) → All (λ p. 1 ≤ p .count) ps → All (λ p. p .start + p .count ≤ n) ps → All (Piece k) (map row ps)
     go [] a b = tt
     go (p ∷ ps) a b = ((a .0, omega (arith, b .0)), go ps (a .1) (b .1))
-
--- runs that may be held too lie in free tracks
-pub once-room : (m : List ℕ) (n : ℕ) (ps hs : List Run) → Shows m n hs → Once n (ps ++ hs) → Room m n ps
-once-room m n ps hs h o t u = let a = h t u in let b = o t u in let c = sum-append (λ r. bit (covers r t)) ps hs in omega arith
 
 -- ---- a data set that is cut
 

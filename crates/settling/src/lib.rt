@@ -96,7 +96,7 @@ pub fn read_chain(table: &[u8], g: Geometry, chain: &mut [u16]) -> usize
     requires { ⌜ Limits (geometryOf g) × (length (now table) ≡ 140 * slots (geometryOf g)) × (slots (geometryOf g) ≤ length (now chain)) ⌝ }
     ensures { λ r. ⌜ Chained (geometryOf g) (now (table .entry)) (now (chain .entry)) (now (chain .exit)) r ⌝ }
 {
-    let n = (g.tracks * g.records) as usize;
+    let n = (g.vtoc_tracks * g.records) as usize;
     let mut k: usize = 1;
     let mut i: usize = 0;
     while i < n {
@@ -105,7 +105,7 @@ pub fn read_chain(table: &[u8], g: Geometry, chain: &mut [u16]) -> usize
         }
         chain[i] = k as u16;
         let rec = fields::record_at(table, k);
-        k = fields::slot_of(&rec[135..140], g.heads, g.records, g.start, n);
+        k = fields::slot_of(&rec[135..140], g.heads, g.records, g.vtoc_start, n);
         i += 1;
     }
     i

@@ -5,7 +5,7 @@ use mathlib.Core.Bool.{Bool, true, false}
 use mathlib.Core.List.{List, [], _++_}
 use lib.ListN.{length}
 use Rattle.model.specs.Basics.{flat, keepIf, upFrom}
-use Rattle.model.specs.Model.{Geometry, Label, Run, free, runsOf, slots, slotsOf, tracks}
+use Rattle.model.specs.Model.{Geometry, Label, Run, runsOf, slots, slotsOf, tracks}
 use Rattle.model.proofs.Lists.{All}
 use Rattle.model.proofs.Runs.{Once}
 use Rattle.rules.specs.Reading.{chop}

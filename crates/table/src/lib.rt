@@ -28,7 +28,7 @@ pub fn take_labels(table: &[u8], g: Geometry, map: &mut [u64], empty: &mut [u64]
     requires { ⌜ Limits (geometryOf g) × (length (now table) ≡ 140 * slots (geometryOf g)) × (isLabel (slotBytes (now table) 0) ≡ false) × (tracks (geometryOf g) ≤ 64 * length (now map)) × (length (now empty) ≡ 8) ⌝ }
     ensures { λ r. ⌜ LabelsTaken (geometryOf g) (now (table .entry)) (slots (geometryOf g)) (now (map .entry)) (now (map .exit)) (now (empty .entry)) (now (empty .exit)) r ⌝ }
 {
-    let n = (g.tracks * g.records) as usize;
+    let n = (g.vtoc_tracks * g.records) as usize;
     let mut k: usize = 1;
     while k < n {
         if look(table, k, g, map, empty) {

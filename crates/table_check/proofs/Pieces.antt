@@ -2,27 +2,23 @@
 use mathlib.Core.Path.{_≡_, refl, sym, ap, _∙_, subst}
 use mathlib.Core.Bool.{Bool, true, false}
 use mathlib.Core.List.{List, [], _∷_, _++_}
-use Prim.Native.Nat.{ℕ, zero, suc, _+_, _*_, _≤_, _<_}
+use Prim.Native.Nat.{ℕ, zero, suc, _*_, _≤_, _<_}
 use native.Mathlib.Decide.{decLe}
 use native.Mathlib.Nat.{lt-of-not-le}
 use native.Mathlib.Omega.{arith}
 use borrow.Author.Tests.{eq-eqb, ne-eqb}
-use lib.Dec.{eqb}
-use lib.ListN.{List·getD-eq-default, getD, length}
-use Rattle.model.specs.Basics.{bit, flat, sumOf, zeros}
-use Rattle.model.specs.Model.{Geometry, Label, Run, covers, free, gaps, held, oneSlot, run, runsOf, slots, slotsOf, tally, times, tracks, unused, used}
+use lib.ListN.{List·getD-eq-default, length}
+use Rattle.model.specs.Basics.{bit, flat}
+use Rattle.model.specs.Model.{Geometry, Label, Run, covers, free, held, oneSlot, run, runsOf, slots, slotsOf, tally, times, tracks, unused, used}
 use Rattle.model.proofs.Lists.{All, All-append, clash, sum-append}
-use Rattle.model.proofs.Runs.{Once}
-use Rattle.rules.specs.Layout.{format1, format3, format4, highest}
+use Rattle.rules.specs.Layout.{format4}
 use Rattle.rules.specs.Reading.{chop, recordAt}
-use Rattle.rules.proofs.Labels.{Differ}
 use Rattle.rules.proofs.LabelBack.{length-1, length-3}
 use Rattle.rules.proofs.Settle.{used-tally}
 use Rattle.rules.proofs.Valid.{Limits}
-use Rattle.sound.specs.Sound.{FiveOk, LabelOk, Sound}
+use Rattle.sound.specs.Sound.{LabelOk, Sound}
 use Rattle.tracks.specs.Map.{Shows, freeFrom}
 use Rattle.tracks.proofs.Held.{free-gaps, shows-once, shows-same}
-use Rattle.fields.specs.Records.{slotBytes}
 use Rattle.fields.proofs.Slots.{chop-slot, length-chop}
 use Rattle.names.specs.Find.{distinct}
 use Rattle.label_check.specs.Marks.{units}
@@ -30,8 +26,7 @@ use Rattle.table.specs.Labels.{LabelsTaken, labelsBelow}
 use Rattle.table.proofs.Scan.{unit-tally}
 use Rattle.chain.specs.Chain.{ChainGone, chainFrom}
 use Rattle.chain.proofs.Laws.{chain-head, chain-length}
-use Rattle.spare.specs.Spare.{highestSlot}
-use Rattle.table_check.specs.Check.{Contents, MapsBegun, Rest, RestTold, Shown, volumeAt}
+use Rattle.table_check.specs.Check.{Contents, MapsBegun, Rest, RestTold, volumeAt}
 use Rattle.table_check.proofs.Read.{all-long, differ-names, highest-is, names-differ}
 
 -- ---- slots in the table

@@ -6,9 +6,9 @@ use Prim.Native.Nat.{ℕ, zero, suc, _+_, _*_, _/_, _≤_, _<_, max}
 use native.Mathlib.Nat.{add-zero, zero-add}
 use native.Mathlib.Numerals.{add-one}
 use native.Mathlib.Omega.{arith}
-use lib.ListN.{drop, getD, length, length-drop, length-take, take}
+use lib.ListN.{drop, getD, length, length-drop, length-take}
 use Rattle.model.specs.Basics.{flat, keepIf, upFrom}
-use Rattle.model.specs.Model.{Geometry, Label, Volume, slots}
+use Rattle.model.specs.Model.{Geometry, Label, slots}
 use Rattle.model.proofs.Lists.{All, by}
 use Rattle.rules.specs.Layout.{highest}
 use Rattle.rules.specs.Reading.{chop, read, readGeometry, readLabel, readLabels, readRecords, recordAt}

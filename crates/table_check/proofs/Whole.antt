@@ -6,18 +6,17 @@ use Prim.Native.Nat.{ℕ, _+_, _*_, _/_, _%_, _≤_, _<_}
 use native.Mathlib.Omega.{arith}
 use lib.Dec.{T}
 use lib.ListN.{getD, length}
-use Rattle.model.specs.Basics.{bit, same}
-use Rattle.model.specs.Model.{Geometry, Volume, held, run, slots, tally, total, tracks, unused}
+use Rattle.model.specs.Basics.{same}
+use Rattle.model.specs.Model.{Geometry, Volume, held, run, slots, tracks, unused}
 use Rattle.model.proofs.Lists.{by, clash, is-true, same-refl, same→eq, true-is}
 use Rattle.model.proofs.Runs.{hit-below}
-use Rattle.rules.specs.Layout.{encode, format4, highest}
-use Rattle.rules.specs.Reading.{chop, read, readGeometry, readRecords, recordAt}
+use Rattle.rules.specs.Layout.{format4}
+use Rattle.rules.specs.Reading.{chop, read, readGeometry, readRecords}
 use Rattle.rules.specs.Table.{limits, taken}
 use Rattle.rules.proofs.Taken.{length-encode, taken-is}
-use Rattle.rules.proofs.Valid.{Limits, limits→}
-use Rattle.sound.specs.Sound.{Sound}
+use Rattle.rules.proofs.Valid.{Limits}
 use Rattle.sound.proofs.Meaning.{recordsOf, sound-taken, taken-sound}
-use Rattle.tracks.specs.Map.{AllFree, Opened, Shows, Taken, freeBit}
+use Rattle.tracks.specs.Map.{AllFree, Opened, Shows, Taken}
 use Rattle.tracks.proofs.Held.{shows-opened, shows-take, taken-true}
 use Rattle.fields.specs.Records.{slotBytes}
 use Rattle.fields.proofs.Slots.{chop-slot}
@@ -25,7 +24,7 @@ use Rattle.label_check.specs.Marks.{units}
 use Rattle.table.proofs.Scan.{unit-tally}
 use Rattle.spare.specs.Spare.{Spared, highestSlot}
 use Rattle.spare.proofs.Laws.{count-unused}
-use Rattle.table_check.specs.Check.{Checked, Contents, MapsBegun, Rest, RestTold, Shown, volumeAt}
+use Rattle.table_check.specs.Check.{Checked, Contents, MapsBegun, RestTold, Shown, volumeAt}
 use Rattle.table_check.proofs.Read.{records-are, volume-is}
 
 -- ---- the maps

@@ -32,11 +32,11 @@ pub fn begin_maps(g: Geometry, map: &mut [u64], empty: &mut [u64])
     ensures { λ _. ⌜ MapsBegun (geometryOf g) (now (map .entry)) (now (map .exit)) (now (empty .entry)) (now (empty .exit)) ⌝ }
 {
     tracks::free_below(map, (g.cylinders * g.heads) as usize);
-    let start = g.start as usize;
-    let end = start + g.tracks as usize;
+    let start = g.vtoc_start as usize;
+    let end = start + g.vtoc_tracks as usize;
     let vtoc = tracks::take_range(map, start, end);
     let label = tracks::take_range(map, 0, 1);
-    tracks::free_below(empty, (g.tracks * g.records) as usize);
+    tracks::free_below(empty, (g.vtoc_tracks * g.records) as usize);
     let first = tracks::take_range(empty, 0, 1);
 }
 
@@ -45,7 +45,7 @@ fn rest_ok(table: &[u8], g: Geometry, empty: &[u64]) -> bool
     requires { ⌜ Limits (geometryOf g) × (length (now table) ≡ 140 * slots (geometryOf g)) × (length (now empty) ≡ 8) ⌝ }
     ensures { λ r. ⌜ RestTold (geometryOf g) (now (table .entry)) (now (empty .entry)) r ⌝ }
 {
-    let n = (g.tracks * g.records) as usize;
+    let n = (g.vtoc_tracks * g.records) as usize;
     let spares = spare::spare(table, n, empty);
     if spares.clear {} else {
         return false;
@@ -64,7 +64,7 @@ fn contents_ok(table: &[u8], g: Geometry, map: &mut [u64], empty: &mut [u64]) ->
     if table::take_labels(table, g, map, empty) {} else {
         return false;
     }
-    if names::names_differ(table, (g.tracks * g.records) as usize) {} else {
+    if names::names_differ(table, (g.vtoc_tracks * g.records) as usize) {} else {
         return false;
     }
     if chain::take_chain(table, g, map, empty) {} else {
@@ -89,7 +89,7 @@ pub fn check(table: &[u8], map: &mut [u64], empty: &mut [u64]) -> bool
     if forms::limits(g) {} else {
         return false;
     }
-    if table.len() != 140 * (g.tracks * g.records) as usize {
+    if table.len() != 140 * (g.vtoc_tracks * g.records) as usize {
         return false;
     }
     contents_ok(table, g, map, empty)

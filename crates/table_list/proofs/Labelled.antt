@@ -1,12 +1,12 @@
 -- The label in a slot, and its line. Assumes nothing.
-use mathlib.Core.Path.{_≡_, refl, sym, ap, ap₂, _∙_, subst}
-use mathlib.Core.List.{List, [], _∷_}
+use mathlib.Core.Path.{_≡_, sym, ap, ap₂, _∙_, subst}
+use mathlib.Core.List.{List}
 use Prim.Native.Nat.{ℕ, _+_, _-_, _*_, _≤_, _<_}
 use native.Mathlib.Omega.{arith}
 use native.Mathlib.Nat.{mul-le-mul}
 use lib.ListN.{length, getD, take, length-map}
-use Rattle.model.specs.Basics.{part, upFrom}
-use Rattle.model.specs.Model.{Extent, Geometry, Label, overs, runsOf, slots, total}
+use Rattle.model.specs.Basics.{upFrom}
+use Rattle.model.specs.Model.{Extent, Geometry, overs, runsOf, slots, total}
 use Rattle.model.proofs.Lists.{All, length-upFrom}
 use Rattle.rules.specs.Layout.{extentPart}
 use Rattle.rules.specs.Listing.{dataLine}

@@ -1,6 +1,6 @@
 -- The lines of a listing, one behind the other. Assumes nothing.
 use mathlib.Core.Path.{_≡_, refl, sym, ap, ap₂, _∙_, subst}
-use mathlib.Core.Bool.{Bool, true, false, cond}
+use mathlib.Core.Bool.{true, false}
 use mathlib.Core.List.{List, [], _∷_, _++_, append-assoc, append-nil}
 use Prim.Native.Nat.{ℕ, zero, suc, _+_, _-_, _*_, _/_, _%_, _≤_, _<_}
 use native.Mathlib.Omega.{arith}
@@ -12,7 +12,7 @@ use lib.Dec.{ltb}
 use lib.ListN.{length, take, drop, getD, length-append, length-drop, drop-of-length-le}
 use lib.Seq.{length-take-le, take-all, take-append-add}
 use Rattle.model.specs.Basics.{flat, upFrom}
-use Rattle.model.specs.Model.{Geometry, Label, Run, run, runs, slots}
+use Rattle.model.specs.Model.{Geometry, Label, Run, run, runs}
 use Rattle.model.proofs.Lists.{All, All-range, All-unflat, by}
 use Rattle.rules.specs.Listing.{dataLine, decimal, decimalTo, freeLine, line}
 use Rattle.tracks.specs.Map.{NextRun, freeFrom, isFree}

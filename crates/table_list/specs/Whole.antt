@@ -5,7 +5,7 @@ use mathlib.Core.Bool.{cond}
 use mathlib.Core.List.{List, []}
 use lib.ListN.{length}
 use lib.Dec.{ltb}
-use Rattle.model.specs.Model.{Extent, Geometry, Label, Volume, format0s, free, run, runsOf, slots, total, tracks}
+use Rattle.model.specs.Model.{Geometry, Label, format0s, free, run, runsOf, slots, total, tracks}
 use Rattle.model.proofs.Lists.{All}
 use Rattle.rules.specs.Listing.{freeLine}
 use Rattle.rules.specs.Reading.{read}

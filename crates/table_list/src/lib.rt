@@ -63,7 +63,7 @@ fn third(f1: &[u8], g: Geometry) -> usize
     ensures { λ r. ⌜ r ≡ slotAt (geometryOf g) (now (f1 .entry)) 135 ⌝ }
 {
     let t = fields::track_at(f1, 135, g.heads);
-    let d = less(t, g.start);
+    let d = less(t, g.vtoc_start);
     let r = fields::wide(f1[139]);
     less(d * g.records + r, 1) as usize
 }
@@ -108,7 +108,7 @@ fn data_lines(table: &[u8], g: Geometry, out: &mut [u8], at: usize) -> usize
     requires { ⌜ Limits (geometryOf g) × (length (now table) ≡ 140 * slots (geometryOf g)) × All (Listable (geometryOf g)) (labelsBelow (geometryOf g) (now table) (slots (geometryOf g))) × (at + 29952 ≤ length (now out)) ⌝ }
     ensures { λ r. ⌜ Written at (flat dataLine (labelsBelow (geometryOf g) (now (table .entry)) (slots (geometryOf g)))) 29952 (now (out .entry)) (now (out .exit)) r ⌝ }
 {
-    let n = (g.tracks * g.records) as usize;
+    let n = (g.vtoc_tracks * g.records) as usize;
     let mut p = at;
     let mut k: usize = 0;
     while k < n {
@@ -137,7 +137,7 @@ fn list_taken(table: &[u8], g: Geometry, map: &[u64], empty: &[u64], out: &mut [
     let a = listing::volume_line(out, g.cylinders, g.heads);
     let b = data_lines(table, g, out, a);
     let c = free_lines(map, (g.cylinders * g.heads) as usize, out, b);
-    let spares = spare::spare(table, (g.tracks * g.records) as usize, empty);
+    let spares = spare::spare(table, (g.vtoc_tracks * g.records) as usize, empty);
     put_slots(out, c, spares.count)
 }
 

@@ -8,8 +8,7 @@ use native.Mathlib.Nat.{le-refl}
 use native.Mathlib.Omega.{arith}
 use borrow.Author.Tests.{eq-eqb, ne-eqb}
 use Rattle.model.specs.Basics.{bit}
-use Rattle.model.specs.Model.{Run, run, runs, joinIf, covers, times, Separate}
-use Rattle.model.proofs.Lists.{by}
+use Rattle.model.specs.Model.{Run, run, runs, joinIf, covers, Separate}
 use Rattle.model.proofs.Runs.{canonical, runs-separate, runs-times, hit-in, hit-above, below}
 use Rattle.tracks.specs.Map.{freeBit, isFree, freeFrom, NextRun}
 use Rattle.tracks.specs.Steps.{First}

@@ -1,11 +1,10 @@
 -- The map of free tracks: words of 64 bits, a bit a track. Assumes nothing.
-use Prim.Native.Nat.{ℕ, _+_, _-_, _*_, _/_, _%_, _^_, _≤_, _<_}
+use Prim.Native.Nat.{ℕ, _+_, _-_, _/_, _%_, _^_, _≤_, _<_}
 use mathlib.Core.Path.{_≡_}
 use mathlib.Core.Bool.{Bool, true, false}
 use mathlib.Core.List.{List, [], _∷_}
 use lib.ListN.{length, getD}
-use lib.Dec.{eqb, ltb}
-use Rattle.model.specs.Basics.{bit}
+use lib.Dec.{eqb}
 use Rattle.model.specs.Model.{Run, run, runs, times}
 
 -- bit j of the number x

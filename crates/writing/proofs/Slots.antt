@@ -14,7 +14,6 @@ use Rattle.rules.specs.Layout.{fives, format5, headOr0}
 use Rattle.rules.specs.Slots.{withSlots}
 use Rattle.tracks.specs.Map.{freeFrom}
 use Rattle.fields.specs.Records.{putRecord, slotBytes}
-use Rattle.fields.proofs.Rows.{rest}
 use Rattle.fields.proofs.Slots.{put-length}
 use Rattle.records.specs.Fives.{Fills}
 use Rattle.records.proofs.Format5.{five-long}

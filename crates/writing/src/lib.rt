@@ -133,7 +133,7 @@ pub fn put_four(table: &mut [u8], g: Geometry, empty: usize)
     requires { ⌜ Limits (geometryOf g) × (length (now table) ≡ 140 * slots (geometryOf g)) × (empty < 65536) ⌝ }
     ensures { λ _. ⌜ now (table .exit) ≡ fourPut (geometryOf g) (now (table .entry)) empty ⌝ }
 {
-    let highest = spare::highest(table, (g.tracks * g.records) as usize);
+    let highest = spare::highest(table, (g.vtoc_tracks * g.records) as usize);
     let four = records::four(g, highest, empty);
     fields::put_record(table, 0, &four);
 }

@@ -136,7 +136,7 @@ returns-4 c =
     (λ j. c .before .before .before .before .before .before .before .before .before .before .before .before .before .before .before .before .before .before .shared-slice-known .given j .fits) (sym (ap length (c .before .before .before .before .before .before .before .before .before .record-at .ensures .0)) ∙ c .before .before .before .before .before .before .before .before .before .record-at .ensures .1) (c .before .before .before .before .before .before .before .before .compare .result .next)
     (listed-at (geometryOf (c .before .before .before .before .before .before .before .before .before .before .before .before .before .before .before .before .before .before .before .args .g)) (c .before .before .before .before .before .before .before .before .before .before .before .before .before .before .before .before .before .before .before .args .map .now) (tracks (geometryOf (c .before .before .before .before .before .before .before .before .before .before .before .before .before .before .before .before .before .before .before .args .g))) (c .before .before .before .before .before .before .before .before .before .before .before .before .before .before .before .before .before .before .before .args .at) (c .before .before .before .before .before .before .before .before .before .record-at .result .now) (slotBytes (c .before .before .before .before .before .before .before .before .before .before .before .before .before .before .before .before .before .before .before .args .table .now) (c .before .before .before .before .before .before .before .before .before .before .before .before .before .before .before .before .before .before .before .args .k)) (c .before .before .before .before .before .before .before .before .compare .result .ok) true (c .before .before .before .before .before .before .before .before .compare .result .next) (c .before .before .before .before .before .before .before .before .before .record-at .ensures .0) (c .before .before .before .before .before .before .before .if2 .taken) (c .before .before .before .before .before .before .before .before .compare .ensures))
     _ _ _ (c .before .before .before .before .before .before .next-run .ensures .more (omega (arith, c .before .before .before .before .if3 .left)) .1)
-    (c .before .slot-of .ensures ∙ ap (λ (x : List ℕ). slotNamed (c .before .before .before .before .before .before .before .before .before .before .before .before .before .before .before .before .before .before .before .args .g .heads) (c .before .before .before .before .before .before .before .before .before .before .before .before .before .before .before .before .before .before .before .args .g .records) (c .before .before .before .before .before .before .before .before .before .before .before .before .before .before .before .before .before .before .before .args .g .start) (slots (geometryOf (c .before .before .before .before .before .before .before .before .before .before .before .before .before .before .before .before .before .before .before .args .g))) (part 135 5 x)) (c .before .before .before .before .before .before .before .before .before .record-at .ensures .0))
+    (c .before .slot-of .ensures ∙ ap (λ (x : List ℕ). slotNamed (c .before .before .before .before .before .before .before .before .before .before .before .before .before .before .before .before .before .before .before .args .g .heads) (c .before .before .before .before .before .before .before .before .before .before .before .before .before .before .before .before .before .before .before .args .g .records) (c .before .before .before .before .before .before .before .before .before .before .before .before .before .before .before .before .before .before .before .args .g .«vtoc_start») (slots (geometryOf (c .before .before .before .before .before .before .before .before .before .before .before .before .before .before .before .before .before .before .before .args .g))) (part 135 5 x)) (c .before .before .before .before .before .before .before .before .before .record-at .ensures .0))
     (c .is-linked .ensures ∙ ap (λ (x : List ℕ). linkOk (c .before .slot-of .result) (part 135 5 x)) (c .before .before .before .before .before .before .before .before .before .record-at .ensures .0)) refl refl
 
 pub take-member-spec : {M : Type 1} → statement M

@@ -58,7 +58,7 @@ returns-11 c = no-limits (geometryOf (c .before .before .before .before .before 
 
 -- src/lib.rt:83:13
 mul-n : tie.Need-mul-n
-mul-n c = omega (arith, few-tracks (c .before .before .before .before .before .before .before .before .before .before .before .before .before .before .before .before .before .before .before .before .before .before .before .before .args .g .tracks) (c .before .before .before .before .before .before .before .before .before .before .before .before .before .before .before .before .before .before .before .before .before .before .before .before .args .g .records) (omega (arith, c .before .before .before .before .before .before .if9 .left, c .before .before .before .before .if10 .left, c .before .if11 .left)) (c .before .before .before .before .before .before .before .before .before .before .before .before .if6 .left))
+mul-n c = omega (arith, few-tracks (c .before .before .before .before .before .before .before .before .before .before .before .before .before .before .before .before .before .before .before .before .before .before .before .before .args .g .«vtoc_tracks») (c .before .before .before .before .before .before .before .before .before .before .before .before .before .before .before .before .before .before .before .before .before .before .before .before .args .g .records) (omega (arith, c .before .before .before .before .before .before .if9 .left, c .before .before .before .before .if10 .left, c .before .if11 .left)) (c .before .before .before .before .before .before .before .before .before .before .before .before .if6 .left))
 
 -- src/lib.rt:85:9
 returns-12 : tie.Need-returns-12
