@@ -4,12 +4,12 @@ use mathlib.Core.Bool.{true, false, cond, _&&_, _||_, Bool}
 use mathlib.Core.Logic.{⊎-elim}
 use mathlib.Core.List.{List, [], _∷_}
 use Prim.Native.Nat.{ℕ, zero, suc, _+_, _-_, _≤_, _<_, _*_, _/_, _%_}
-use native.Mathlib.Nat.{lt-of-not-le}
+use native.Mathlib.Nat.{lt-of-not-le, mul-le-mul}
 use native.Mathlib.Decide.{decLe, ℕ-discrete}
 use native.Mathlib.Omega.{arith}
 use native.Mathlib.Numerals.{add-one}
-use lib.Dec.{eqb}
 use lib.Bits.{bitXor}
+use lib.Dec.{eqb}
 use lib.ListN.{length, getD, take, set, drop, drop-of-length-le, length-set}
 use Rattle.names.specs.declared.Found.{Found}
 use Rattle.names.specs.declared.Found.the-variants.{Slot, Nothing}
@@ -22,7 +22,7 @@ use Rattle.tracks.proofs.Bits.{le-or-lt}
 use Rattle.tracks.proofs.Walk.{is-free}
 use Rattle.fields.specs.Records.{slotBytes}
 use Rattle.fields.specs.Tests.{word8}
-use Rattle.names.specs.Find.{Entered, Seen, Tagged, distinctFrom, findSlot, firstNamed, hasTag, isLabel, isNamed, isNothing, nameOf, mixed, newAt, notFound, refusalOf, tagOf}
+use Rattle.names.specs.Find.{Entered, Seen, Tagged, distinctFrom, findSlot, firstNamed, hasTag, isLabel, isNamed, isNothing, keyed, mixed, nameOf, newAt, notFound, refusalOf, tagOf}
 
 module _ (t name : List ℕ) (k n : ℕ) (h : k < n) where
   step : firstNamed t name k (n - k) ≡ cond (isNamed (slotBytes t k) name) (Slot k) (firstNamed t name (k + 1) (n - (k + 1)))
@@ -138,6 +138,13 @@ no-tag t tags k l g name e = go (findSlot t name k) refl
         let c : getD tags j 0 ≡ tagOf name = g j (omega arith) (b .0) ∙ ap tagOf (b .1) in
         clash (tag-there tags (tagOf name) j (omega arith) c) e
 
+-- a slot with another tag has another name
+pub other-tag : (t tags : List ℕ) (k j x : ℕ) (name : List ℕ) → Tagged t k tags → j < k → x ≡ tagOf name → (getD tags j 0 ≡ x → ⊥) → isNamed (slotBytes t j) name ≡ false
+other-tag t tags k j x name g u q n =
+    by (isNamed (slotBytes t j) name)
+    (λ h. let b = named-label (slotBytes t j) name h in absurd (n (g j u (b .0) ∙ ap tagOf (b .1) ∙ sym q)))
+    (λ h. h)
+
 pub tag-next : (t tags : List ℕ) (k : ℕ) → k < length tags → Tagged t k tags → Tagged t (k + 1) (set tags k (tagOf (nameOf (slotBytes t k))))
 tag-next t tags k l g j u e =
     elim (ℕ-discrete j k) [
@@ -183,13 +190,27 @@ pub tag-end : (tags : List ℕ) (x i : ℕ) (b : Bool) → length tags ≤ i →
 unfolding hasTag
 tag-end tags x i b h = rw (drop-of-length-le tags {i = i} h) (or-false b)
 
-pub mixed-is : (name : List ℕ) → bitXor (bitXor (bitXor (word8 name 0) (word8 name 8)) (bitXor (word8 name 16) (word8 name 24))) (bitXor (word8 name 32) (word8 name 36)) ≡ mixed name
-unfolding mixed
-mixed-is name = refl
+-- ---- the tag
 
-pub tag-value : (name : List ℕ) (x : ℕ) → x ≡ mixed name → (x % 4294967296 * 248687971 + x / 4294967296 * 182312209) / 16777216 % 65536 ≡ tagOf name
+pub halves-fit : (x : ℕ) → x < 18446744073709551616 → (x % 4294967296) * (x / 4294967296) < 18446744073709551616
+halves-fit x h =
+    let a : (x % 4294967296) * (x / 4294967296) ≤ 4294967295 * 4294967295
+    = mul-le-mul {n₁ = x % 4294967296} {n₂ = 4294967295} {m₂ = 4294967295} (omega arith) (omega arith) in
+    omega arith
+
+pub keyed-is : (s : List ℕ) (i key x : ℕ) → x ≡ word8 s i → (bitXor x key % 4294967296) * (bitXor x key / 4294967296) ≡ keyed s i key
+unfolding keyed
+keyed-is s i key x e = rw e
+
+module _ (s : List ℕ) (a b c d e f : ℕ) (ea : a ≡ keyed s 0 0x243F6A8885A308D3) (eb : b ≡ keyed s 8 0x13198A2E03707344) (ec : c ≡ keyed s 16 0xA4093822299F31D0)
+    (ed : d ≡ keyed s 24 0x082EFA98EC4E6C89) (ee : e ≡ keyed s 32 0x452821E638D01377) (ef : f ≡ keyed s 36 0xBE5466CF34E90C6C) where
+  pub mixed-is : bitXor (bitXor (bitXor a b) (bitXor c d)) (bitXor e f) ≡ mixed s
+  unfolding mixed
+  mixed-is = rw (ea, eb, ec, ed, ee, ef)
+
+pub tag-value : (name : List ℕ) (x : ℕ) → x ≡ mixed name → bitXor x (x / 4294967296) % 4294967296 * 2654435769 / 65536 % 65536 ≡ tagOf name
 unfolding tagOf
-tag-value name x e = ap (λ (y : ℕ). (y % 4294967296 * 248687971 + y / 4294967296 * 182312209) / 16777216 % 65536) e
+tag-value name x e = ap (λ (y : ℕ). bitXor y (y / 4294967296) % 4294967296 * 2654435769 / 65536 % 65536) e
 
 pub tag-first : (t tags : List ℕ) (k : ℕ) → Tagged t k tags → Tagged t k (take k tags)
 tag-first t tags k g j u e = getD-take k tags j 0 u ∙ g j u e

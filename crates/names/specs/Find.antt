@@ -60,13 +60,20 @@ distinct t n = distinctFrom t 0 n
 
 -- ---- a number made of a name: any function of it would do, it tells most names apart that differ
 
--- the words of eight characters one upon the other,
-unfoldable pub mixed : List ℕ → ℕ
-mixed s = bitXor (bitXor (bitXor (word8 s 0) (word8 s 8)) (bitXor (word8 s 16) (word8 s 24))) (bitXor (word8 s 32) (word8 s 36))
+-- the halves of the eight characters from place i on, changed by a key, times each other,
+unfoldable pub keyed : List ℕ → ℕ → ℕ → ℕ
+keyed s i key = (bitXor (word8 s i) key % 4294967296) * (bitXor (word8 s i) key / 4294967296)
 
--- and 16 bits out of the middle of a sum of products
+-- all such products one upon the other,
+unfoldable pub mixed : List ℕ → ℕ
+mixed s =
+    bitXor
+    (bitXor (bitXor (keyed s 0 0x243F6A8885A308D3) (keyed s 8 0x13198A2E03707344)) (bitXor (keyed s 16 0xA4093822299F31D0) (keyed s 24 0x082EFA98EC4E6C89)))
+    (bitXor (keyed s 32 0x452821E638D01377) (keyed s 36 0xBE5466CF34E90C6C))
+
+-- and 16 bits out of the middle of a product
 unfoldable pub tagOf : List ℕ → ℕ
-tagOf name = (mixed name % 4294967296 * 248687971 + mixed name / 4294967296 * 182312209) / 16777216 % 65536
+tagOf name = bitXor (mixed name) (mixed name / 4294967296) % 4294967296 * 2654435769 / 65536 % 65536
 
 unfoldable pub hasTag : List ℕ → ℕ → Bool
 hasTag tags t = any (λ x. eqb x t) tags

@@ -3,7 +3,7 @@ use fields::*;
 ghost use mathlib.Core.Path.{_≡_};
 ghost use Prim.Native.Nat.{_+_, _*_, _≤_, _<_};
 ghost use lib.ListN.{length};
-ghost use Rattle.names.specs.Find.{isNamed, findSlot, isNothing, notFound, refusalOf, distinct, mixed, tagOf, hasTag, Tagged, Seen, Entered};
+ghost use Rattle.names.specs.Find.{isNamed, findSlot, isNothing, notFound, refusalOf, distinct, keyed, mixed, tagOf, hasTag, Tagged, Seen, Entered};
 
 // A lookup's answer.
 pub enum Found {
@@ -37,26 +37,36 @@ pub fn find(table: &[u8], n: usize, name: &[u8]) -> Found
     Found::Nothing
 }
 
-// The 44 characters as one word: the words of eight one upon the other, the last of which overlap.
+// The eight characters from place i on, changed by a key: the product of both halves, in which changes do not cancel but by chance.
+fn keyed(name: &[u8], i: usize, key: u64) -> u64
+    requires { ⌜ i + 7 < length (now name) ⌝ }
+    ensures { λ r. ⌜ r ≡ keyed (now (name .entry)) i key ⌝ }
+{
+    let x = fields::word8(name, i) ^ key;
+    (x % 4294967296) * (x / 4294967296)
+}
+
+// A number made of a name's 44 characters, eight by eight, the last of which overlap, each eight by a key of their own. The keys are the
+// digits of pi: no half of them is made of characters of names, so that no factor is 0.
 fn mixed(name: &[u8]) -> u64
     requires { ⌜ length (now name) ≡ 44 ⌝ }
     ensures { λ r. ⌜ r ≡ mixed (now (name .entry)) ⌝ }
 {
-    let a = fields::word8(name, 0) ^ fields::word8(name, 8);
-    let b = fields::word8(name, 16) ^ fields::word8(name, 24);
-    let c = fields::word8(name, 32) ^ fields::word8(name, 36);
+    let a = keyed(name, 0, 0x243F_6A88_85A3_08D3) ^ keyed(name, 8, 0x1319_8A2E_0370_7344);
+    let b = keyed(name, 16, 0xA409_3822_299F_31D0) ^ keyed(name, 24, 0x082E_FA98_EC4E_6C89);
+    let c = keyed(name, 32, 0x4528_21E6_38D0_1377) ^ keyed(name, 36, 0xBE54_66CF_34E9_0C6C);
     (a ^ b) ^ c
 }
 
-// A number made of a name, so that most names that differ are told apart by one comparison: 28 bits to a factor, so that the
-// sum fits.
+// 16 bits that differ for most names that do, so that most are told apart by one comparison: the number's halves one upon the other,
+// times a prime, and the middle of that.
 fn tag(name: &[u8]) -> u16
     requires { ⌜ length (now name) ≡ 44 ⌝ }
     ensures { λ r. ⌜ r ≡ tagOf (now (name .entry)) ⌝ }
 {
     let x = mixed(name);
-    let sum = (x % 4294967296) * 248687971 + (x / 4294967296) * 182312209;
-    (sum / 16777216 % 65536) as u16
+    let y = (x ^ (x / 4294967296)) % 4294967296;
+    (y * 2654435769 / 65536 % 65536) as u16
 }
 
 // Whether the tag is among these. There is no exit from the loop, so that it is done many tags at a time.
@@ -74,6 +84,23 @@ fn has_tag(tags: &[u16], t: u16) -> bool
     hit
 }
 
+// Whether no slot before k has this name, whose tag is t: only those with the tag are looked at.
+fn is_other(table: &[u8], k: usize, tags: &[u16], t: u16, name: &[u8]) -> bool
+    requires { ⌜ (140 * k ≤ length (now table)) × (length (now tags) ≡ k) × Tagged (now table) k (now tags) × (t ≡ tagOf (now name)) ⌝ }
+    ensures { λ r. ⌜ r ≡ isNothing (findSlot (now (table .entry)) (now (name .entry)) k) ⌝ }
+{
+    let mut j: usize = 0;
+    while j < k {
+        if tags[j] == t {
+            if is_named(fields::record_at(table, j), name) {
+                return false;
+            }
+        }
+        j += 1;
+    }
+    true
+}
+
 // Whether no slot before k has this name, whose tag is t; the tags of the labels before k are at hand, and a mark for each
 // remainder of them by 4,096. The marks are bits, in a map of crate tracks, where what is marked is called free.
 fn is_new<'a>(table: &[u8], k: usize, tags: &'a [u16], seen: &'a [u64], t: u16, name: &[u8]) -> bool
@@ -85,10 +112,7 @@ fn is_new<'a>(table: &[u8], k: usize, tags: &'a [u16], seen: &'a [u64], t: u16, 
         return true;
     }
     if has_tag(tags, t) {
-        let Found::Slot(j) = find(table, k, name) else {
-            return true;
-        };
-        return false;
+        return is_other(table, k, tags, t, name);
     }
     true
 }

@@ -4,3 +4,4 @@ pub mod Walk
 pub mod Counting
 pub mod Near
 pub mod Held
+pub mod Far

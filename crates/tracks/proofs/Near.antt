@@ -1,4 +1,4 @@
--- Runs that end within one word: the 64 tracks from a track on, or the rest of its own word. Assumes nothing.
+-- Runs that end within one word, the rest of a track's own. Assumes nothing.
 use mathlib.Core.Path.{_≡_, refl, sym, ap, _∙_}
 use mathlib.Core.Logic.{⊎-elim}
 use mathlib.Core.List.{List}
@@ -6,99 +6,14 @@ use Prim.Native.Nat.{ℕ, _+_, _-_, _*_, _/_, _%_, _^_, _≤_, _<_}
 use native.Mathlib.Nat.{le-refl}
 use native.Mathlib.Omega.{arith}
 use lib.ListN.{getD}
-use lib.Bits.{bitAnd, bitOr, bitXor, or-lt}
+use lib.Bits.{bitAnd, bitOr, or-lt}
 use lib.Count.{trailingZeros}
 use Rattle.tracks.specs.Map.{NextRun, bitAt, freeBit}
-use Rattle.tracks.specs.Steps.{Rest, Window}
-use Rattle.tracks.proofs.Bits.{above-word, all-ones, and-bit, le-or-lt, not-bit, one-less, or-bit, shr-bit, trailing-one, trailing-small, trailing-zero, up-bit, up-low, zero-bit}
+use Rattle.tracks.specs.Steps.{Rest}
+use Rattle.tracks.proofs.Bits.{all-ones, and-bit, le-or-lt, one-less, or-bit, trailing-one, trailing-small, trailing-zero, up-bit, up-low, zero-bit}
 use Rattle.tracks.proofs.Counting.{free-le}
 use Rattle.tracks.proofs.Walk.{next-run-law}
 use Rattle.tracks.proofs.Words.{in-word}
-
--- ---- two words that join
-
--- the tracks from t on that lie in its word
-abbrev front : List ℕ → ℕ → ℕ
-front m t = getD m (t / 64) 0 / 2 ^ (t % 64)
-
-front-bit : (m : List ℕ) (t j : ℕ) → t % 64 + j < 64 → bitAt (front m t) j ≡ freeBit m (t + j)
-front-bit m t j h =
-    let p : t % 64 + j ≡ (t + j) % 64 = omega arith in
-    shr-bit (getD m (t / 64) 0) (t % 64) j ∙ ap (bitAt (getD m (t / 64) 0)) p ∙ in-word m (t / 64) (t + j) (omega arith)
-
-module _ (m : List ℕ) (t : ℕ) (small : getD m (t / 64) 0 < 2 ^ 64) where
-  abbrev next : ℕ
-  next = getD m (t / 64 + 1) 0
-
-  abbrev rear : ℕ
-  rear = next * 2 % 2 ^ 64 * 2 ^ (63 - t % 64) % 2 ^ 64
-
-  -- where the two shifts meet
-  rear-seam : bitAt rear (63 - t % 64) ≡ 0
-  rear-seam =
-      let p : 63 - t % 64 + 0 ≡ 63 - t % 64 = omega arith in
-      ap (bitAt rear) (sym p) ∙ up-bit (next * 2 % 2 ^ 64) (63 - t % 64) 0 (omega arith) ∙ up-low next 1 0 (omega arith) (omega arith)
-
-  rear-low : (j : ℕ) → t % 64 + j < 64 → bitAt rear j ≡ 0
-  rear-low j h =
-      ⊎-elim
-      (λ g. let p : 63 - t % 64 ≡ j = omega arith in ap (bitAt rear) (sym p) ∙ rear-seam)
-      (λ g. up-low (next * 2 % 2 ^ 64) (63 - t % 64) j (omega arith) g)
-      (le-or-lt (63 - t % 64) j)
-
-  rear-bit : (i : ℕ) → 64 - t % 64 + i < 64 → bitAt rear (64 - t % 64 + i) ≡ bitAt next i
-  rear-bit i h =
-      let p : 63 - t % 64 + (1 + i) ≡ 64 - t % 64 + i = omega arith in
-      ap (bitAt rear) (sym p) ∙ up-bit (next * 2 % 2 ^ 64) (63 - t % 64) (1 + i) (omega arith) ∙ up-bit next 1 i (omega arith)
-
-  pub window-law : Window m t (bitOr (front m t) rear)
-  window-law j h =
-      ⊎-elim
-      (λ g.
-      let i = (t + j) % 64 in
-      let p : 64 - t % 64 + i ≡ j = omega arith in
-      let a : bitAt (front m t) j ≡ 0 = shr-bit (getD m (t / 64) 0) (t % 64) j ∙ above-word (getD m (t / 64) 0) (t % 64 + j) small g in
-      let b : bitAt rear j ≡ freeBit m (t + j) = ap (bitAt rear) (sym p) ∙ rear-bit i (omega arith) ∙ in-word m (t / 64 + 1) (t + j) (omega arith) in
-      omega (arith, or-bit (front m t) rear j))
-      (λ g. omega (arith, or-bit (front m t) rear j, front-bit m t j g, rear-low j g))
-      (le-or-lt 64 (t % 64 + j))
-
--- ---- the first run, by trailing zeros
-
-module _ (x : ℕ) where
-  abbrev first : ℕ
-  first = trailingZeros 64 x
-
-  -- the word from its first free track on, complemented
-  abbrev pub tail : ℕ
-  tail = bitXor (x / 2 ^ first) 0xffff_ffff_ffff_ffff
-
-module _ (m : List ℕ) (s n x : ℕ) (seen : Window m s x) where
-  tail-bit : (i : ℕ) → first x + i < 64 → bitAt (tail x) i ≡ 1 - freeBit m (s + (first x + i))
-  tail-bit i h = omega (arith, not-bit (x / 2 ^ first x) i (omega arith), shr-bit x (first x) i, seen (first x + i) h)
-
-  pub near-run : first x + trailingZeros 64 (tail x) < 64 → s + (first x + trailingZeros 64 (tail x)) < n → NextRun m n s (s + first x) (s + (first x + trailingZeros 64 (tail x)))
-  near-run h room =
-      let l = trailingZeros 64 (tail x) in
-      next-run-law m n s (s + first x) (s + (first x + l))
-      (record {
-        from = omega arith;
-        to = omega arith;
-        before = λ t u v.
-            let i = t - s in
-            let e : s + i ≡ t = omega arith in
-            ap (freeBit m) (sym e) ∙ sym (seen i (omega arith)) ∙ trailing-zero 64 x i (omega arith);
-        here = λ _. sym (seen (first x) (omega arith)) ∙ trailing-one 64 x (omega arith);
-      })
-      (record {
-        from = omega arith;
-        to = omega arith;
-        before = λ t u v.
-            let i = t - (s + first x) in
-            let e : s + (first x + i) ≡ t = omega arith in
-            ap (freeBit m) (sym e) ∙ omega (arith, tail-bit i (omega arith), trailing-zero 64 (tail x) i (omega arith), free-le m (s + (first x + i)));
-        here = λ _. omega (arith, tail-bit l h, trailing-one 64 (tail x) (omega arith));
-      })
 
 -- ---- the tracks from a track on, at their places in its word
 
@@ -120,110 +35,112 @@ rest-none m n t h = record { clear = λ j u. zero-bit j; shown = λ i u v w. abs
 
 -- ---- the first run of a word and its end, by one less and one more
 
-module _ (x : ℕ) (some : x ≡ 0 → ⊥) (fits : x < 2 ^ 64) (gap : bitOr x (x - 1) ≡ 0xffff_ffff_ffff_ffff → ⊥) where
-  -- x with ones below its first run; one more carries to the bit behind the run
-  abbrev filled : ℕ
+module _ (x : ℕ) (some : x ≡ 0 → ⊥) (fits : x < 2 ^ 64) where
+  -- x with ones below its first run
+  abbrev pub filled : ℕ
   filled = bitOr x (x - 1)
 
-  abbrev z : ℕ
-  z = filled + 1
-
-  abbrev start : ℕ
+  abbrev pub start : ℕ
   start = trailingZeros 64 x
-
-  abbrev stop : ℕ
-  stop = trailingZeros 64 z
-
-  pub more-fits : z < 2 ^ 64
-  more-fits = omega (arith, or-lt 64 x (x - 1) fits (omega arith))
 
   pub start-lt : start < 64
   start-lt = trailing-small 64 x fits some
 
-  pub stop-lt : stop < 64
-  stop-lt = trailing-small 64 z more-fits (λ e. absurd (omega arith))
-
   less : (j : ℕ) → (j < start → bitAt (x - 1) j ≡ 1) × (j ≡ start → bitAt (x - 1) j ≡ 0) × (start < j → bitAt (x - 1) j ≡ bitAt x j)
   less = one-less start (x - 1) x (omega arith) (trailing-zero 64 x) (trailing-one 64 x start-lt)
 
-  ends : (j : ℕ) → (j < stop → bitAt filled j ≡ 1) × (j ≡ stop → bitAt filled j ≡ 0) × (stop < j → bitAt filled j ≡ bitAt z j)
-  ends = one-less stop filled z refl (trailing-zero 64 z) (trailing-one 64 z stop-lt)
-
   -- from the run on it is x
-  filled-high : (j : ℕ) → start ≤ j → bitAt filled j ≡ bitAt x j
+  pub filled-high : (j : ℕ) → start ≤ j → bitAt filled j ≡ bitAt x j
   filled-high j h =
       ⊎-elim (λ g. omega (arith, or-bit x (x - 1) j, less j .1 (omega arith))) (λ g. omega (arith, or-bit x (x - 1) j, less j .2 g)) (le-or-lt j start)
 
-  upto-start : (j : ℕ) → j ≤ start → bitAt filled j ≡ 1
+  pub upto-start : (j : ℕ) → j ≤ start → bitAt filled j ≡ 1
   upto-start j h =
       ⊎-elim
       (λ g. let e : start ≡ j = omega arith in ap (bitAt filled) (sym e) ∙ filled-high start (le-refl start) ∙ trailing-one 64 x start-lt)
       (λ g. omega (arith, or-bit x (x - 1) j, less j .0 g))
       (le-or-lt start j)
 
-  start-stop : start < stop
-  start-stop =
-      ⊎-elim
-      (λ g. absurd (omega (arith, ends stop .1 refl, upto-start stop g)))
-      (λ g. g)
-      (le-or-lt stop start)
+  -- one more carries to the bit behind the run
+  module _ (gap : bitOr x (x - 1) ≡ 0xffff_ffff_ffff_ffff → ⊥) where
+    abbrev z : ℕ
+    z = filled + 1
 
-  run-in : (j : ℕ) → start ≤ j → j < stop → bitAt x j ≡ 1
-  run-in j u v = sym (filled-high j u) ∙ ends j .0 v
+    abbrev stop : ℕ
+    stop = trailingZeros 64 z
 
-  run-end : bitAt x stop ≡ 0
-  run-end = let s = start-stop in sym (filled-high stop (omega arith)) ∙ ends stop .1 refl
+    pub more-fits : z < 2 ^ 64
+    more-fits = omega (arith, or-lt 64 x (x - 1) fits (omega arith))
 
-  left-low : (j : ℕ) → j < stop → bitAt (bitAnd x z) j ≡ 0
-  left-low j h = omega (arith, and-bit x z j, trailing-zero 64 z j h)
+    pub stop-lt : stop < 64
+    stop-lt = trailing-small 64 z more-fits (λ e. absurd (omega arith))
 
-  left-high : (j : ℕ) → stop ≤ j → bitAt (bitAnd x z) j ≡ bitAt x j
-  left-high j h =
-      let s = start-stop in
-      ⊎-elim
-      (λ g.
-      let e : stop ≡ j = omega arith in
-      let o : bitAt x j ≡ 0 = ap (bitAt x) (sym e) ∙ run-end in
-      omega (arith, and-bit x z j))
-      (λ g. omega (arith, and-bit x z j, ends j .2 g, filled-high j (omega arith)))
-      (le-or-lt j stop)
+    ends : (j : ℕ) → (j < stop → bitAt filled j ≡ 1) × (j ≡ stop → bitAt filled j ≡ 0) × (stop < j → bitAt filled j ≡ bitAt z j)
+    ends = one-less stop filled z refl (trailing-zero 64 z) (trailing-one 64 z stop-lt)
 
-  module _ (m : List ℕ) (n t : ℕ) (seen : Rest m n t x) (inside : t - t % 64 + stop < n) where
-    -- no bit before track t is set
-    from-t : t % 64 ≤ start
-    from-t = ⊎-elim (λ g. g) (λ g. absurd (omega (arith, seen .clear start g, trailing-one 64 x start-lt))) (le-or-lt (t % 64) start)
+    start-stop : start < stop
+    start-stop =
+        ⊎-elim
+        (λ g. absurd (omega (arith, ends stop .1 refl, upto-start stop g)))
+        (λ g. g)
+        (le-or-lt stop start)
 
-    track : (i j : ℕ) → t % 64 ≤ j → j ≤ stop → t - t % 64 + j ≡ i → freeBit m i ≡ bitAt x j
-    track i j u v e =
-        let l = stop-lt in
-        let p : i % 64 ≡ j = omega arith in
-        sym (seen .shown i (omega arith) (omega arith) (omega arith)) ∙ ap (bitAt x) p
+    run-in : (j : ℕ) → start ≤ j → j < stop → bitAt x j ≡ 1
+    run-in j u v = sym (filled-high j u) ∙ ends j .0 v
 
-    pub run-here : NextRun m n t (t - t % 64 + start) (t - t % 64 + stop)
-    run-here =
-        let f = from-t in
+    run-end : bitAt x stop ≡ 0
+    run-end = let s = start-stop in sym (filled-high stop (omega arith)) ∙ ends stop .1 refl
+
+    left-low : (j : ℕ) → j < stop → bitAt (bitAnd x z) j ≡ 0
+    left-low j h = omega (arith, and-bit x z j, trailing-zero 64 z j h)
+
+    left-high : (j : ℕ) → stop ≤ j → bitAt (bitAnd x z) j ≡ bitAt x j
+    left-high j h =
         let s = start-stop in
-        let b = t - t % 64 in
-        next-run-law m n t (b + start) (b + stop)
-        (record {
-          from = omega arith;
-          to = omega arith;
-          before = λ i u v. track i (i - b) (omega arith) (omega arith) (omega arith) ∙ trailing-zero 64 x (i - b) (omega arith);
-          here = λ _. track (b + start) start f (omega arith) refl ∙ trailing-one 64 x start-lt;
-        })
-        (record {
-          from = omega arith;
-          to = omega arith;
-          before = λ i u v. track i (i - b) (omega arith) (omega arith) (omega arith) ∙ run-in (i - b) (omega arith) (omega arith);
-          here = λ _. track (b + stop) stop (omega arith) (le-refl stop) refl ∙ run-end;
-        })
+        ⊎-elim
+        (λ g.
+        let e : stop ≡ j = omega arith in
+        let o : bitAt x j ≡ 0 = ap (bitAt x) (sym e) ∙ run-end in
+        omega (arith, and-bit x z j))
+        (λ g. omega (arith, and-bit x z j, ends j .2 g, filled-high j (omega arith)))
+        (le-or-lt j stop)
 
-    pub rest-here : Rest m n (t - t % 64 + stop) (bitAnd x z)
-    rest-here =
-        let f = from-t in
-        let s = start-stop in
-        let l = stop-lt in
-        record {
-          clear = λ j h. left-low j (omega arith);
-          shown = λ i u v w. left-high (i % 64) (omega arith) ∙ seen .shown i (omega arith) v (omega arith);
-        }
+    module _ (m : List ℕ) (n t : ℕ) (seen : Rest m n t x) (inside : t - t % 64 + stop < n) where
+      -- no bit before track t is set
+      from-t : t % 64 ≤ start
+      from-t = ⊎-elim (λ g. g) (λ g. absurd (omega (arith, seen .clear start g, trailing-one 64 x start-lt))) (le-or-lt (t % 64) start)
+
+      track : (i j : ℕ) → t % 64 ≤ j → j ≤ stop → t - t % 64 + j ≡ i → freeBit m i ≡ bitAt x j
+      track i j u v e =
+          let l = stop-lt in
+          let p : i % 64 ≡ j = omega arith in
+          sym (seen .shown i (omega arith) (omega arith) (omega arith)) ∙ ap (bitAt x) p
+
+      pub run-here : NextRun m n t (t - t % 64 + start) (t - t % 64 + stop)
+      run-here =
+          let f = from-t in
+          let s = start-stop in
+          let b = t - t % 64 in
+          next-run-law m n t (b + start) (b + stop)
+          (record {
+            from = omega arith;
+            to = omega arith;
+            before = λ i u v. track i (i - b) (omega arith) (omega arith) (omega arith) ∙ trailing-zero 64 x (i - b) (omega arith);
+            here = λ _. track (b + start) start f (omega arith) refl ∙ trailing-one 64 x start-lt;
+          })
+          (record {
+            from = omega arith;
+            to = omega arith;
+            before = λ i u v. track i (i - b) (omega arith) (omega arith) (omega arith) ∙ run-in (i - b) (omega arith) (omega arith);
+            here = λ _. track (b + stop) stop (omega arith) (le-refl stop) refl ∙ run-end;
+          })
+
+      pub rest-here : Rest m n (t - t % 64 + stop) (bitAnd x z)
+      rest-here =
+          let f = from-t in
+          let s = start-stop in
+          let l = stop-lt in
+          record {
+            clear = λ j h. left-low j (omega arith);
+            shown = λ i u v w. left-high (i % 64) (omega arith) ∙ seen .shown i (omega arith) v (omega arith);
+          }

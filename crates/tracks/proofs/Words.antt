@@ -10,14 +10,13 @@ use native.Mathlib.Omega.{arith}
 use borrow.Author.Tests.{lt-ltb}
 use lib.Dec.{ltb}
 use lib.Bits.{bitAnd, bitOr, bitXor}
-use lib.Count.{trailingZeros}
 use lib.ListN.{length, getD, set, length-set}
 use lib.Seq.{getD-set-same, getD-set-other}
 use Rattle.model.specs.Basics.{bit}
 use Rattle.model.proofs.Lists.{clash}
 use Rattle.tracks.specs.Map.{AllFree, Hit, Made, Taken, bitAt, freeBit}
 use Rattle.tracks.specs.Steps.{Passed, WordAt, block, flipped}
-use Rattle.tracks.proofs.Bits.{all-ones, and-bit, block-high, block-in, block-low, block-lt, lacks, le-or-lt, not-bit, or-bit, or-none, shr-bit, trailing-one, trailing-zero, xor-bit, xor-none, zero-bit}
+use Rattle.tracks.proofs.Bits.{all-ones, and-bit, block-high, block-in, block-low, block-lt, lacks, le-or-lt, not-bit, or-bit, or-none, xor-bit, xor-none, zero-bit}
 
 -- the mask of the n tracks from t on, in t's word
 abbrev mask : ℕ → ℕ → ℕ
@@ -123,12 +122,6 @@ hit-before m m′ s t e a c h =
 
 -- ---- the first track that is free, or is not
 
-flip-bit : (b : Bool) (x j : ℕ) → j < 64
-    → (bitAt (flipped b x) j ≡ 0 → bitAt x j ≡ 1 - bit b) × (bitAt (flipped b x) j ≡ 1 → bitAt x j ≡ bit b)
-unfolding flipped
-flip-bit true x j h = (λ e. e, λ e. e)
-flip-bit false x j h = let n = not-bit x j h in let u : bitAt x j < 2 = omega arith in (λ e. omega arith, λ e. omega arith)
-
 -- a word of zeros, or of ones where b is false
 plain-bit : (b : Bool) (i : ℕ) → i < 64 → bitAt (flipped b 0) i ≡ 1 - bit b
 unfolding flipped
@@ -175,32 +168,6 @@ module _ (m : List ℕ) (b : Bool) (s n p : ℕ) (plain : p ≡ flipped b 0) (fi
       let three = pass-at (r + 64 + 64) (w + 2) two (omega arith) (omega arith) (high .0) in
       let e : r + 64 + 64 + 64 + 64 ≡ r + 256 = omega arith in
       subst (Passed m b s n) e (pass-at (r + 64 + 64 + 64) (w + 3) three (omega arith) (omega arith) (high .1))
-
-module _ (m : List ℕ) (b : Bool) (t n : ℕ) (k : t % 64 + n ≤ 64) where
-  -- what the code counts the trailing zeros of: the word from track t on, complemented where b is false
-  abbrev pub word : ℕ
-  word = flipped b (getD m (t / 64) 0) / 2 ^ (t % 64)
-
-  pub off-turn : (j : ℕ) → t ≤ j → j < t + n → j < t + trailingZeros 64 word → freeBit m j ≡ 1 - bit b
-  unfolding freeBit
-  off-turn j u v w =
-      let e : j / 64 ≡ t / 64 = omega arith in
-      let i = j - t in
-      let z = trailing-zero 64 word i (omega arith) in
-      let s = shr-bit (flipped b (getD m (t / 64) 0)) (t % 64) i in
-      let p : t % 64 + i ≡ j % 64 = omega arith in
-      rw e (flip-bit b (getD m (t / 64) 0) (j % 64) (omega arith) .0 (ap (λ (q : ℕ). bitAt (flipped b (getD m (t / 64) 0)) q) (sym p) ∙ sym s ∙ z))
-
-  pub on-turn : trailingZeros 64 word < n → freeBit m (t + trailingZeros 64 word) ≡ bit b
-  unfolding freeBit
-  on-turn w =
-      let i = trailingZeros 64 word in
-      let j = t + i in
-      let e : j / 64 ≡ t / 64 = omega arith in
-      let z = trailing-one 64 word (omega arith) in
-      let s = shr-bit (flipped b (getD m (t / 64) 0)) (t % 64) i in
-      let p : t % 64 + i ≡ j % 64 = omega arith in
-      rw e (flip-bit b (getD m (t / 64) 0) (j % 64) (omega arith) .1 (ap (λ (q : ℕ). bitAt (flipped b (getD m (t / 64) 0)) q) (sym p) ∙ sym s ∙ z))
 
 -- ---- the map at the beginning
 

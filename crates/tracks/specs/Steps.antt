@@ -3,6 +3,7 @@ use Prim.Native.Nat.{ℕ, suc, _+_, _-_, _*_, _/_, _%_, _^_, _≤_, _<_, min}
 use mathlib.Core.Path.{_≡_}
 use mathlib.Core.Bool.{Bool, true, false}
 use mathlib.Core.List.{List}
+use lib.ListN.{getD}
 use lib.Dec.{ltb}
 use lib.Bits.{bitXor}
 use Rattle.model.specs.Basics.{bit}
@@ -40,9 +41,31 @@ pub record Rest (m : List ℕ) (n t x : ℕ) : Type 0 where
   pub clear : (j : ℕ) → j < t % 64 → bitAt x j ≡ 0
   pub shown : (i : ℕ) → t ≤ i → i < n → i / 64 ≡ t / 64 → bitAt x (i % 64) ≡ freeBit m i
 
--- the word of the 64 tracks from track t on
-abbrev pub Window : List ℕ → ℕ → ℕ → Type 0
-Window m t r = (j : ℕ) → j < 64 → bitAt r j ≡ freeBit m (t + j)
+-- the words from w up to r are p; the one at r, below e, is not
+pub record Plain (m : List ℕ) (p w e r : ℕ) : Type 0 where
+  pub from : w ≤ r
+  pub to : r ≤ e
+  pub before : (i : ℕ) → w ≤ i → i < r → getD m i 0 ≡ p
+  pub here : r < e → getD m r 0 ≡ p → ⊥
+
+-- y shows the tracks from t on and below n that lie in word w, at their places in it; no bits before t
+pub record Part (m : List ℕ) (n t w y : ℕ) : Type 0 where
+  pub clear : (j : ℕ) → 64 * w + j < t → bitAt y j ≡ 0
+  pub shown : (i : ℕ) → t ≤ i → i < n → i / 64 ≡ w → bitAt y (i % 64) ≡ freeBit m i
+
+-- word w, below word e, is the first with a free track from t on and below n, and y shows these; y is 0 where there is none
+pub record Word (m : List ℕ) (n t e w y : ℕ) : Type 0 where
+  pub part : Part m n t w y
+  pub before : (i : ℕ) → t ≤ i → i < n → i < 64 * w → freeBit m i ≡ 0
+  pub none : y ≡ 0 → n ≤ 64 * w
+  pub some : (y ≡ 0 → ⊥) → w < e
+
+-- the tracks from a on are free up to word w, whose tracks y shows; `low` is y from track a on, and all ones before
+pub record Ending (m : List ℕ) (n a w y low : ℕ) : Type 0 where
+  pub before : (i : ℕ) → a ≤ i → i < n → i < 64 * w → freeBit m i ≡ 1
+  pub shown : (i : ℕ) → a ≤ i → i < n → i / 64 ≡ w → bitAt y (i % 64) ≡ freeBit m i
+  pub same : (j : ℕ) → a ≤ 64 * w + j → bitAt low j ≡ bitAt y j
+  pub filled : (j : ℕ) → 64 * w + j < a → bitAt low j ≡ 1
 
 -- the bits of the word x with a clear bit before them, where y is the word before x
 pub record Starts (y x r : ℕ) : Type 0 where

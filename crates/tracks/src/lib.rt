@@ -1,10 +1,12 @@
 // The map of free tracks, a bit a track: track t is bit t % 64 of word t / 64, set where the track is free.
 // No loop goes by tracks: each turn does the rest of a word.
 ghost use mathlib.Core.Path.{_≡_};
-ghost use Prim.Native.Nat.{_+_, _-_, _*_, _/_, _%_, _≤_, _<_, min};
+ghost use mathlib.Core.Bool.{false};
+ghost use mathlib.Core.List.{List};
+ghost use Prim.Native.Nat.{ℕ, _+_, _-_, _*_, _/_, _%_, _≤_, _<_, min};
 ghost use lib.ListN.{length};
 ghost use Rattle.tracks.specs.Map.{freeFrom, isFree, Opened, Taken, Given, NextRun};
-ghost use Rattle.tracks.specs.Steps.{First, Passed, Rest, Starts, Window, block, flipped};
+ghost use Rattle.tracks.specs.Steps.{Ending, First, Passed, Plain, Rest, Starts, Word, block, flipped};
 
 const ALL: u64 = 0xffff_ffff_ffff_ffff;
 
@@ -166,65 +168,10 @@ fn skip(map: &[u64], t: usize, n: usize, free: bool) -> usize
     r
 }
 
-// The first track from s on and below n that is free (or is not); n where there is none.
-fn next_track(map: &[u64], s: usize, n: usize, free: bool) -> usize
-    requires { ⌜ (s ≤ n) × (n ≤ 64 * length (now map)) ⌝ }
-    ensures { λ r. ⌜ First (now (map .entry)) free s n r ⌝ }
-{
-    let mut t = s;
-    while t < n {
-        let k = chunk(t, n);
-        let w = t / 64;
-        let x = flip(map[w], free);
-        let y = x >> (t % 64);
-        let z = u64::trailing_zeros(y) as usize;
-        if z < k {
-            return t + z;
-        }
-        t = skip(map, t + k, n, free);
-    }
-    n
-}
-
 // Tracks from the first up to the one behind the last.
 pub struct Span {
     pub from: usize,
     pub to: usize,
-}
-
-// The 64 tracks from t on as one word, track t in its lowest bit. Two shifts up, since one by 64 - o may be by 64.
-fn window(map: &[u64], t: usize) -> u64
-    requires { ⌜ t / 64 + 1 < length (now map) ⌝ }
-    ensures { λ r. ⌜ Window (now (map .entry)) t r ⌝ }
-{
-    let w = t / 64;
-    let o = t % 64;
-    (map[w] >> o) | ((map[w + 1] << 1) << (63 - o))
-}
-
-// The first run of free tracks from s on and below n; from n to n where there is none. A run that ends within 64 tracks
-// is read off one word.
-pub fn next_run(map: &[u64], s: usize, n: usize) -> Span
-    requires { ⌜ (s ≤ n) × (n ≤ 64 * length (now map)) ⌝ }
-    ensures { λ r. ⌜ NextRun (now (map .entry)) n s (r .from) (r .to) ⌝ }
-{
-    if n - s > 64 {
-        let x = window(map, s);
-        let a = u64::trailing_zeros(x) as usize;
-        if a < 64 {
-            let b = u64::trailing_zeros((x >> a) ^ ALL) as usize;
-            let c = a + b;
-            if c < 64 {
-                return Span {
-                    from: s + a,
-                    to: s + c,
-                };
-            }
-        }
-    }
-    let from = next_track(map, s, n, true);
-    let to = next_track(map, from, n, false);
-    Span { from, to }
 }
 
 // The tracks from t on that lie in its word, at their places in it; the bits before t are clear.
@@ -244,6 +191,144 @@ pub struct Ahead {
     pub from: usize,
     pub to: usize,
     pub rest: u64,
+}
+
+// The first word from word w on and below word e that is not `plain`; e where there is none. The first ones are compared one by
+// one, since most runs are short.
+fn pass(map: &[u64], w: usize, e: usize, plain: u64) -> usize
+    requires { ⌜ (w ≤ e) × (e ≤ length (now map)) ⌝ }
+    ensures { λ r. ⌜ Plain (now (map .entry)) plain w e r ⌝ }
+{
+    let mut r = w;
+    while 4 <= e - r {
+        if map[r] != plain {
+            return r;
+        }
+        if map[r + 1] != plain {
+            return r + 1;
+        }
+        if map[r + 2] != plain {
+            return r + 2;
+        }
+        if map[r + 3] != plain {
+            return r + 3;
+        }
+        r += 4;
+    }
+    while r < e {
+        if map[r] != plain {
+            return r;
+        }
+        r += 1;
+    }
+    r
+}
+
+// A word of the map, by its number, and tracks of it.
+struct Place {
+    at: usize,
+    word: u64,
+}
+
+// The first word from t's on and below word e in which a track from t on is free, and these tracks; x are those of t's own.
+fn word_ahead(map: &[u64], t: usize, e: usize, x: u64) -> Place
+    requires { ⌜ (t / 64 < e) × (e ≤ length (now map)) ⌝ }
+    ensures { λ r. ⌜ ((n : ℕ) → n ≤ 64 * e → Rest (now (map .entry)) n t x → Word (now (map .entry)) n t e (r .at) (r .word)) ⌝ }
+{
+    let w = t / 64;
+    if x != 0 {
+        return Place { at: w, word: x };
+    }
+    let v = pass(map, w + 1, e, 0);
+    if v < e {
+        return Place {
+            at: v,
+            word: map[v],
+        };
+    }
+    Place { at: e, word: 0 }
+}
+
+// The run from track `from` up to the first track of word w that is not free, the lowest bit that is not in `low`; y has the
+// tracks of word w. Behind the run y shows what is left.
+fn stop_at(n: usize, from: usize, w: usize, y: u64, low: u64) -> Ahead
+    requires { ⌜ (64 * w < n) × (from < n) × (low ≡ 0xffff_ffff_ffff_ffff → ⊥) ⌝ }
+    ensures { λ r. ⌜ (r .from ≡ from) × ((m : List ℕ) → Ending m n from w y low → First m false from n (r .to) × Rest m n (r .to) (r .rest)) ⌝ }
+{
+    let z = low + 1;
+    let to = 64 * w + u64::trailing_zeros(z) as usize;
+    if to < n {
+        return Ahead {
+            from,
+            to,
+            rest: y & z,
+        };
+    }
+    Ahead {
+        from,
+        to: n,
+        rest: 0,
+    }
+}
+
+// As run_ahead, for a run that leaves t's word: the words behind are passed over, and the one in which it starts or ends is kept.
+fn run_far(map: &[u64], t: usize, n: usize, x: u64) -> Ahead
+    requires { ⌜ (t ≤ n) × (n ≤ 64 * length (now map)) × Rest (now map) n t x ⌝ }
+    ensures { λ r. ⌜ NextRun (now (map .entry)) n t (r .from) (r .to) × Rest (now (map .entry)) n (r .to) (r .rest) ⌝ }
+{
+    if t < n {} else {
+        return Ahead {
+            from: n,
+            to: n,
+            rest: 0,
+        };
+    }
+    let e = (n - 1) / 64 + 1;
+    let p = word_ahead(map, t, e, x);
+    let w = p.at;
+    let y = p.word;
+    if y == 0 {
+        return Ahead {
+            from: n,
+            to: n,
+            rest: 0,
+        };
+    }
+    let from = 64 * w + u64::trailing_zeros(y) as usize;
+    if from < n {} else {
+        return Ahead {
+            from: n,
+            to: n,
+            rest: 0,
+        };
+    }
+    let low = y | (y - 1);
+    if low != ALL {
+        return stop_at(n, from, w, y, low);
+    }
+    let v = pass(map, w + 1, e, ALL);
+    if v < e {
+        let q = map[v];
+        return stop_at(n, from, v, q, q);
+    }
+    Ahead {
+        from,
+        to: n,
+        rest: 0,
+    }
+}
+
+// The first run of free tracks from s on and below n; from n to n where there is none.
+pub fn next_run(map: &[u64], s: usize, n: usize) -> Span
+    requires { ⌜ (s ≤ n) × (n ≤ 64 * length (now map)) ⌝ }
+    ensures { λ r. ⌜ NextRun (now (map .entry)) n s (r .from) (r .to) ⌝ }
+{
+    let x = rest_of(map, s, n);
+    let r = run_far(map, s, n, x);
+    Span {
+        from: r.from,
+        to: r.to,
+    }
 }
 
 // The first run of free tracks from t on and below n, as next_run, for runs that are wanted one after the other: x shows the
@@ -269,13 +354,7 @@ pub fn run_ahead(map: &[u64], t: usize, n: usize, x: u64) -> Ahead
             }
         }
     }
-    let r = next_run(map, t, n);
-    let to = r.to;
-    Ahead {
-        from: r.from,
-        to,
-        rest: rest_of(map, to, n),
-    }
+    run_far(map, t, n, x)
 }
 
 // The tracks of the word x that are free behind one that is not; y is the word before x.

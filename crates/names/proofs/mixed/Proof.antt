@@ -1,47 +1,48 @@
-use Rattle.names.proofs.Laws.{mixed-is}
 use borrow.Author.Needs.{needs}
+use Rattle.names.proofs.Laws.{mixed-is}
 use Rattle.names.proofs.mixed.Statement.{statement}
 use Rattle.names.proofs.mixed.Tie as tie
 use Rattle.names.proofs.mixed.Reads as reads
 use Rattle.names.proofs.mixed.Lts as lts
-use Rattle.fields.proofs.word8.Reads as word8-reads
+use Rattle.names.proofs.keyed.Reads as keyed-reads
 
--- src/lib.rt:45:13
-word8-requires : tie.Need-word8-requires
-word8-requires c κs = search needs
+-- src/lib.rt:55:13
+keyed-requires : tie.Need-keyed-requires
+keyed-requires c κs = search needs
 
--- src/lib.rt:45:38
-word8-requires-2 : tie.Need-word8-requires-2
-word8-requires-2 c κs = search needs
+-- src/lib.rt:55:53
+keyed-requires-2 : tie.Need-keyed-requires-2
+keyed-requires-2 c κs = search needs
 
--- src/lib.rt:46:13
-word8-requires-3 : tie.Need-word8-requires-3
-word8-requires-3 c κs = search needs
+-- src/lib.rt:56:13
+keyed-requires-3 : tie.Need-keyed-requires-3
+keyed-requires-3 c κs = search needs
 
--- src/lib.rt:46:39
-word8-requires-4 : tie.Need-word8-requires-4
-word8-requires-4 c κs = search needs
+-- src/lib.rt:56:54
+keyed-requires-4 : tie.Need-keyed-requires-4
+keyed-requires-4 c κs = search needs
 
--- src/lib.rt:47:13
-word8-requires-5 : tie.Need-word8-requires-5
-word8-requires-5 c κs = search needs
+-- src/lib.rt:57:13
+keyed-requires-5 : tie.Need-keyed-requires-5
+keyed-requires-5 c κs = search needs
 
--- src/lib.rt:47:39
-word8-requires-6 : tie.Need-word8-requires-6
-word8-requires-6 c κs = search needs
+-- src/lib.rt:57:54
+keyed-requires-6 : tie.Need-keyed-requires-6
+keyed-requires-6 c κs = search needs
 
--- src/lib.rt:41:1
+-- src/lib.rt:51:1
 returns : tie.Need-returns
-returns c = rw (c .before .before .before .before .before .word8 .ensures, c .before .before .before .before .word82 .ensures, c .before .before .before .word83 .ensures, c .before .before .word84 .ensures, c .before .word85 .ensures, c .word86 .ensures) (mixed-is (c .before .before .before .before .before .before .before .args .name .now))
+returns c =
+    mixed-is (c .before .before .before .before .before .before .before .args .name .now) _ _ _ _ _ _ (c .before .before .before .before .before .keyed .ensures) (c .before .before .before .before .keyed2 .ensures) (c .before .before .before .keyed3 .ensures) (c .before .before .keyed4 .ensures) (c .before .keyed5 .ensures) (c .keyed6 .ensures)
 
 pub mixed-spec : {M : Type 1} → statement M
 mixed-spec =
     tie.close
     (tie.spec
-    word8-requires
-    word8-requires-2
-    word8-requires-3
-    word8-requires-4
-    word8-requires-5
-    word8-requires-6
+    keyed-requires
+    keyed-requires-2
+    keyed-requires-3
+    keyed-requires-4
+    keyed-requires-5
+    keyed-requires-6
     returns)

@@ -5,8 +5,7 @@ use Rattle.tracks.proofs.run_ahead.Statement.{statement}
 use Rattle.tracks.proofs.run_ahead.Tie as tie
 use Rattle.tracks.proofs.run_ahead.Reads as reads
 use Rattle.tracks.proofs.run_ahead.Lts as lts
-use Rattle.tracks.proofs.next_run.Reads as next-run-reads
-use Rattle.tracks.proofs.rest_of.Reads as rest-of-reads
+use Rattle.tracks.proofs.run_far.Reads as run-far-reads
 
 -- src/lib.rt:254:22
 sub-y : tie.Need-sub-y
@@ -29,12 +28,12 @@ add-to : tie.Need-add-to
 add-to c = omega (arith, stop-lt (c .before .before .before .args .x) (c .before .if1 .taken) (omega arith) (c .if2 .taken))
 
 -- src/lib.rt:261:34
-cast-t18 : tie.Need-cast-t18
-cast-t18 c = omega (arith, start-lt (c .before .before .before .before .args .x) (c .before .before .if1 .taken) (omega arith) (c .before .if2 .taken))
+cast-t16 : tie.Need-cast-t16
+cast-t16 c = omega (arith, start-lt (c .before .before .before .before .args .x) (c .before .before .if1 .taken) (omega arith))
 
 -- src/lib.rt:261:27
-add-t19 : tie.Need-add-t19
-add-t19 c = omega (arith, start-lt (c .before .before .before .before .args .x) (c .before .before .if1 .taken) (omega arith) (c .before .if2 .taken))
+add-t17 : tie.Need-add-t17
+add-t17 c = omega (arith, start-lt (c .before .before .before .before .args .x) (c .before .before .if1 .taken) (omega arith))
 
 -- src/lib.rt:260:17
 returns : tie.Need-returns
@@ -49,13 +48,8 @@ returns c =
     let far = c .if3 .taken in
     (run-here x some (omega arith) gap m n t (top .pre .2) far, rest-here x some (omega arith) gap m n t (top .pre .2) far)
 
--- src/lib.rt:268:9
-next-run-requires : tie.Need-next-run-requires
-next-run-requires c κs = search needs
-
--- src/lib.rt:273:15
-rest-of-requires : tie.Need-rest-of-requires
-rest-of-requires c κs = search needs
+run-far-requires : tie.Need-run-far-requires
+run-far-requires c κs = search needs
 
 -- src/lib.rt:249:1
 returns-2 : tie.Need-returns-2
@@ -70,9 +64,8 @@ run-ahead-spec =
     sub-base
     cast-to
     add-to
-    cast-t18
-    add-t19
+    cast-t16
+    add-t17
     returns
-    next-run-requires
-    rest-of-requires
+    run-far-requires
     returns-2)

@@ -1,0 +1,48 @@
+use Prim.Native.Nat.{_+_}
+use native.Mathlib.Omega.{arith}
+use Rattle.fields.proofs.Pairs.{pair-is}
+use borrow.Author.Needs.{needs}
+use Rattle.fields.proofs.misfit.Statement.{statement}
+use Rattle.fields.proofs.misfit.Tie as tie
+use Rattle.fields.proofs.misfit.Reads as reads
+use Rattle.fields.proofs.misfit.Lts as lts
+use Rattle.fields.proofs.class_of.Reads as class-of-reads
+use Rattle.fields.proofs.wanted_after.Reads as wanted-after-reads
+
+-- src/lib.rt:356:18
+shared-slice-read-wanted-after : tie.Need-shared-slice-read-wanted-after
+shared-slice-read-wanted-after c = search needs
+
+-- src/lib.rt:356:5
+wanted-after-requires : tie.Need-wanted-after-requires
+wanted-after-requires c κs = search needs
+
+-- src/lib.rt:356:44
+add-class-of : tie.Need-add-class-of
+add-class-of c = search needs
+
+-- src/lib.rt:356:39
+shared-slice-read-class-of : tie.Need-shared-slice-read-class-of
+shared-slice-read-class-of c = search needs
+
+-- src/lib.rt:356:30
+class-of-requires : tie.Need-class-of-requires
+class-of-requires c κs = search needs
+
+-- src/lib.rt:352:1
+returns : tie.Need-returns
+returns c =
+    let a = c .before .before .before .before .before .args in
+    let h = c .before .shared-slice-known3 .given (a .i + 1) in
+    pair-is (a .name .now) (a .i) (c .before .before .wanted-after .result) (c .class-of .result) (omega arith) (c .before .before .wanted-after .ensures) (c .class-of .ensures)
+
+pub misfit-spec : {M : Type 1} → statement M
+misfit-spec =
+    tie.close
+    (tie.spec
+    shared-slice-read-wanted-after
+    wanted-after-requires
+    add-class-of
+    shared-slice-read-class-of
+    class-of-requires
+    returns)
