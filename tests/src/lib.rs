@@ -2,6 +2,8 @@
 //! needed to test the one against the other. See README.md.
 
 pub mod audit;
+#[cfg(feature = "library")]
+pub mod bench;
 pub mod beside;
 pub mod call;
 pub mod cases;
@@ -11,9 +13,11 @@ pub mod desk;
 pub mod exported;
 pub mod faulty;
 pub mod generate;
+pub mod irregular;
 pub mod ledger;
 #[cfg(feature = "library")]
 pub mod library;
+pub mod naming;
 #[cfg(feature = "proved")]
 pub mod proved;
 pub mod recording;
