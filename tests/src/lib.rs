@@ -1,6 +1,7 @@
 //! An implementation of the VTOC space manager unrelated to the proved one, and what is
 //! needed to test the one against the other. See README.md.
 
+pub mod agreement;
 pub mod audit;
 #[cfg(feature = "library")]
 pub mod bench;
@@ -12,6 +13,8 @@ pub mod desk;
 #[cfg(feature = "stand-in")]
 pub mod exported;
 pub mod faulty;
+#[cfg(feature = "floor")]
+pub mod floor;
 pub mod generate;
 pub mod irregular;
 pub mod ledger;

@@ -37,10 +37,16 @@ pub fn three_counters(number: usize) -> Name {
 const LEADING: &[u8] = b"ABCDEFGHIJKLMNOPQRSTUVWXYZ$#@";
 const LATER: &[u8] = b"ABCDEFGHIJKLMNOPQRSTUVWXYZ$#@0123456789-";
 
-/// A lawful name of 1 to 44 characters, each length as likely, in parts of 1 to 8.
+/// A lawful name of 1 to 44 characters, each length as likely.
 pub fn random(rng: &mut Rng) -> Name {
+    let length = 1 + rng.below(44);
+    random_of_length(rng, length)
+}
+
+/// A lawful name of so many characters, in parts of 1 to 8.
+pub fn random_of_length(rng: &mut Rng, length: usize) -> Name {
     let mut text = vec![];
-    let mut rest = 1 + rng.below(44);
+    let mut rest = length;
     while rest > 0 {
         let mut part = (1 + rng.below(8)).min(rest);
         if rest - part == 1 {

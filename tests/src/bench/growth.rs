@@ -24,11 +24,11 @@ pub fn print_by_size(effort: Effort) {
     let calls = || [Call::Obtain { name: name("BENCH.SET").to_vec() }, Volume::allocation(0, 1)];
     let mut rows: Vec<_> = volumes
         .iter()
-        .flat_map(|grown| calls().map(|call| Row::new(&grown.table, call, 0)))
+        .flat_map(|grown| calls().map(|call| Row::call(&grown.table, call, 0)))
         .collect();
-    time_in_rounds(&mut rows, effort);
+    time_in_rounds(rows.iter_mut(), effort);
     for ((c, v, d, sets), pair) in shapes.into_iter().zip(rows.chunks(2)) {
-        let columns: Vec<_> = pair.iter().map(Row::columns).collect();
+        let columns: Vec<_> = pair.iter().map(Row::times_and_ratio).collect();
         println!("| {} | {} | {} | {} |", v * d, c * 15, sets + 1, columns.join(" | "));
     }
 }
@@ -50,10 +50,10 @@ the library tells names apart before it compares them.\n");
         .flat_map(|(kind, names)| NAMES.map(|count| (kind, count, full_table(&names[..count]))))
         .collect();
     let mut rows: Vec<_> =
-        cases.iter().map(|(_, _, table)| Row::new(table, Call::Lspace, 0)).collect();
-    time_in_rounds(&mut rows, effort);
+        cases.iter().map(|(_, _, table)| Row::call(table, Call::Lspace, 0)).collect();
+    time_in_rounds(rows.iter_mut(), effort);
     for ((kind, count, _), row) in cases.iter().zip(&rows) {
-        println!("| {kind} | {count} | {} |", row.columns());
+        println!("| {kind} | {count} | {} |", row.times_and_ratio());
     }
 }
 

@@ -1,32 +1,53 @@
-//! A row of the page: one call on one table, made by both in turns.
+//! A row of the page: two works on one table, timed in turns.
 
 use std::hint::black_box;
 
 use crate::call::{Buffers, Call, Manager, Reference};
+use crate::floor;
 use crate::library::Library;
 use crate::timing::time_both_on_copies;
 
-/// Microseconds of the library and of the reference, the best so far.
+enum Work {
+    /// A call of the library and of the reference, with the result that it must have.
+    Call(Call, u32),
+    /// The plain pass and the C check.
+    Floor,
+}
+
+/// Microseconds of both, the best so far.
 pub struct Row<'a> {
     table: &'a [u8],
-    call: Call,
-    wanted: u32,
+    work: Work,
     best: [f64; 2],
 }
 
 impl Row<'_> {
-    pub fn new(table: &[u8], call: Call, wanted: u32) -> Row<'_> {
+    pub fn call(table: &[u8], call: Call, wanted: u32) -> Row<'_> {
         compare(&call, table);
-        Row { table, call, wanted, best: [f64::MAX; 2] }
+        Row { table, work: Work::Call(call, wanted), best: [f64::MAX; 2] }
+    }
+
+    pub fn floor(table: &[u8]) -> Row<'_> {
+        Row { table, work: Work::Floor, best: [f64::MAX; 2] }
     }
 
     fn time(&mut self, batches: usize) {
-        let times = time_both_on_copies(
-            self.table,
-            batches,
-            |table| make(&Library, &self.call, table, self.wanted),
-            |table| make(&Reference, &self.call, table, self.wanted),
-        );
+        let times = match &self.work {
+            Work::Call(call, wanted) => time_both_on_copies(
+                self.table,
+                batches,
+                |table| make(&Library, call, table, *wanted),
+                |table| make(&Reference, call, table, *wanted),
+            ),
+            Work::Floor => time_both_on_copies(
+                self.table,
+                batches,
+                |table| {
+                    black_box(floor::pass(table));
+                },
+                |table| assert_eq!(black_box(floor::check(table)), 0),
+            ),
+        };
         self.best = [0, 1].map(|side| self.best[side].min(times[side]));
     }
 
@@ -34,10 +55,14 @@ impl Row<'_> {
         self.best[0] / self.best[1]
     }
 
-    /// The columns library, unrelated and ratio.
-    pub fn columns(&self) -> String {
-        let [library, reference] = self.best;
-        format!("{library:.2} | {reference:.2} | {:.2}", self.ratio())
+    /// Both times.
+    pub fn times(&self) -> String {
+        self.best.map(|time| format!("{time:.2}")).join(" | ")
+    }
+
+    /// Both times and their ratio.
+    pub fn times_and_ratio(&self) -> String {
+        format!("{} | {:.2}", self.times(), self.ratio())
     }
 }
 
@@ -66,7 +91,8 @@ pub struct Effort {
 
 /// Times every row in several rounds: a disturbance of the machine lasts longer than a row takes,
 /// and seldom as long as a round.
-pub fn time_in_rounds(rows: &mut [Row], effort: Effort) {
+pub fn time_in_rounds<'a, 'b: 'a>(rows: impl Iterator<Item = &'a mut Row<'b>>, effort: Effort) {
+    let mut rows: Vec<_> = rows.collect();
     for _ in 0..effort.rounds {
         rows.iter_mut().for_each(|row| row.time(effort.batches));
     }
