@@ -19,7 +19,7 @@ fn main() {
     if var("CARGO_FEATURE_FLOOR").is_ok() {
         let directory = PathBuf::from(var("OUT_DIR").expect("cargo sets it"));
         compile(&Path::new(&here).join("floor.c"), &directory, "floor");
-        link(&directory, "floor");
+        link_from(&directory, "floor");
     }
 }
 
@@ -41,6 +41,10 @@ fn link(directory: &Path, name: &str) {
     let archive = directory.join(format!("lib{name}.a"));
     assert!(archive.exists(), "{} is missing: run `rt staticlib {name}`", archive.display());
     println!("cargo:rerun-if-changed={}", archive.display());
+    link_from(directory, name);
+}
+
+fn link_from(directory: &Path, name: &str) {
     println!("cargo:rustc-link-search=native={}", directory.display());
     println!("cargo:rustc-link-lib=static={name}");
 }
