@@ -1,5 +1,7 @@
 //! Volumes of known make-up for benchmarks and tests, built by calls of the reference.
 
+use crate::generate::rng::Rng;
+use crate::naming;
 use crate::reference::{allocate, extend, initialise, release, scratch};
 
 pub const ANSWER: usize = 24;
@@ -40,10 +42,16 @@ pub fn fresh(c: u32, h: u32, d: u32, s: u32, v: u32) -> Vec<u8> {
 
 /// Allocates and insists that it is accepted.
 pub fn place(table: &mut [u8], text: &str, kind: u32, start: u32, amount: u32, secondary: u32) {
+    place_name(table, &name(text), kind, start, amount, secondary);
+}
+
+/// The same for the 44 bytes of a name.
+pub fn place_name(
+    table: &mut [u8], name: &[u8; 44], kind: u32, start: u32, amount: u32, secondary: u32,
+) {
     let mut answer = [0; ANSWER];
-    let name = name(text);
-    let result = allocate(table, &name, &ATTRIBUTES, kind, start, amount, secondary, &mut answer);
-    assert_eq!(result, 0, "allocate {text}");
+    let result = allocate(table, name, &ATTRIBUTES, kind, start, amount, secondary, &mut answer);
+    assert_eq!(result, 0, "allocate {name:02X?}");
 }
 
 /// The name of a numbered set, as long as production names are.
@@ -103,6 +111,29 @@ pub fn many_extents() -> Vec<u8> {
             assert_eq!(scratch(&mut table, &name(&leaver(i)), &mut [0; ANSWER]), 0);
         }
         sets += round;
+    }
+    table
+}
+
+/// A 3330 pack with 468 records and 461 sets with names as in examples/host.c.
+pub fn survey_two_counters() -> Vec<u8> {
+    survey(naming::two_counters)
+}
+
+/// The same with three counters in each name.
+pub fn survey_three_counters() -> Vec<u8> {
+    survey(naming::three_counters)
+}
+
+/// 461 sets of one to four tracks, one after another but for a few holes.
+fn survey(name: fn(usize) -> [u8; 44]) -> Vec<u8> {
+    let mut table = fresh(404, 19, 39, 1, 12);
+    let rng = &mut Rng::new(1);
+    let mut at = 13;
+    for number in 0..461 {
+        let tracks = rng.range(1, 4);
+        place_name(&mut table, &name(number), 2, at, tracks, 0);
+        at += tracks + u32::from(rng.chance(5));
     }
     table
 }

@@ -11,3 +11,4 @@ pub mod rng;
 pub mod session;
 pub mod shapes;
 pub mod shuffle;
+pub mod tables;

@@ -1,0 +1,63 @@
+//! A check of the table beside the reference's own, on tables sound and damaged.
+
+use std::process::ExitCode;
+
+use crate::generate::tables::{every_table, Shown};
+use crate::reference::lspace;
+use crate::volumes::ANSWER;
+
+/// The fewest tables in all, and the fewest with each answer.
+const TABLES: usize = 20_000;
+const EACH: usize = 1_000;
+
+#[derive(Default)]
+struct Counts {
+    tables: usize,
+    damaged: usize,
+    taken: usize,
+    refused_2: usize,
+    refused_3: usize,
+    disagreements: usize,
+}
+
+/// Asks both about every table and prints counts. Failure at a disagreement, or where too little
+/// was seen.
+pub fn beside_reference(check: impl Fn(&[u8]) -> u32) -> ExitCode {
+    let mut counts = Counts::default();
+    every_table(|shown| counts.compare(&shown, check(shown.table)));
+
+    let Counts { tables, damaged, taken, refused_2, refused_3, disagreements } = counts;
+    println!("tables {tables}, of them damaged {damaged}");
+    println!("taken {taken}, refused 2 {refused_2}, refused 3 {refused_3}");
+    println!("disagreements {disagreements}");
+    if tables < TABLES || [taken, refused_2, refused_3].iter().any(|&seen| seen < EACH) {
+        eprintln!("too few tables of some kind");
+        return ExitCode::FAILURE;
+    }
+    if disagreements == 0 {
+        ExitCode::SUCCESS
+    } else {
+        ExitCode::FAILURE
+    }
+}
+
+impl Counts {
+    /// LSPACE of the reference refuses for the table alone.
+    fn compare(&mut self, shown: &Shown, answered: u32) {
+        let expected = lspace(shown.table, &mut [0; ANSWER]);
+        self.tables += 1;
+        self.damaged += usize::from(shown.damaged);
+        match expected {
+            0 => self.taken += 1,
+            2 => self.refused_2 += 1,
+            _ => self.refused_3 += 1,
+        }
+        if answered != expected {
+            self.disagreements += 1;
+            if self.disagreements <= 10 {
+                let Shown { table, origin, .. } = shown;
+                eprintln!("{origin}, {} bytes: {answered}, not {expected}", table.len());
+            }
+        }
+    }
+}

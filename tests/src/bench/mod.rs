@@ -1,0 +1,6 @@
+//! The benchmark of the eight calls: the library beside the reference, both in one run.
+
+pub mod growth;
+pub mod page;
+pub mod row;
+pub mod volume;

@@ -1,0 +1,83 @@
+//! The page: what it says, its rows by volume, and the figures over all of them.
+
+use std::fs::read_to_string;
+
+use super::row::{time_in_rounds, Effort, Row};
+use super::volume::{Timed, Volume};
+
+pub const HEAD: &str = "# Performance
+
+Made by this command, in one run, the two sides taking turns (`--short` in place of the file for a quick look):
+
+    rt staticlib vtoc
+    cargo run --release --manifest-path tests/Cargo.toml --features library --bin bench_calls > docs/PERFORMANCE.md
+
+Microseconds for one call through the C interface: the proved library and, beside it, the unrelated implementation of tests/
+(Rust, release build, bitmaps and a hash of names). Each call works on a copy of the table made before the clock starts; the
+best of many batches, in ten rounds over all rows, counts. Ratio: library / unrelated; below 1 the library is faster. Both
+check the whole table first, but for initialise.
+
+Two more columns show how fast a check can be; they are timed on each volume in the same rounds. Pass: one plain pass over the
+table, its bytes or'ed as words of eight. C check: tests/floor.c, the check alone in plain C with SSE2, as fast as we could
+make it; it is not proved and keeps nothing for a call. The program `floor` compares its answers with the unrelated ones.
+
+The first four volumes are regular; the survey volumes have names with counters; the others are as long use leaves them, with
+names, slots, sizes and places at random (from fixed seeds). There the set that a call names is one of those with many extents.
+";
+
+pub fn processor() -> String {
+    let text = read_to_string("/proc/cpuinfo").unwrap_or_default();
+    let line = text.lines().find_map(|line| line.strip_prefix("model name"));
+    line.map_or("an unknown processor", |line| line.trim_start_matches([' ', '\t', ':'])).into()
+}
+
+/// The rows of a volume.
+struct Section<'a> {
+    title: &'static str,
+    calls: Vec<(&'static str, Row<'a>)>,
+    floor: Row<'a>,
+}
+
+impl<'a> Section<'a> {
+    fn new(volume: &'a Volume) -> Section<'a> {
+        let row = |timed: Timed| (timed.what, Row::call(&volume.table, timed.call, timed.wanted));
+        let calls = volume.calls().into_iter().map(row).collect();
+        Section { title: volume.title, calls, floor: Row::floor(&volume.table) }
+    }
+
+    fn rows(&mut self) -> impl Iterator<Item = &mut Row<'a>> {
+        self.calls.iter_mut().map(|(_, row)| row).chain([&mut self.floor])
+    }
+
+    fn ratios(&self) -> Vec<f64> {
+        self.calls.iter().map(|(_, row)| row.ratio()).collect()
+    }
+
+    fn print(&self) {
+        for (what, row) in &self.calls {
+            let (columns, floor) = (row.times_and_ratio(), self.floor.times());
+            println!("| {} | {what} | {columns} | {floor} |", self.title);
+        }
+    }
+}
+
+/// The table of all calls on all volumes, and the figures.
+pub fn print_calls(volumes: &[Volume], effort: Effort) {
+    let mut sections: Vec<_> = volumes.iter().map(Section::new).collect();
+    time_in_rounds(sections.iter_mut().flat_map(Section::rows), effort);
+    println!("\n| Volume | Call | Library | Unrelated | Ratio | Pass | C check |\n|---|---|---:|---:|---:|---:|---:|");
+    sections.iter().for_each(Section::print);
+    println!("\n| Volume | Rows | Highest ratio | Geometric mean | Above 0.8 | Above 1.0 |\n|---|---:|---:|---:|---:|---:|");
+    for section in &sections {
+        print_figures(section.title, &section.ratios());
+    }
+    print_figures("all", &sections.iter().flat_map(Section::ratios).collect::<Vec<_>>());
+}
+
+fn print_figures(title: &str, ratios: &[f64]) {
+    let highest = ratios.iter().copied().fold(0.0, f64::max);
+    let mean = f64::exp(ratios.iter().map(|ratio| ratio.ln()).sum::<f64>() / ratios.len() as f64);
+    let above = |bound: f64| ratios.iter().filter(|&&ratio| ratio > bound).count();
+    let (rows, many, slower) = (ratios.len(), above(0.8), above(1.0));
+    println!("| {title} | {rows} | {highest:.2} | {mean:.2} | {many} | {slower} |");
+}
