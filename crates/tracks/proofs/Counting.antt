@@ -10,14 +10,15 @@ use lib.Dec.{eqb, ltb}
 use lib.ListN.{length, getD}
 use lib.Bits.{bitAnd, bitOr, bitXor, and-le-l}
 use lib.Pow.{low, mod-pow-add, pow-pos, shl-shr}
-use lib.Count.{ones, ones-cat, ones-step}
+use lib.Count.{ones, ones-cat, ones-le, ones-step}
 use Rattle.model.specs.Basics.{bit}
 use Rattle.model.specs.Model.{Run, Separate, join, joinIf, run, runs, touch}
 use Rattle.model.proofs.Runs.{runs-separate}
-use Rattle.tracks.specs.Map.{bitAt, freeBit, isFree}
-use Rattle.tracks.specs.Steps.{Passed, Starts}
+use Rattle.tracks.specs.Map.{bitAt, freeBit, freeFrom, isFree}
+use Rattle.tracks.specs.Steps.{Alike, Counts, Starts, bitBefore, flipped, runsBelow}
 use Rattle.tracks.proofs.Bits.{above-word, and-bit, not-bit, or-bit, shr-bit, top-bit, up-bit, up-low}
-use Rattle.tracks.proofs.Words.{in-word}
+use Rattle.tracks.proofs.Walk.{free-from-zero}
+use Rattle.tracks.proofs.Words.{in-word, plain-tracks}
 
 -- ---- joining a track to the runs behind it
 
@@ -88,11 +89,6 @@ bit-of m t = go (freeBit m t) (free-le m t)
     go zero h = ap bit (ne-eqb 0 1 (λ e. absurd (omega arith)))
     go (suc zero) h = ap bit (eq-eqb 1 1 refl)
     go (suc (suc x)) h = absurd (omega arith)
-
--- the bit of the track before t; none is before track 0
-abbrev pub bitBefore : List ℕ → ℕ → ℕ
-bitBefore m zero = 0
-bitBefore m (suc t) = freeBit m t
 
 count-track : (m : List ℕ) (t : ℕ) → length (runs (isFree m) 0 (suc t)) ≡ length (runs (isFree m) 0 t) + min (freeBit m t) (1 - bitBefore m t)
 count-track m zero = omega (arith, one-track (isFree m) 0, bit-of m 0, free-le m 0)
@@ -199,20 +195,86 @@ count-same m b (suc d) t l q f =
       ap (bitBefore m) z ∙ o,
     )
 
--- the words behind the one at t that are as its last track is
-module _ (m : List ℕ) (t n u : ℕ) (e : t % 64 ≡ 0) (fits : getD m (t / 64) 0 < 2 ^ 64)
-    (p : Passed m (ltb (getD m (t / 64) 0) 0x8000_0000_0000_0000) (t + 64) n u) where
-  on : (length (runs (isFree m) 0 (t + 64 + (u - (t + 64)))) ≡ length (runs (isFree m) 0 (t + 64))) × (bitBefore m (t + 64 + (u - (t + 64))) ≡ bitAt (getD m (t / 64) 0) 63)
-  on =
-      let f = p .from in
-      count-same m (bitAt (getD m (t / 64) 0) 63) (u - (t + 64)) (t + 64) (omega arith) (sym (last-bit m t e))
-      (λ j a b. p .before j a (omega arith) ∙ sym (top-bit (getD m (t / 64) 0) fits))
+-- ---- by words
 
-  to-end : t + 64 + (u - (t + 64)) ≡ u
-  to-end = let f = p .from in omega arith
+module _ (m : List ℕ) (w y r : ℕ) (q : bitAt y 63 ≡ bitBefore m (64 * w)) (s : Starts y (getD m w 0) r) where
+  at-word : Starts y (getD m (64 * w / 64) 0) r
+  at-word = let e : 64 * w / 64 ≡ w = omega arith in rw e s
 
-  pub same-count : length (runs (isFree m) 0 u) ≡ length (runs (isFree m) 0 (t + 64))
-  same-count = ap (λ (i : ℕ). length (runs (isFree m) 0 i)) (sym to-end) ∙ on .0
+  pub word-runs : runsBelow m (64 * w + 64) ≡ runsBelow m (64 * w) + ones r
+  unfolding runsBelow
+  word-runs = count-word m y r (64 * w) (omega arith) q at-word
 
-  pub same-bit : bitAt (getD m (t / 64) 0) 63 ≡ bitBefore m u
-  same-bit = sym (on .1) ∙ ap (bitBefore m) to-end
+  pub part-runs : (k : ℕ) → k ≤ 64 → runsBelow m (64 * w + k) ≡ runsBelow m (64 * w) + ones (r * 2 ^ (64 - k) % 2 ^ 64)
+  unfolding runsBelow
+  part-runs = count-part m y r (64 * w) (omega arith) q at-word
+
+pub word-last : (m : List ℕ) (w : ℕ) → bitAt (getD m w 0) 63 ≡ bitBefore m (64 * w + 64)
+word-last m w =
+    let e : 64 * w / 64 ≡ w = omega arith in
+    ap (λ (i : ℕ). bitAt (getD m i 0) 63) (sym e) ∙ last-bit m (64 * w) (omega arith)
+
+pub few-runs : (m : List ℕ) (t : ℕ) → runsBelow m t ≤ t
+unfolding runsBelow
+few-runs m t = runs-length (isFree m) 0 t
+
+pub counts-none : (m : List ℕ) → Counts m 0 0 0
+unfolding runsBelow
+counts-none m = record { runs = refl; last = refl }
+
+-- words that are as the last track before them
+pub counts-plain : (m : List ℕ) (w v c y p : ℕ) → w ≤ v → y < 2 ^ 64 → p ≡ flipped (ltb y 0x8000_0000_0000_0000) 0 → Alike m p w v → Counts m (64 * w) c y → Counts m (64 * v) c y
+unfolding runsBelow
+counts-plain m w v c y p l fits q h k =
+    let e : 64 * w + 64 * (v - w) ≡ 64 * v = omega arith in
+    let o = count-same m (bitAt y 63) (64 * (v - w)) (64 * w) (omega arith) (sym (k .last)) (λ j a b. plain-tracks m _ p w v q h j a (omega arith) ∙ sym (top-bit y fits)) in
+    record {
+      runs = k .runs ∙ sym (ap (λ (i : ℕ). length (runs (isFree m) 0 i)) (sym e) ∙ o .0);
+      last = sym (o .1) ∙ ap (bitBefore m) e;
+    }
+
+pub eight-plain : (m : List ℕ) (w c y p : ℕ) → y < 2 ^ 64 → p ≡ flipped (ltb y 0x8000_0000_0000_0000) 0 → Alike m p w (w + 8) → Counts m (64 * w) c y → Counts m (64 * w + 512) c y
+eight-plain m w c y p fits q h k =
+    let e : 64 * (w + 8) ≡ 64 * w + 512 = omega arith in
+    subst (λ (t : ℕ). Counts m t c y) e (counts-plain m w (w + 8) c y p (omega arith) fits q h k)
+
+-- a word more
+pub starts-more : (m : List ℕ) (w i c r : ℕ) → 1 ≤ i → runsBelow m (64 * w + 64 * i) ≡ runsBelow m (64 * w) + c → Starts (getD m (w + i - 1) 0) (getD m (w + i) 0) r
+    → runsBelow m (64 * w + 64 * (i + 1)) ≡ runsBelow m (64 * w) + (c + ones r)
+starts-more m w i c r l k s =
+    let a : 64 * (w + i - 1) + 64 ≡ 64 * (w + i) = omega arith in
+    let b : 64 * (w + i) ≡ 64 * w + 64 * i = omega arith in
+    let d : 64 * (w + i) + 64 ≡ 64 * w + 64 * (i + 1) = omega arith in
+    let o = word-runs m (w + i) (getD m (w + i - 1) 0) r (word-last m (w + i - 1) ∙ ap (bitBefore m) a) s in
+    omega (arith, o, ap (runsBelow m) b, ap (runsBelow m) d)
+
+pub counts-more : (m : List ℕ) (w c y r : ℕ) → Counts m (64 * w) c y → Starts y (getD m w 0) r → Counts m (64 * (w + 1)) (c + ones r) (getD m w 0)
+counts-more m w c y r k s =
+    let e : 64 * w + 64 ≡ 64 * (w + 1) = omega arith in
+    record {
+      runs = omega (arith, k .runs, word-runs m w y r (k .last) s, ap (runsBelow m) e);
+      last = word-last m w ∙ ap (bitBefore m) e;
+    }
+
+pub counts-eight : (m : List ℕ) (w c y d : ℕ) → Counts m (64 * w) c y → runsBelow m (64 * w + 512) ≡ runsBelow m (64 * w) + d → Counts m (64 * w + 512) (c + d) (getD m (w + 7) 0)
+counts-eight m w c y d k o =
+    let e : 64 * (w + 7) + 64 ≡ 64 * w + 512 = omega arith in
+    record { runs = omega (arith, k .runs, o); last = word-last m (w + 7) ∙ ap (bitBefore m) e }
+
+pub starts-few : (y x r : ℕ) → Starts y x r → ones r ≤ 64
+starts-few y x r s = ones-le 64 r (s .small)
+
+-- all of it: whole words, and the first tracks of one more
+module _ (m : List ℕ) (n c y : ℕ) (k : Counts m (64 * (n / 64)) c y) where
+  counted : (d : ℕ) → d ≡ runsBelow m n → (d ≡ length (freeFrom m n 0)) × (d ≤ n)
+  unfolding runsBelow
+  counted d e = (e ∙ sym (ap length (free-from-zero m n)), omega (arith, runs-length (isFree m) 0 n))
+
+  pub whole-words : n % 64 ≡ 0 → (c ≡ length (freeFrom m n 0)) × (c ≤ n)
+  whole-words z = let e : 64 * (n / 64) ≡ n = omega arith in counted c (k .runs ∙ ap (runsBelow m) e)
+
+  pub and-part : (r : ℕ) → Starts y (getD m (n / 64) 0) r
+      → (c + ones (r * 2 ^ (64 - n % 64) % 2 ^ 64) ≡ length (freeFrom m n 0)) × (c + ones (r * 2 ^ (64 - n % 64) % 2 ^ 64) ≤ n)
+  and-part r s =
+      let e : 64 * (n / 64) + n % 64 ≡ n = omega arith in
+      counted _ (omega (arith, k .runs, part-runs m (n / 64) y r (k .last) s (n % 64) (omega arith), ap (runsBelow m) e))

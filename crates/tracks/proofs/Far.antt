@@ -11,31 +11,11 @@ use lib.ListN.{getD}
 use lib.Bits.{bitAnd, bitOr}
 use lib.Count.{trailingZeros}
 use Rattle.tracks.specs.Map.{NextRun, bitAt, freeBit}
-use Rattle.tracks.specs.Steps.{Ending, First, Part, Plain, Rest, Word}
+use Rattle.tracks.specs.Steps.{Ending, First, Part, Rest, Unlike, Word}
 use Rattle.tracks.proofs.Bits.{all-ones, and-bit, le-or-lt, one-less, trailing-one, trailing-small, trailing-zero, zero-bit}
 use Rattle.tracks.proofs.Near.{filled-high, upto-start}
 use Rattle.tracks.proofs.Walk.{next-run-law}
 use Rattle.tracks.proofs.Words.{in-word}
-
--- ---- words passed over
-
--- the words from w up to r are p
-abbrev pub Alike : List ℕ → ℕ → ℕ → ℕ → Type 0
-Alike m p w r = (i : ℕ) → w ≤ i → i < r → getD m i 0 ≡ p
-
-module _ (m : List ℕ) (p w : ℕ) where
-  pub alike-more : (r : ℕ) → Alike m p w r → getD m r 0 ≡ p → Alike m p w (r + 1)
-  alike-more r h e i u v = elim (ℕ-discrete i r) [ yes q ↦ rw q e | no q ↦ h i u (omega arith) ]
-
-  module _ (r : ℕ) (h : Alike m p w r) (e0 : getD m r 0 ≡ p) (e1 : getD m (r + 1) 0 ≡ p) where
-    pub alike-two : Alike m p w (r + 2)
-    alike-two i u v = alike-more (r + 1) (alike-more r h e0) e1 i u (omega arith)
-
-    pub alike-three : getD m (r + 2) 0 ≡ p → Alike m p w (r + 3)
-    alike-three e2 i u v = alike-more (r + 2) alike-two e2 i u (omega arith)
-
-    pub alike-four : getD m (r + 2) 0 ≡ p → getD m (r + 3) 0 ≡ p → Alike m p w (r + 4)
-    alike-four e2 e3 i u v = alike-more (r + 3) (alike-three e2) e3 i u (omega arith)
 
 -- ---- the word of the first free track
 
@@ -48,7 +28,8 @@ word-own m n t e x l s r =
       some = λ _. l;
     }
 
-module _ (m : List ℕ) (n t e v x : ℕ) (p : Plain m 0 (t / 64 + 1) e v) (z : x ≡ 0) (r : Rest m n t x) where
+-- or those behind it, passed over up to word v, which is y
+module _ (m : List ℕ) (n t e v y x : ℕ) (p : Unlike m 0 (t / 64 + 1) e v y) (z : x ≡ 0) (r : Rest m n t x) where
   zeros : (i : ℕ) → t ≤ i → i < n → i < 64 * v → freeBit m i ≡ 0
   zeros i u l h =
       ⊎-elim
@@ -56,23 +37,21 @@ module _ (m : List ℕ) (n t e v x : ℕ) (p : Plain m 0 (t / 64 + 1) e v) (z : 
       (λ g. sym (r .shown i u l (omega arith)) ∙ ap (λ (y : ℕ). bitAt y (i % 64)) z ∙ zero-bit (i % 64))
       (le-or-lt (t / 64 + 1) (i / 64))
 
-  pub word-later : v < e → Word m n t e v (getD m v 0)
-  word-later h =
+  pub word-later : n ≤ 64 * e → Word m n t e v y
+  word-later k =
       let f = p .from in
       record {
-        part = record { clear = λ j g. absurd (omega arith); shown = λ i u l g. in-word m v i g };
+        part = record {
+          clear = λ j g. absurd (omega arith);
+          shown = λ i u l g.
+              elim (ℕ-discrete y 0) [
+                | yes q ↦ (let w = p .none q in absurd (omega arith))
+                | no q ↦ ap (λ (x : ℕ). bitAt x (i % 64)) (p .found q .1) ∙ in-word m v i g
+              ];
+        };
         before = zeros;
-        none = λ q. absurd (p .here h q);
-        some = λ _. h;
-      }
-
-  pub word-none : e ≤ v → n ≤ 64 * e → Word m n t e e 0
-  word-none h k =
-      record {
-        part = record { clear = λ j g. zero-bit j; shown = λ i u l g. absurd (omega arith) };
-        before = λ i u l g. zeros i u l (omega arith);
-        none = λ _. k;
-        some = λ q. absurd (q refl);
+        none = λ q. let w = p .none q in omega arith;
+        some = λ q. p .found q .0;
       }
 
 -- ---- the first free track
@@ -137,7 +116,7 @@ module _ (m : List ℕ) (n t e w y : ℕ) (p : Word m n t e w y) (some : y ≡ 0
 
   -- or in a later one: all tracks of the words between are free
 
-  module _ (full : bitOr y (y - 1) ≡ 0xffff_ffff_ffff_ffff) (v : ℕ) (q : Plain m 0xffff_ffff_ffff_ffff (w + 1) e v) where
+  module _ (full : bitOr y (y - 1) ≡ 0xffff_ffff_ffff_ffff) (v z : ℕ) (q : Unlike m 0xffff_ffff_ffff_ffff (w + 1) e v z) where
     ones : (i : ℕ) → 64 * w + start ≤ i → i < n → i < 64 * v → freeBit m i ≡ 1
     ones i u l h =
         let f = from-t in
@@ -148,14 +127,20 @@ module _ (m : List ℕ) (n t e w y : ℕ) (p : Word m n t e w y) (some : y ≡ 0
         ∙ ap (λ (x : ℕ). bitAt x (i % 64)) full ∙ all-ones (i % 64) (omega arith))
         (le-or-lt (w + 1) (i / 64))
 
-    pub ending-later : Ending m n (64 * w + start) v (getD m v 0) (getD m v 0)
-    ending-later =
+    pub ending-later : (z ≡ 0xffff_ffff_ffff_ffff → ⊥) → Ending m n (64 * w + start) v z z
+    ending-later o =
         let s = start-lt in
         let f = q .from in
-        record { before = ones; shown = λ i u l h. in-word m v i h; same = λ j h. refl; filled = λ j h. absurd (omega arith) }
+        record {
+          before = ones;
+          shown = λ i u l h. ap (λ (x : ℕ). bitAt x (i % 64)) (q .found o .1) ∙ in-word m v i h;
+          same = λ j h. refl;
+          filled = λ j h. absurd (omega arith);
+        }
 
-    pub ending-none : e ≤ v → n ≤ 64 * e → 64 * w + start < n → First m false (64 * w + start) n n
-    ending-none h k l =
+    pub ending-none : z ≡ 0xffff_ffff_ffff_ffff → n ≤ 64 * e → 64 * w + start < n → First m false (64 * w + start) n n
+    ending-none o k l =
+        let h = q .none o in
         record { from = omega arith; to = le-refl n; before = λ i u g. ones i u g (omega arith); here = λ g. absurd (omega arith) }
 
 -- ---- the first track that is not free, by one more

@@ -9,13 +9,13 @@ use native.Mathlib.Nat.{le-refl}
 use native.Mathlib.Omega.{arith}
 use borrow.Author.Tests.{lt-ltb}
 use lib.Dec.{ltb}
-use lib.Bits.{bitAnd, bitOr, bitXor}
+use lib.Bits.{and-le-l, bitAnd, bitOr, bitXor, xor-self}
 use lib.ListN.{length, getD, set, length-set}
 use lib.Seq.{getD-set-same, getD-set-other}
 use Rattle.model.specs.Basics.{bit}
 use Rattle.model.proofs.Lists.{clash}
 use Rattle.tracks.specs.Map.{AllFree, Hit, Made, Taken, bitAt, freeBit}
-use Rattle.tracks.specs.Steps.{Passed, WordAt, block, flipped}
+use Rattle.tracks.specs.Steps.{Alike, Unlike, WordAt, block, flipped}
 use Rattle.tracks.proofs.Bits.{all-ones, and-bit, block-high, block-in, block-low, block-lt, lacks, le-or-lt, not-bit, or-bit, or-none, xor-bit, xor-none, zero-bit}
 
 -- the mask of the n tracks from t on, in t's word
@@ -120,54 +120,203 @@ hit-before m m′ s t e a c h =
     let f = h .from in
     record { at = h .at; from = omega arith; below = h .below; off = sym (c .after (h .at) f) ∙ h .off }
 
--- ---- the first track that is free, or is not
+-- ---- a word, whole
 
--- a word of zeros, or of ones where b is false
+pub word-free : (m : List ℕ) (i : ℕ) → getD m i 0 ≡ 0xffff_ffff_ffff_ffff → AllFree m (64 * i) (64 * i + 64)
+word-free m i e j u v = sym (in-word m i j (omega arith)) ∙ ap (λ (x : ℕ). bitAt x (j % 64)) e ∙ all-ones (j % 64) (omega arith)
+
+pub word-taken : (m : List ℕ) (i : ℕ) → i < length m → Made 0 m (set m i 0) (64 * i) (64 * i + 64)
+word-taken m i h = record {
+  long = length-set m i 0;
+  before = λ j u. store-off m i 0 j (λ e. absurd (omega arith));
+  inside = λ j u v. store-in m i 0 j h (omega arith) ∙ zero-bit (j % 64);
+  after = λ j u. store-off m i 0 j (λ e. absurd (omega arith));
+}
+
+full-block : block 0 64 ≡ 0xffff_ffff_ffff_ffff
+unfolding block
+full-block = refl
+
+pub word-hit : (m : List ℕ) (i e : ℕ) → i < length m → 64 * i + 64 ≤ e → getD m i 0 < 2 ^ 64 → (getD m i 0 ≡ 0xffff_ffff_ffff_ffff → ⊥) → Hit m (64 * i) e
+word-hit m i e h l f n =
+    let w : 64 * i / 64 ≡ i = omega arith in
+    let o : 64 * i % 64 ≡ 0 = omega arith in
+    let b : mask (64 * i) 64 ≡ 0xffff_ffff_ffff_ffff = ap (λ (x : ℕ). block x 64) o ∙ full-block in
+    hit-chunk m (64 * i) 64 (omega arith) (omega arith) e l
+    (λ z.
+    let y : bitAnd (getD m i 0) 0xffff_ffff_ffff_ffff ≡ 0xffff_ffff_ffff_ffff = ap (λ (x : ℕ). bitAnd (getD m x 0) 0xffff_ffff_ffff_ffff) (sym w) ∙ ap (bitAnd (getD m (64 * i / 64) 0)) (sym b) ∙ z ∙ b in
+    n (omega (arith, and-le-l (getD m i 0) 0xffff_ffff_ffff_ffff)))
+
+-- ---- the first tracks and the last, then those between
+
+module _ (m m₁ m₂ : List ℕ) (s a b e : ℕ) (l : s ≤ a) (g : a ≤ b) (h : b ≤ e) (x : Made 0 m m₁ s a) (y : Made 0 m₁ m₂ b e) where
+  -- a track between is as it was
+  between : (t : ℕ) → a ≤ t → t < b → freeBit m₂ t ≡ freeBit m t
+  between t u v = y .before t v ∙ x .after t u
+
+  ends-taken : (m₃ : List ℕ) → Made 0 m₂ m₃ a b → Made 0 m m₃ s e
+  ends-taken m₃ z = record {
+    long = z .long ∙ y .long ∙ x .long;
+    before = λ t u. z .before t (omega arith) ∙ y .before t (omega arith) ∙ x .before t u;
+    inside = λ t u v.
+        ⊎-elim
+        (λ c. ⊎-elim (λ d. z .after t d ∙ y .inside t d v) (λ d. z .inside t c d) (le-or-lt b t))
+        (λ c. z .before t c ∙ y .before t (omega arith) ∙ x .inside t u c)
+        (le-or-lt a t);
+    after = λ t u. z .after t (omega arith) ∙ y .after t u ∙ x .after t (omega arith);
+  }
+
+  pub taken-between : AllFree m s a → AllFree m₁ b e → (m₃ : List ℕ) (r : Bool) → Taken m₂ m₃ a b r → Taken m m₃ s e r
+  taken-between p q m₃ r z = record {
+    long = z .long ∙ y .long ∙ x .long;
+    were = λ o t u v.
+        ⊎-elim
+        (λ c. ⊎-elim (λ d. sym (x .after t c) ∙ q t d v) (λ d. sym (between t c d) ∙ z .were o t c d) (le-or-lt b t))
+        (λ c. p t u c)
+        (le-or-lt a t);
+    made = λ o. ends-taken m₃ (z .made o);
+    hit = λ o.
+        let k = z .hit o in
+        let f = k .from in
+        let d = k .below in
+        record { at = k .at; from = omega arith; below = omega arith; off = sym (between (k .at) f d) ∙ k .off };
+  }
+
+-- ---- tracks that do not lie in one word
+
+module _ (m : List ℕ) (s e a b : ℕ) (u : s < e) (c : s / 64 < (e - 1) / 64) (room : e ≤ 64 * length m) (ea : a ≡ block (s % 64) (64 - s % 64))
+    (eb : b ≡ block 0 ((e - 1) % 64 + 1)) where
+  abbrev w : ℕ
+  w = s / 64
+
+  abbrev v : ℕ
+  v = (e - 1) / 64
+
+  abbrev x : ℕ
+  x = getD m w 0
+
+  abbrev y : ℕ
+  y = getD m v 0
+
+  abbrev m₁ : List ℕ
+  m₁ = set m w (bitXor x a)
+
+  first-ends : s + (64 - s % 64) ≡ 64 * (w + 1)
+  first-ends = omega arith
+
+  last-ends : 64 * v + ((e - 1) % 64 + 1) ≡ e
+  last-ends = omega arith
+
+  last-word : 64 * v / 64 ≡ v
+  last-word = omega arith
+
+  last-mask : mask (64 * v) ((e - 1) % 64 + 1) ≡ b
+  last-mask = let o : 64 * v % 64 ≡ 0 = omega arith in ap (λ (i : ℕ). block i ((e - 1) % 64 + 1)) o ∙ sym eb
+
+  -- the last word is not the first
+  y-stays : getD m₁ v 0 ≡ y
+  y-stays = getD-set-other m w v (bitXor x a) 0 (λ z. absurd (omega arith))
+
+  -- a test of the last word, where the number of the word is 64 * v / 64
+  last-is : (k : List ℕ) → getD k v 0 ≡ y → bitAnd y b ≡ b → bitAnd (getD k (64 * v / 64) 0) (mask (64 * v) ((e - 1) % 64 + 1)) ≡ mask (64 * v) ((e - 1) % 64 + 1)
+  last-is k q z = rw (last-word, last-mask, q) z
+
+  pub far-hit : (bitOr (bitXor (bitAnd x a) a) (bitXor (bitAnd y b) b) ≡ 0 → ⊥) → Hit m s e
+  far-hit n =
+      elim (ℕ-discrete (bitAnd x a) a) [
+        | no p ↦ hit-chunk m s (64 - s % 64) (omega arith) (omega arith) e (omega arith) (λ z. p (rw ea z))
+        | yes p ↦
+            elim (ℕ-discrete (bitAnd y b) b) [
+              | no q ↦
+                  let h = hit-chunk m (64 * v) ((e - 1) % 64 + 1) (omega arith) (omega arith) e (omega arith) (λ z. q (rw (last-word, last-mask) at z)) in
+                  let f = h .from in
+                  record { at = h .at; from = omega arith; below = h .below; off = h .off }
+              | yes q ↦ absurd (n (rw (p, q, xor-self a, xor-self b)))
+            ]
+      ]
+
+  module _ (z : bitOr (bitXor (bitAnd x a) a) (bitXor (bitAnd y b) b) ≡ 0) where
+    one : bitAnd x a ≡ a
+    one = xor-none (bitAnd x a) a (or-none (bitXor (bitAnd x a) a) (bitXor (bitAnd y b) b) z .0)
+
+    other : bitAnd y b ≡ b
+    other = xor-none (bitAnd y b) b (or-none (bitXor (bitAnd x a) a) (bitXor (bitAnd y b) b) z .1)
+
+    first-free : AllFree m s (64 * (w + 1))
+    first-free = subst (AllFree m s) first-ends (all-free m s (64 - s % 64) (omega arith) (omega arith) (rw ea at one))
+
+    first-made : Made 0 m m₁ s (64 * (w + 1))
+    first-made = subst (Made 0 m m₁ s) first-ends (rw ea (take-chunk m s (64 - s % 64) (omega arith) (omega arith) (rw ea at one)))
+
+    long₁ : length m₁ ≡ length m
+    long₁ = length-set m w (bitXor x a)
+
+    last-free : AllFree m₁ (64 * v) e
+    last-free = subst (AllFree m₁ (64 * v)) last-ends (all-free m₁ (64 * v) ((e - 1) % 64 + 1) (let l = long₁ in omega arith) (omega arith) (last-is m₁ y-stays other))
+
+    last-made : Made 0 m₁ (set m₁ v (bitXor y b)) (64 * v) e
+    last-made =
+        let k = take-chunk m₁ (64 * v) ((e - 1) % 64 + 1) (let l = long₁ in omega arith) (omega arith) (last-is m₁ y-stays other) in
+        subst (Made 0 m₁ (set m₁ v (bitXor y b)) (64 * v)) last-ends (rw (last-word, last-mask, y-stays) at k)
+
+    pub far-took : (m₃ : List ℕ) (r : Bool) → Taken (set m₁ v (bitXor y b)) m₃ (64 * (w + 1)) (64 * v) r → Taken m m₃ s e r
+    far-took m₃ r t =
+        taken-between m m₁ (set m₁ v (bitXor y b)) s (64 * (w + 1)) (64 * v) e (omega arith) (omega arith) (omega arith) first-made last-made first-free last-free m₃ r t
+
+-- ---- words of zeros, or of ones where b is false
+
 plain-bit : (b : Bool) (i : ℕ) → i < 64 → bitAt (flipped b 0) i ≡ 1 - bit b
 unfolding flipped
 plain-bit true i h = zero-bit i
 plain-bit false i h = let n = not-bit 0 i h in let z = zero-bit i in omega arith
 
-plain-word : (m : List ℕ) (b : Bool) (t : ℕ) → t % 64 ≡ 0 → getD m (t / 64) 0 ≡ flipped b 0 → (j : ℕ) → t ≤ j → j < t + 64 → freeBit m j ≡ 1 - bit b
+pub plain-tracks : (m : List ℕ) (b : Bool) (p w v : ℕ) → p ≡ flipped b 0 → Alike m p w v → (j : ℕ) → 64 * w ≤ j → j < 64 * v → freeBit m j ≡ 1 - bit b
 unfolding freeBit
-plain-word m b t e q j u v = let w : j / 64 ≡ t / 64 = omega arith in rw (w, q) (plain-bit b (j % 64) (omega arith))
+plain-tracks m b p w v q h j u z = rw (h (j / 64) (omega arith) (omega arith), q) (plain-bit b (j % 64) (omega arith))
 
--- ---- words passed over
+-- ---- words alike
 
-pub pass-none : (m : List ℕ) (b : Bool) (s n : ℕ) → s ≤ n → Passed m b s n s
-pass-none m b s n h = record { from = le-refl s; to = h; whole = refl; before = λ j u v. absurd (omega arith) }
+module _ (m : List ℕ) (p w : ℕ) where
+  pub alike-none : Alike m p w w
+  alike-none i u v = absurd (omega arith)
 
-module _ (m : List ℕ) (b : Bool) (s n p : ℕ) (plain : p ≡ flipped b 0) (first : s < n → s % 64 ≡ 0) where
-  pub pass-word : (r : ℕ) → Passed m b s n r → 64 ≤ n - r → getD m (r / 64) 0 ≡ p → Passed m b s n (r + 64)
-  pass-word r c h e =
-      let f = c .from in
-      let w = c .whole in
-      let o = first (omega arith) in
+  pub alike-more : (r : ℕ) → Alike m p w r → getD m r 0 ≡ p → Alike m p w (r + 1)
+  alike-more r h e i u v = elim (ℕ-discrete i r) [ yes q ↦ rw q e | no q ↦ h i u (omega arith) ]
+
+  -- they differ from p in no bit
+  pub alike-turn : (i x : ℕ) → (x ≡ 0 → Alike m p w (w + i)) → bitOr x (bitXor (getD m (w + i) 0) p) ≡ 0 → Alike m p w (w + (i + 1))
+  alike-turn i x h z j u v =
+      let b = or-none x (bitXor (getD m (w + i) 0) p) z in
+      alike-more (w + i) (h (b .0)) (xor-none (getD m (w + i) 0) p (b .1)) j u (omega arith)
+
+  pub alike-four : (r : ℕ) → Alike m p w r
+      → bitOr (bitOr (bitXor (getD m r 0) p) (bitXor (getD m (r + 1) 0) p)) (bitOr (bitXor (getD m (r + 2) 0) p) (bitXor (getD m (r + 3) 0) p)) ≡ 0
+      → Alike m p w (r + 4)
+  alike-four r h z =
+      let both = or-none (bitOr (bitXor (getD m r 0) p) (bitXor (getD m (r + 1) 0) p)) (bitOr (bitXor (getD m (r + 2) 0) p) (bitXor (getD m (r + 3) 0) p)) z in
+      let low = or-none (bitXor (getD m r 0) p) (bitXor (getD m (r + 1) 0) p) (both .0) in
+      let high = or-none (bitXor (getD m (r + 2) 0) p) (bitXor (getD m (r + 3) 0) p) (both .1) in
+      let one = alike-more r h (xor-none _ p (low .0)) in
+      let two : Alike m p w (r + 2) = λ i u v. alike-more (r + 1) one (xor-none _ p (low .1)) i u (omega arith) in
+      let three : Alike m p w (r + 3) = λ i u v. alike-more (r + 2) two (xor-none _ p (high .0)) i u (omega arith) in
+      λ i u v. alike-more (r + 3) three (xor-none _ p (high .1)) i u (omega arith)
+
+  -- the first that is not
+  pub unlike-here : (e r x : ℕ) → w ≤ r → r < e → Alike m p w r → x ≡ getD m r 0 → (x ≡ p → ⊥) → Unlike m p w e r x
+  unlike-here e r x f l h q n = record { from = f; before = h; found = λ _. (l, q); none = λ z. absurd (n z) }
+
+  pub unlike-none : (e : ℕ) → w ≤ e → Alike m p w e → Unlike m p w e e p
+  unlike-none e f h = record { from = f; before = h; found = λ n. absurd (n refl); none = λ _. refl }
+
+  pub unlike-on : (e v r x : ℕ) → w ≤ v → Alike m p w v → Unlike m p v e r x → Unlike m p w e r x
+  unlike-on e v r x f h q =
+      let g = q .from in
       record {
         from = omega arith;
-        to = omega arith;
-        whole = omega arith;
-        before = λ j u v. ⊎-elim (λ g. plain-word m b r (omega arith) (e ∙ plain) j g v) (λ g. c .before j u g) (le-or-lt r j);
+        before = λ i u z. ⊎-elim (λ k. q .before i k z) (λ k. h i u k) (le-or-lt v i);
+        found = q .found;
+        none = q .none;
       }
-
-  -- the same for word number w
-  pass-at : (r w : ℕ) → Passed m b s n r → 64 ≤ n - r → r / 64 ≡ w → bitXor (getD m w 0) p ≡ 0 → Passed m b s n (r + 64)
-  pass-at r w c h e z = pass-word r c h (ap (λ (i : ℕ). getD m i 0) e ∙ xor-none (getD m w 0) p z)
-
-  -- four words that differ from plain ones in no bit
-  pub pass-four : (r : ℕ) → Passed m b s n r → 256 ≤ n - r
-      → bitOr (bitOr (bitXor (getD m (r / 64) 0) p) (bitXor (getD m (r / 64 + 1) 0) p)) (bitOr (bitXor (getD m (r / 64 + 2) 0) p) (bitXor (getD m (r / 64 + 3) 0) p)) ≡ 0
-      → Passed m b s n (r + 256)
-  pass-four r c h z =
-      let w = r / 64 in
-      let both = or-none (bitOr (bitXor (getD m w 0) p) (bitXor (getD m (w + 1) 0) p)) (bitOr (bitXor (getD m (w + 2) 0) p) (bitXor (getD m (w + 3) 0) p)) z in
-      let low = or-none (bitXor (getD m w 0) p) (bitXor (getD m (w + 1) 0) p) (both .0) in
-      let high = or-none (bitXor (getD m (w + 2) 0) p) (bitXor (getD m (w + 3) 0) p) (both .1) in
-      let one = pass-at r w c (omega arith) refl (low .0) in
-      let two = pass-at (r + 64) (w + 1) one (omega arith) (omega arith) (low .1) in
-      let three = pass-at (r + 64 + 64) (w + 2) two (omega arith) (omega arith) (high .0) in
-      let e : r + 64 + 64 + 64 + 64 ≡ r + 256 = omega arith in
-      subst (Passed m b s n) e (pass-at (r + 64 + 64 + 64) (w + 3) three (omega arith) (omega arith) (high .1))
 
 -- ---- the map at the beginning
 

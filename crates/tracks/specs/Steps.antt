@@ -1,13 +1,14 @@
 -- What the functions inside the map's loops promise: masks, words and single tracks. Assumes nothing.
-use Prim.Native.Nat.{ℕ, suc, _+_, _-_, _*_, _/_, _%_, _^_, _≤_, _<_, min}
+use Prim.Native.Nat.{ℕ, zero, suc, _+_, _-_, _*_, _/_, _%_, _^_, _≤_, _<_, min}
 use mathlib.Core.Path.{_≡_}
 use mathlib.Core.Bool.{Bool, true, false}
 use mathlib.Core.List.{List}
-use lib.ListN.{getD}
+use lib.ListN.{getD, length}
 use lib.Dec.{ltb}
 use lib.Bits.{bitXor}
 use Rattle.model.specs.Basics.{bit}
-use Rattle.tracks.specs.Map.{bitAt, freeBit}
+use Rattle.model.specs.Model.{runs}
+use Rattle.tracks.specs.Map.{bitAt, freeBit, isFree}
 
 -- n ones from bit lo on
 unfoldable pub block : ℕ → ℕ → ℕ
@@ -29,24 +30,21 @@ pub record First (m : List ℕ) (b : Bool) (s n r : ℕ) : Type 0 where
   pub before : (t : ℕ) → s ≤ t → t < r → freeBit m t ≡ 1 - bit b
   pub here : r < n → freeBit m r ≡ bit b
 
--- no track from s up to r is free (b true), or all are (b false); they are whole words
-pub record Passed (m : List ℕ) (b : Bool) (s n r : ℕ) : Type 0 where
-  pub from : s ≤ r
-  pub to : r ≤ n
-  pub whole : r % 64 ≡ s % 64
-  pub before : (t : ℕ) → s ≤ t → t < r → freeBit m t ≡ 1 - bit b
-
 -- x shows the tracks from t on and below n that lie in t's word, at their places in it; the bits before t are clear
 pub record Rest (m : List ℕ) (n t x : ℕ) : Type 0 where
   pub clear : (j : ℕ) → j < t % 64 → bitAt x j ≡ 0
   pub shown : (i : ℕ) → t ≤ i → i < n → i / 64 ≡ t / 64 → bitAt x (i % 64) ≡ freeBit m i
 
--- the words from w up to r are p; the one at r, below e, is not
-pub record Plain (m : List ℕ) (p w e r : ℕ) : Type 0 where
+-- the words from w up to r are p
+abbrev pub Alike : List ℕ → ℕ → ℕ → ℕ → Type 0
+Alike m p w r = (i : ℕ) → w ≤ i → i < r → getD m i 0 ≡ p
+
+-- of the words from w on and below e the one at r, x, is the first that is not p; where there is none, r is e and x is p
+pub record Unlike (m : List ℕ) (p w e r x : ℕ) : Type 0 where
   pub from : w ≤ r
-  pub to : r ≤ e
-  pub before : (i : ℕ) → w ≤ i → i < r → getD m i 0 ≡ p
-  pub here : r < e → getD m r 0 ≡ p → ⊥
+  pub before : Alike m p w r
+  pub found : (x ≡ p → ⊥) → (r < e) × (x ≡ getD m r 0)
+  pub none : x ≡ p → r ≡ e
 
 -- y shows the tracks from t on and below n that lie in word w, at their places in it; no bits before t
 pub record Part (m : List ℕ) (n t w y : ℕ) : Type 0 where
@@ -72,3 +70,17 @@ pub record Starts (y x r : ℕ) : Type 0 where
   pub small : r < 2 ^ 64
   pub first : bitAt r 0 ≡ min (bitAt x 0) (1 - bitAt y 63)
   pub rest : (j : ℕ) → j < 63 → bitAt r (suc j) ≡ min (bitAt x (suc j)) (1 - bitAt x j)
+
+-- the bit of the track before t; none is before track 0
+abbrev pub bitBefore : List ℕ → ℕ → ℕ
+bitBefore m zero = 0
+bitBefore m (suc t) = freeBit m t
+
+-- how many runs of free tracks there are below t
+unfoldable pub runsBelow : List ℕ → ℕ → ℕ
+runsBelow m t = length (runs (isFree m) 0 t)
+
+-- so many runs are below track t, the first of a word, and y is the word before, or ends as it does
+pub record Counts (m : List ℕ) (t c y : ℕ) : Type 0 where
+  pub runs : c ≡ runsBelow m t
+  pub last : bitAt y 63 ≡ bitBefore m t

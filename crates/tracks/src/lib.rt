@@ -1,12 +1,12 @@
 // The map of free tracks, a bit a track: track t is bit t % 64 of word t / 64, set where the track is free.
 // No loop goes by tracks: each turn does the rest of a word.
 ghost use mathlib.Core.Path.{_≡_};
-ghost use mathlib.Core.Bool.{false};
+ghost use mathlib.Core.Bool.{false, true};
 ghost use mathlib.Core.List.{List};
 ghost use Prim.Native.Nat.{ℕ, _+_, _-_, _*_, _/_, _%_, _≤_, _<_, min};
 ghost use lib.ListN.{length};
-ghost use Rattle.tracks.specs.Map.{freeFrom, isFree, Opened, Taken, Given, NextRun};
-ghost use Rattle.tracks.specs.Steps.{Ending, First, Passed, Plain, Rest, Starts, Word, block, flipped};
+ghost use Rattle.tracks.specs.Map.{bitAt, freeFrom, isFree, Opened, Taken, Given, NextRun};
+ghost use Rattle.tracks.specs.Steps.{Alike, Counts, Ending, First, Rest, Starts, Unlike, Word, bitBefore, block, flipped, runsBelow};
 
 const ALL: u64 = 0xffff_ffff_ffff_ffff;
 
@@ -54,24 +54,40 @@ fn take_near(map: &mut [u64], s: usize, e: usize) -> bool
     true
 }
 
-// The same for any number of tracks, word by word.
-fn take_far(map: &mut [u64], s: usize, e: usize) -> bool
-    requires { ⌜ (s ≤ e) × (e ≤ 64 * length (now map)) ⌝ }
-    ensures { λ r. ⌜ Taken (now (map .entry)) (now (map .exit)) s e r ⌝ }
+// Takes the tracks of the words from w up to v: true if all of them were free.
+fn take_words(map: &mut [u64], w: usize, v: usize) -> bool
+    requires { ⌜ (w ≤ v) × (v ≤ length (now map)) ⌝ }
+    ensures { λ r. ⌜ Taken (now (map .entry)) (now (map .exit)) (64 * w) (64 * v) r ⌝ }
 {
-    let mut t = s;
-    while t < e {
-        let n = chunk(t, e);
-        let w = t / 64;
-        let m = mask(t % 64, n);
-        let x = map[w];
-        if x & m != m {
+    let mut i = w;
+    while i < v {
+        if map[i] != ALL {
             return false;
         }
-        map[w] = x ^ m;
-        t += n;
+        map[i] = 0;
+        i += 1;
     }
     true
+}
+
+// Takes the tracks from s up to e, which do not lie in one word: those of the first word and of the last, then those between. Most
+// lie in two words.
+fn take_far(map: &mut [u64], s: usize, e: usize) -> bool
+    requires { ⌜ (s < e) × (s / 64 < (e - 1) / 64) × (e ≤ 64 * length (now map)) ⌝ }
+    ensures { λ r. ⌜ Taken (now (map .entry)) (now (map .exit)) s e r ⌝ }
+{
+    let w = s / 64;
+    let v = (e - 1) / 64;
+    let a = mask(s % 64, 64 - s % 64);
+    let b = mask(0, (e - 1) % 64 + 1);
+    let x = map[w];
+    let y = map[v];
+    if ((x & a) ^ a) | ((y & b) ^ b) != 0 {
+        return false;
+    }
+    map[w] = x ^ a;
+    map[v] = y ^ b;
+    take_words(map, w + 1, v)
 }
 
 // Takes the tracks from s up to e: true if all of them were free. Most extents are short: they need no loop.
@@ -83,8 +99,9 @@ pub fn take_range(map: &mut [u64], s: usize, e: usize) -> bool
         if s / 64 == (e - 1) / 64 {
             return take_near(map, s, e);
         }
+        return take_far(map, s, e);
     }
-    take_far(map, s, e)
+    true
 }
 
 // Makes the tracks from s up to e free, which lie in one word.
@@ -131,43 +148,6 @@ fn flip(x: u64, free: bool) -> u64
     if free { x } else { x ^ ALL }
 }
 
-// Passes over whole words as skip does, four at a time: they differ from plain ones in no bit.
-fn skip_fours(map: &[u64], t: usize, n: usize, free: bool) -> usize
-    requires { ⌜ (t ≤ n) × (n ≤ 64 * length (now map)) × (t < n → t % 64 ≡ 0) ⌝ }
-    ensures { λ r. ⌜ Passed (now (map .entry)) free t n r ⌝ }
-{
-    let plain = flip(0, free);
-    let mut r = t;
-    while 256 <= n - r {
-        let w = r / 64;
-        let a = (map[w] ^ plain) | (map[w + 1] ^ plain);
-        let b = (map[w + 2] ^ plain) | (map[w + 3] ^ plain);
-        if a | b != 0 {
-            return r;
-        }
-        r += 256;
-    }
-    r
-}
-
-// Passes over whole words from track t on, the first of a word: those in which no track is free, or in which all are. A long
-// run costs a comparison for four words; the last few are compared one by one.
-fn skip(map: &[u64], t: usize, n: usize, free: bool) -> usize
-    requires { ⌜ (t ≤ n) × (n ≤ 64 * length (now map)) × (t < n → t % 64 ≡ 0) ⌝ }
-    ensures { λ r. ⌜ Passed (now (map .entry)) free t n r ⌝ }
-{
-    let plain = flip(0, free);
-    let mut r = skip_fours(map, t, n, free);
-    while 64 <= n - r {
-        let w = r / 64;
-        if map[w] != plain {
-            return r;
-        }
-        r += 64;
-    }
-    r
-}
-
 // Tracks from the first up to the one behind the last.
 pub struct Span {
     pub from: usize,
@@ -193,41 +173,59 @@ pub struct Ahead {
     pub rest: u64,
 }
 
-// The first word from word w on and below word e that is not `plain`; e where there is none. The first ones are compared one by
-// one, since most runs are short.
-fn pass(map: &[u64], w: usize, e: usize, plain: u64) -> usize
-    requires { ⌜ (w ≤ e) × (e ≤ length (now map)) ⌝ }
-    ensures { λ r. ⌜ Plain (now (map .entry)) plain w e r ⌝ }
-{
-    let mut r = w;
-    while 4 <= e - r {
-        if map[r] != plain {
-            return r;
-        }
-        if map[r + 1] != plain {
-            return r + 1;
-        }
-        if map[r + 2] != plain {
-            return r + 2;
-        }
-        if map[r + 3] != plain {
-            return r + 3;
-        }
-        r += 4;
-    }
-    while r < e {
-        if map[r] != plain {
-            return r;
-        }
-        r += 1;
-    }
-    r
-}
-
 // A word of the map, by its number, and tracks of it.
 struct Place {
     at: usize,
     word: u64,
+}
+
+// Passes over words that are `plain`, from word w on and below word e, four at a time: the result is where it ends, with one among the
+// next four that is not, or fewer than four.
+fn pass_fours(map: &[u64], w: usize, e: usize, plain: u64) -> usize
+    requires { ⌜ (w ≤ e) × (e ≤ length (now map)) ⌝ }
+    ensures { λ r. ⌜ (w ≤ r) × (r ≤ e) × Alike (now (map .entry)) plain w r ⌝ }
+{
+    let mut r = w;
+    while 4 <= e - r {
+        let a = (map[r] ^ plain) | (map[r + 1] ^ plain);
+        let b = (map[r + 2] ^ plain) | (map[r + 3] ^ plain);
+        if a | b != 0 {
+            return r;
+        }
+        r += 4;
+    }
+    r
+}
+
+// The first word from word w on and below word e that is not `plain`; where there is none, e and `plain`. One by one.
+fn pass_ones(map: &[u64], w: usize, e: usize, plain: u64) -> Place
+    requires { ⌜ (w ≤ e) × (e ≤ length (now map)) ⌝ }
+    ensures { λ r. ⌜ Unlike (now (map .entry)) plain w e (r .at) (r .word) ⌝ }
+{
+    let mut r = w;
+    while r < e {
+        let x = map[r];
+        if x != plain {
+            return Place { at: r, word: x };
+        }
+        r += 1;
+    }
+    Place { at: e, word: plain }
+}
+
+// The same: most often it is the first word, and else a long way.
+fn pass(map: &[u64], w: usize, e: usize, plain: u64) -> Place
+    requires { ⌜ (w ≤ e) × (e ≤ length (now map)) ⌝ }
+    ensures { λ r. ⌜ Unlike (now (map .entry)) plain w e (r .at) (r .word) ⌝ }
+{
+    if w < e {
+        let x = map[w];
+        if x != plain {
+            return Place { at: w, word: x };
+        }
+    }
+    let r = pass_fours(map, w, e, plain);
+    pass_ones(map, r, e, plain)
 }
 
 // The first word from t's on and below word e in which a track from t on is free, and these tracks; x are those of t's own.
@@ -239,14 +237,7 @@ fn word_ahead(map: &[u64], t: usize, e: usize, x: u64) -> Place
     if x != 0 {
         return Place { at: w, word: x };
     }
-    let v = pass(map, w + 1, e, 0);
-    if v < e {
-        return Place {
-            at: v,
-            word: map[v],
-        };
-    }
-    Place { at: e, word: 0 }
+    pass(map, w + 1, e, 0)
 }
 
 // The run from track `from` up to the first track of word w that is not free, the lowest bit that is not in `low`; y has the
@@ -306,10 +297,10 @@ fn run_far(map: &[u64], t: usize, n: usize, x: u64) -> Ahead
     if low != ALL {
         return stop_at(n, from, w, y, low);
     }
-    let v = pass(map, w + 1, e, ALL);
-    if v < e {
-        let q = map[v];
-        return stop_at(n, from, v, q, q);
+    let q = pass(map, w + 1, e, ALL);
+    let z = q.word;
+    if z != ALL {
+        return stop_at(n, from, q.at, z, z);
     }
     Ahead {
         from,
@@ -365,29 +356,99 @@ fn starts(y: u64, x: u64) -> u64
     x & (behind ^ ALL)
 }
 
-// How many runs of free tracks there are below n: each has one start. Words that are as the last track before them, all free
-// or all taken, have none and are passed over.
+// Whether eight words from word w on are `plain`. There is no exit from the loop, so that they are compared at a time.
+fn eight_plain(map: &[u64], w: usize, plain: u64) -> bool
+    requires { ⌜ w + 8 ≤ length (now map) ⌝ }
+    ensures { λ r. ⌜ (r ≡ true → Alike (now (map .entry)) plain w (w + 8)) ⌝ }
+{
+    let mut unlike: u64 = 0;
+    let mut i: usize = 0;
+    while i < 8 {
+        unlike = unlike | (map[w + i] ^ plain);
+        i += 1;
+    }
+    unlike == 0
+}
+
+// How many runs start in eight words from word w on; y is the word before. Their bits are counted many at a time.
+fn starts_in_eight(map: &[u64], w: usize, y: u64) -> usize
+    requires { ⌜ (w + 8 ≤ length (now map)) × (bitAt y 63 ≡ bitBefore (now map) (64 * w)) ⌝ }
+    ensures { λ r. ⌜ runsBelow (now (map .entry)) (64 * w + 512) ≡ runsBelow (now (map .entry)) (64 * w) + r ⌝ }
+{
+    let mut count = u64::count_ones(starts(y, map[w])) as usize;
+    let mut i: usize = 1;
+    while i < 8 {
+        count += u64::count_ones(starts(map[w + i - 1], map[w + i])) as usize;
+        i += 1;
+    }
+    count
+}
+
+// How many runs start before a word, and the word before that.
+struct Counted {
+    runs: usize,
+    last: u64,
+}
+
+// Counts on over eight words from word w on. Words that are as the last track before them, all free or all taken, have no start.
+fn count_eight(map: &[u64], w: usize, from: Counted) -> Counted
+    requires { ⌜ (w + 8 ≤ length (now map)) × (64 * w + 512 < 18446744073709551616) × Counts (now map) (64 * w) (from .runs) (from .last) ⌝ }
+    ensures { λ r. ⌜ Counts (now (map .entry)) (64 * w + 512) (r .runs) (r .last) ⌝ }
+{
+    let last = from.last;
+    if eight_plain(map, w, flip(0, last < 0x8000_0000_0000_0000)) {
+        return from;
+    }
+    let runs = from.runs + starts_in_eight(map, w, last);
+    Counted {
+        runs,
+        last: map[w + 7],
+    }
+}
+
+// Counts the runs that start in the first e words, eight by eight, as far as there are so many.
+fn count_eights(map: &[u64], e: usize) -> Counted
+    requires { ⌜ (e ≤ length (now map)) × (64 * e < 18446744073709551616) ⌝ }
+    ensures { λ r. ⌜ Counts (now (map .entry)) (64 * (e / 8 * 8)) (r .runs) (r .last) ⌝ }
+{
+    let mut c = Counted { runs: 0, last: 0 };
+    let mut w: usize = 0;
+    while 8 <= e - w {
+        c = count_eight(map, w, c);
+        w += 8;
+    }
+    c
+}
+
+// Counts on to word e, one by one.
+fn count_rest(map: &[u64], w: usize, e: usize, from: Counted) -> Counted
+    requires { ⌜ (w ≤ e) × (e ≤ length (now map)) × (64 * e < 18446744073709551616) × Counts (now map) (64 * w) (from .runs) (from .last) ⌝ }
+    ensures { λ r. ⌜ Counts (now (map .entry)) (64 * e) (r .runs) (r .last) ⌝ }
+{
+    let mut runs = from.runs;
+    let mut last = from.last;
+    let mut i = w;
+    while i < e {
+        runs += u64::count_ones(starts(last, map[i])) as usize;
+        last = map[i];
+        i += 1;
+    }
+    Counted { runs, last }
+}
+
+// How many runs of free tracks there are below n: each has one start.
 pub fn count_runs(map: &[u64], n: usize) -> usize
     requires { ⌜ n ≤ 64 * length (now map) ⌝ }
     ensures { λ r. ⌜ (r ≡ length (freeFrom (now (map .entry)) n 0)) × (r ≤ n) ⌝ }
 {
-    let mut count: usize = 0;
-    let mut y: u64 = 0;
-    let mut t: usize = 0;
-    while 64 <= n - t {
-        let w = t / 64;
-        let x = map[w];
-        count += u64::count_ones(starts(y, x)) as usize;
-        y = x;
-        t = skip(map, t + 64, n, x < 0x8000_0000_0000_0000);
-    }
+    let e = n / 64;
+    let c = count_rest(map, e / 8 * 8, e, count_eights(map, e));
     let k = n % 64;
     if k == 0 {
-        return count;
+        return c.runs;
     }
-    let w = t / 64;
-    let s = starts(y, map[w]) << (64 - k);
-    count + u64::count_ones(s) as usize
+    let s = starts(c.last, map[e]) << (64 - k);
+    c.runs + u64::count_ones(s) as usize
 }
 
 // Whether track t is free.

@@ -104,38 +104,34 @@ add-pass c = search needs
 pass-requires : tie.Need-pass-requires
 pass-requires c κs = search needs
 
--- src/lib.rt:292:17
-mul-q : tie.Need-mul-q
-mul-q c = search needs
-
--- src/lib.rt:292:17
-shared-slice-read-q : tie.Need-shared-slice-read-q
-shared-slice-read-q c = search needs
-
--- src/lib.rt:293:9
 stop-at-requires-2 : tie.Need-stop-at-requires-2
-stop-at-requires-2 c κs = (omega arith, c .before .before .before .before .if3 .taken, c .before .before .pass .ensures .here (c .before .if5 .taken))
+stop-at-requires-2 c κs =
+    let q = c .before .pass .ensures .found (c .if5 .taken) in
+    let l = q .0 in
+    (omega arith, c .before .before .before .if3 .taken, c .if5 .taken)
 
--- src/lib.rt:293:9
 returns-5 : tie.Need-returns-5
 returns-5 c =
-    let top = c .before .before .before .before .before .before .before .before .before .before in
+    let top = c .before .before .before .before .before .before .before .before .before in
     let a = top .args in
-    let r = c .before .before .before .before .before .before .before .word-ahead .result in
-    let p = c .before .before .before .before .before .before .before .word-ahead .ensures (a .n) (omega arith) (top .pre .2) in
-    let f = first-on (a .map .now) (a .n) (a .t) ((a .n - 1) / 64 + 1) (r .at) (r .word) p (c .before .before .before .before .before .before .if2 .left) (omega arith) (c .before .before .before .before .before .if3 .taken) in
-    let s = c .stop-at2 .ensures .1 (a .map .now) (ending-later (a .map .now) (a .n) (a .t) ((a .n - 1) / 64 + 1) (r .at) (r .word) p (c .before .before .before .before .before .before .if2 .left) (omega arith) (c .before .before .before .before .if4 .left) (c .before .before .before .pass .result) (c .before .before .before .pass .ensures)) in
+    let r = c .before .before .before .before .before .before .word-ahead .result in
+    let p = c .before .before .before .before .before .before .word-ahead .ensures (a .n) (omega arith) (top .pre .2) in
+    let some = c .before .before .before .before .before .if2 .left in
+    let v = c .before .before .pass .result in
+    let f = first-on (a .map .now) (a .n) (a .t) ((a .n - 1) / 64 + 1) (r .at) (r .word) p some (omega arith) (c .before .before .before .before .if3 .taken) in
+    let s = c .stop-at2 .ensures .1 (a .map .now) (ending-later (a .map .now) (a .n) (a .t) ((a .n - 1) / 64 + 1) (r .at) (r .word) p some (omega arith) (c .before .before .before .if4 .left) (v .at) (v .word) (c .before .before .pass .ensures) (c .before .if5 .taken)) in
     (subst (λ (x : ℕ). NextRun (a .map .now) (a .n) (a .t) x (c .stop-at2 .result .to)) (sym (c .stop-at2 .ensures .0)) (next-run-law (a .map .now) (a .n) (a .t) (64 * r .at + trailingZeros 64 (r .word)) (c .stop-at2 .result .to) f (s .0)), s .1)
 
--- src/lib.rt:268:1
 returns-6 : tie.Need-returns-6
 returns-6 c =
     let top = c .before .before .before .before .before .before .before .before in
     let a = top .args in
     let r = c .before .before .before .before .before .word-ahead .result in
     let p = c .before .before .before .before .before .word-ahead .ensures (a .n) (omega arith) (top .pre .2) in
-    let f = first-on (a .map .now) (a .n) (a .t) ((a .n - 1) / 64 + 1) (r .at) (r .word) p (c .before .before .before .before .if2 .left) (omega arith) (c .before .before .before .if3 .taken) in
-    let g = ending-none (a .map .now) (a .n) (a .t) ((a .n - 1) / 64 + 1) (r .at) (r .word) p (c .before .before .before .before .if2 .left) (omega arith) (c .before .before .if4 .left) (c .before .pass .result) (c .before .pass .ensures) (c .if5 .left) (omega arith) (c .before .before .before .if3 .taken) in
+    let some = c .before .before .before .before .if2 .left in
+    let v = c .before .pass .result in
+    let f = first-on (a .map .now) (a .n) (a .t) ((a .n - 1) / 64 + 1) (r .at) (r .word) p some (omega arith) (c .before .before .before .if3 .taken) in
+    let g = ending-none (a .map .now) (a .n) (a .t) ((a .n - 1) / 64 + 1) (r .at) (r .word) p some (omega arith) (c .before .before .if4 .left) (v .at) (v .word) (c .before .pass .ensures) (c .if5 .left) (omega arith) (c .before .before .before .if3 .taken) in
     (next-run-law (a .map .now) (a .n) (a .t) (64 * r .at + trailingZeros 64 (r .word)) (a .n) f g, rest-none (a .map .now) (a .n) (a .n) (le-refl (a .n)))
 
 pub run-far-spec : {M : Type 1} → statement M
@@ -156,8 +152,6 @@ run-far-spec =
     returns-4
     add-pass
     pass-requires
-    mul-q
-    shared-slice-read-q
     stop-at-requires-2
     returns-5
     returns-6)

@@ -1,110 +1,126 @@
-use mathlib.Core.Path.{_≡_, refl, sym, ap, _∙_}
-use Prim.Native.Nat.{_≤_, _-_, _+_, _/_, _%_}
+use lib.ListN.{length-set}
+use mathlib.Core.Path.{refl}
 use native.Mathlib.Omega.{arith}
-use borrow.Author.Needs.{needs}
-use lib.ListN.{getD, set}
-use lib.Bits.{bitAnd, bitXor}
-use Rattle.tracks.specs.Steps.{block}
-use Rattle.tracks.specs.Map.{Made, AllFree}
-use Rattle.tracks.proofs.Words.{all-free, hit-chunk, take-chunk, made-none, made-more, free-more, hit-before}
 use Rattle.model.proofs.Lists.{clash}
+use Rattle.tracks.proofs.Words.{far-hit, far-took}
+use borrow.Author.Needs.{needs}
 use Rattle.tracks.proofs.take_far.Statement.{statement}
 use Rattle.tracks.proofs.take_far.Tie as tie
+use Rattle.tracks.proofs.take_far.Reads as reads
+use Rattle.tracks.proofs.take_far.Lts as lts
+use Rattle.tracks.proofs.mask.Reads as mask-reads
+use Rattle.tracks.proofs.take_words.Reads as take-words-reads
 
-abbrev Inv-loop : tie.InvT-loop
-Inv-loop map₀ s e t₀ map t = (s ≤ t) × (t ≤ e) × AllFree map₀ s t × Made 0 map₀ map s t
+-- src/lib.rt:80:14
+sub-v : tie.Need-sub-v
+sub-v c = search needs
 
-abbrev μ-loop : tie.MeasureT-loop
-μ-loop map₀ s e t₀ map t = e - t
+-- src/lib.rt:81:26
+sub-mask : tie.Need-sub-mask
+sub-mask c = search needs
 
-loop-holds : tie.Need-loop-holds Inv-loop μ-loop
-loop-holds c = (omega arith, omega arith, (λ t a b. absurd (omega arith)), made-none _ _ _)
-
-chunk-requires : tie.Need-chunk-requires Inv-loop μ-loop
-chunk-requires c κs = search needs
-
-mask-requires : tie.Need-mask-requires Inv-loop μ-loop
+-- src/lib.rt:81:9
+mask-requires : tie.Need-mask-requires
 mask-requires c κs = search needs
 
-mul-x : tie.Need-mul-x Inv-loop μ-loop
+-- src/lib.rt:82:22
+sub-mask-2 : tie.Need-sub-mask-2
+sub-mask-2 c = search needs
+
+-- src/lib.rt:82:21
+add-mask : tie.Need-add-mask
+add-mask c = search needs
+
+-- src/lib.rt:82:9
+mask-requires-2 : tie.Need-mask-requires-2
+mask-requires-2 c κs = search needs
+
+-- src/lib.rt:83:13
+mul-x : tie.Need-mul-x
 mul-x c = search needs
 
-slice-read-x : tie.Need-slice-read-x Inv-loop μ-loop
+-- src/lib.rt:83:13
+slice-read-x : tie.Need-slice-read-x
 slice-read-x c = search needs
 
-same-length : tie.Need-same-length Inv-loop μ-loop
-same-length c = search needs
+-- src/lib.rt:84:13
+mul-y : tie.Need-mul-y
+mul-y c = search needs
 
-returns : tie.Need-returns Inv-loop μ-loop
+-- src/lib.rt:84:13
+slice-read-y : tie.Need-slice-read-y
+slice-read-y c = search needs
+
+-- src/lib.rt:86:9
+returns : tie.Need-returns
 returns c =
-    let top = c .before .before .before .before .before .before .before in
-    let at-loop = c .before .before .before .before .before in
-    let m = at-loop .loop .map in
-    let s = top .args .s in
-    let t = at-loop .loop .t in
-    let e = top .args .e in
-    let n = c .before .before .before .chunk .result in
+    let a = c .before .before .before .before .before .before .args in
+    let p = c .before .before .before .before .before .before .pre in
     record {
-      long = at-loop .loop .inv .3 .long;
+      long = refl;
       were = λ r. clash r refl;
       made = λ r. clash r refl;
-      hit = λ _. hit-before (top .args .map .now) m s t e (omega arith) (at-loop .loop .inv .3) (hit-chunk m t n (omega arith) (omega arith) e (omega arith)
-          (λ z. c .if1 .taken (ap (bitAnd (getD m (t / 64) 0)) (c .before .before .mask .ensures) ∙ z ∙ sym (c .before .before .mask .ensures))));
+      hit = λ _. far-hit (a .map .now) (a .s) (a .e) _ _ (p .0) (p .1) (p .2) (c .before .before .before .before .mask .ensures) (c .before .before .before .mask2 .ensures) (c .if1 .taken);
     }
 
-mul-map : tie.Need-mul-map Inv-loop μ-loop
+-- src/lib.rt:88:5
+mul-map : tie.Need-mul-map
 mul-map c = search needs
 
-slice-write-map : tie.Need-slice-write-map Inv-loop μ-loop
+-- src/lib.rt:88:5
+slice-write-map : tie.Need-slice-write-map
 slice-write-map c = search needs
 
-add-t : tie.Need-add-t Inv-loop μ-loop
-add-t c = search needs
+-- src/lib.rt:89:5
+mul-map-2 : tie.Need-mul-map-2
+mul-map-2 c = search needs
 
-loop-less : tie.Need-loop-less Inv-loop μ-loop
-loop-less c = search needs
+-- src/lib.rt:89:5
+slice-write-map-2 : tie.Need-slice-write-map-2
+slice-write-map-2 c = simp length-set (search needs)
 
-loop-again : tie.Need-loop-again Inv-loop μ-loop
-loop-again c =
-    let top = c .before .before .before .before .before .before .before in
-    let at-loop = c .before .before .before .before .before in
-    let m = at-loop .loop .map in
-    let s = top .args .s in
-    let t = at-loop .loop .t in
-    let n = c .before .before .before .chunk .result in
-    let z : bitAnd (getD m (t / 64) 0) (block (t % 64) n) ≡ block (t % 64) n = rw (c .before .before .mask .ensures) at (c .if1 .left) in
-    let step : Made 0 m (set m (t / 64) (bitXor (getD m (t / 64) 0) (c .before .before .mask .result))) t (t + n) = rw (c .before .before .mask .ensures) (take-chunk m t n (omega arith) (omega arith) z) in (
-      omega arith,
-      omega arith,
-      free-more (top .args .map .now) m s t (t + n) (at-loop .loop .inv .2) (at-loop .loop .inv .3) (all-free m t n (omega arith) (omega arith) z),
-      made-more 0 (top .args .map .now) m _ s t (t + n) (omega arith) (omega arith) (at-loop .loop .inv .3) step,
-    )
+-- src/lib.rt:90:21
+add-take-words : tie.Need-add-take-words
+add-take-words c = search needs
 
-same-length-2 : tie.Need-same-length-2 Inv-loop μ-loop
-same-length-2 c = search needs
+-- src/lib.rt:90:5
+take-words-requires : tie.Need-take-words-requires
+take-words-requires c κs = simp length-set (search needs)
 
-returns-2 : tie.Need-returns-2 Inv-loop μ-loop
+-- src/lib.rt:75:1
+same-length : tie.Need-same-length
+same-length c =
+    let a = c .before .before .before .before .before .before .before .before .before .before .args in
+    let p = c .before .before .before .before .before .before .before .before .before .before .pre in
+    far-took (a .map .now) (a .s) (a .e) _ _ (p .0) (p .1) (p .2) (c .before .before .before .before .before .before .before .before .mask .ensures) (c .before .before .before .before .before .before .before .mask2 .ensures) (c .before .before .before .before .if1 .left) _ _ (c .before .before .take-words .ensures) .long
+
+-- src/lib.rt:75:1
+returns-2 : tie.Need-returns-2
 returns-2 c =
-    let e : c .before .loop .t ≡ c .before .before .before .args .e = omega arith in
-    record { long = c .before .loop .inv .3 .long; were = λ _. rw e at (c .before .loop .inv .2); made = λ _. rw e at (c .before .loop .inv .3); hit = λ r. clash refl r }
+    let a = c .before .before .before .before .before .before .before .before .before .before .args in
+    let p = c .before .before .before .before .before .before .before .before .before .before .pre in
+    far-took (a .map .now) (a .s) (a .e) _ _ (p .0) (p .1) (p .2) (c .before .before .before .before .before .before .before .before .mask .ensures) (c .before .before .before .before .before .before .before .mask2 .ensures) (c .before .before .before .before .if1 .left) _ _ (c .before .before .take-words .ensures)
 
 pub take-far-spec : {M : Type 1} → statement M
 take-far-spec =
     tie.close
     (tie.spec
-    Inv-loop
-    μ-loop
-    loop-holds
-    chunk-requires
+    sub-v
+    sub-mask
     mask-requires
+    sub-mask-2
+    add-mask
+    mask-requires-2
     mul-x
     slice-read-x
-    same-length
+    mul-y
+    slice-read-y
     returns
     mul-map
     slice-write-map
-    add-t
-    loop-less
-    loop-again
-    same-length-2
+    mul-map-2
+    slice-write-map-2
+    add-take-words
+    take-words-requires
+    same-length
     returns-2)

@@ -1,0 +1,71 @@
+use mathlib.Core.Path.{_≡_}
+use mathlib.Core.Path.{refl}
+use Prim.Native.Nat.{_-_, _≤_}
+use native.Mathlib.Omega.{arith}
+use lib.ListN.{length}
+use Rattle.tracks.specs.Steps.{Alike}
+use Rattle.tracks.proofs.Words.{alike-more, alike-none, unlike-here, unlike-none}
+use borrow.Author.Needs.{needs}
+use Rattle.tracks.proofs.pass_ones.Statement.{statement}
+use Rattle.tracks.proofs.pass_ones.Tie as tie
+use Rattle.tracks.proofs.pass_ones.Reads as reads
+use Rattle.tracks.proofs.pass_ones.Lts as lts
+
+abbrev Inv-loop : tie.InvT-loop
+Inv-loop map w e plain r₀ r = (w ≤ r) × (r ≤ e) × (e ≤ length map) × Alike map plain w r
+
+abbrev μ-loop : tie.MeasureT-loop
+μ-loop map w e plain r₀ r = e - r
+
+-- src/lib.rt:206:5
+loop-holds : tie.Need-loop-holds Inv-loop μ-loop
+loop-holds c = search needs
+
+-- src/lib.rt:207:17
+mul-x : tie.Need-mul-x Inv-loop μ-loop
+mul-x c = search needs
+
+-- src/lib.rt:207:17
+shared-slice-read-x : tie.Need-shared-slice-read-x Inv-loop μ-loop
+shared-slice-read-x c = search needs
+
+-- src/lib.rt:209:13
+returns : tie.Need-returns Inv-loop μ-loop
+returns c = search needs
+
+-- src/lib.rt:211:9
+add-r : tie.Need-add-r Inv-loop μ-loop
+add-r c = search needs
+
+-- src/lib.rt:206:5
+loop-less : tie.Need-loop-less Inv-loop μ-loop
+loop-less c = search needs
+
+-- src/lib.rt:206:5
+loop-again : tie.Need-loop-again Inv-loop μ-loop
+loop-again c =
+    let l = c .before .before .before .loop in
+    (omega arith, omega arith, l .inv .2, alike-more (c .before .before .before .before .args .map .now) _ _ (l .r) (l .inv .3) (c .if1 .left))
+
+-- src/lib.rt:201:1
+returns-2 : tie.Need-returns-2 Inv-loop μ-loop
+returns-2 c =
+    let l = c .before .loop in
+    let a = c .before .before .args in
+    let q : l .r ≡ a .e = omega arith in
+    unlike-none (a .map .now) _ _ (a .e) (c .before .before .pre .0) (λ i u v. l .inv .3 i u (omega arith))
+
+pub pass-ones-spec : {M : Type 1} → statement M
+pass-ones-spec =
+    tie.close
+    (tie.spec
+    Inv-loop
+    μ-loop
+    loop-holds
+    mul-x
+    shared-slice-read-x
+    returns
+    add-r
+    loop-less
+    loop-again
+    returns-2)

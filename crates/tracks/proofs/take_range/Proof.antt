@@ -1,0 +1,58 @@
+use mathlib.Core.Path.{_≡_, refl}
+use native.Mathlib.Omega.{arith}
+use Rattle.model.proofs.Lists.{clash}
+use Rattle.tracks.proofs.Words.{made-none}
+use borrow.Author.Needs.{needs}
+use Rattle.tracks.proofs.take_range.Statement.{statement}
+use Rattle.tracks.proofs.take_range.Tie as tie
+use Rattle.tracks.proofs.take_range.Reads as reads
+use Rattle.tracks.proofs.take_range.Lts as lts
+use Rattle.tracks.proofs.take_far.Reads as take-far-reads
+use Rattle.tracks.proofs.take_near.Reads as take-near-reads
+
+-- src/lib.rt:99:23
+sub-if2 : tie.Need-sub-if2
+sub-if2 c = search needs
+
+-- src/lib.rt:100:13
+take-near-requires : tie.Need-take-near-requires
+take-near-requires c κs = search needs
+
+-- src/lib.rt:100:13
+same-length : tie.Need-same-length
+same-length c = search needs
+
+-- src/lib.rt:100:13
+returns : tie.Need-returns
+returns c = search needs
+
+-- src/lib.rt:102:9
+take-far-requires : tie.Need-take-far-requires
+take-far-requires c κs = search needs
+
+-- src/lib.rt:102:9
+same-length-2 : tie.Need-same-length-2
+same-length-2 c = search needs
+
+-- src/lib.rt:102:9
+returns-2 : tie.Need-returns-2
+returns-2 c = search needs
+
+-- src/lib.rt:94:1
+returns-3 : tie.Need-returns-3
+returns-3 c =
+    let a = c .before .before .args in
+    record { long = refl; were = λ _ t u v. absurd (omega arith); made = λ _. (let e : a .s ≡ a .e = omega arith in rw e (made-none 0 (a .map .now) (a .e))); hit = λ r. clash refl r }
+
+pub take-range-spec : {M : Type 1} → statement M
+take-range-spec =
+    tie.close
+    (tie.spec
+    sub-if2
+    take-near-requires
+    same-length
+    returns
+    take-far-requires
+    same-length-2
+    returns-2
+    returns-3)
