@@ -4,7 +4,7 @@ use mathlib.Core.Bool.{true, false, cond, _&&_, _||_, Bool}
 use mathlib.Core.Logic.{⊎-elim}
 use mathlib.Core.List.{List, [], _∷_}
 use Prim.Native.Nat.{ℕ, zero, suc, _+_, _-_, _≤_, _<_, _*_, _/_, _%_}
-use native.Mathlib.Nat.{lt-of-not-le, mul-le-mul}
+use native.Mathlib.Nat.{lt-of-not-le, mul-le-mul, sub-zero}
 use native.Mathlib.Decide.{decLe, ℕ-discrete}
 use native.Mathlib.Omega.{arith}
 use native.Mathlib.Numerals.{add-one}
@@ -22,7 +22,20 @@ use Rattle.tracks.proofs.Bits.{le-or-lt}
 use Rattle.tracks.proofs.Walk.{is-free}
 use Rattle.fields.specs.Records.{slotBytes}
 use Rattle.fields.specs.Tests.{word8}
-use Rattle.names.specs.Find.{Entered, Seen, Tagged, distinctFrom, findSlot, firstNamed, hasTag, isLabel, isNamed, isNothing, keyed, mixed, nameOf, newAt, notFound, refusalOf, tagOf}
+use Rattle.fields.proofs.Rows.{and-false, and-true}
+use Rattle.names.specs.Find.{Entered, Seen, Tagged, distinct, distinctFrom, findSlot, firstNamed, hasTag, isLabel, isNamed, isNothing, keyed, mixed, nameOf, newAt, notFound, refusalOf, tagOf}
+
+-- ---- a record: its name first
+
+pub other-name : (r name : List ℕ) → same (nameOf r) name ≡ false → isNamed r name ≡ false
+unfolding isNamed
+other-name r name e = rw (e, and-false)
+
+pub its-name : (r name : List ℕ) → same (nameOf r) name ≡ true → isNamed r name ≡ isLabel r
+unfolding isNamed
+its-name r name e = rw (e, and-true)
+
+-- ---- the search
 
 module _ (t name : List ℕ) (k n : ℕ) (h : k < n) where
   step : firstNamed t name k (n - k) ≡ cond (isNamed (slotBytes t k) name) (Slot k) (firstNamed t name (k + 1) (n - (k + 1)))
@@ -102,13 +115,13 @@ module _ (t : List ℕ) (k n : ℕ) (h : k < n) where
   unfolding distinctFrom
   distinct-step = let e : n - k ≡ suc (n - suc k) = omega arith in rw (e, add-one)
 
-  pub distinct-next : newAt t k ≡ true → distinctFrom t k (n - k) ≡ distinctFrom t (k + 1) (n - (k + 1))
+  distinct-next : newAt t k ≡ true → distinctFrom t k (n - k) ≡ distinctFrom t (k + 1) (n - (k + 1))
   distinct-next e = rw (distinct-step, e)
 
-  pub distinct-stop : newAt t k ≡ false → distinctFrom t k (n - k) ≡ false
+  distinct-stop : newAt t k ≡ false → distinctFrom t k (n - k) ≡ false
   distinct-stop e = rw (distinct-step, e)
 
-pub distinct-end : (t : List ℕ) (k n : ℕ) → n ≤ k → distinctFrom t k (n - k) ≡ true
+distinct-end : (t : List ℕ) (k n : ℕ) → n ≤ k → distinctFrom t k (n - k) ≡ true
 unfolding distinctFrom
 distinct-end t k n h = let e : n - k ≡ 0 = omega arith in rw e
 
@@ -283,3 +296,42 @@ module _ (t tags seen r : List ℕ) (k : ℕ) (e : r ≡ slotBytes t k) (g : Tag
     enter-old n =
         let b : isNothing (findSlot t (nameOf (slotBytes t k)) k) ≡ false = subst (λ (y : List ℕ). isNothing (findSlot t (nameOf y) k) ≡ false) e n in
         record { new = sym (label-at t k label ∙ b); long = refl; wide = refl; tagged = λ q. clash {b = false} q refl; marked = λ q. clash {b = false} q refl }
+
+-- ---- a pass that enters name after name
+
+-- the names below slot k differ, their tags and marks are at hand, and the other slots decide
+pub record Entering (t tags seen : List ℕ) (k n : ℕ) : Type 0 where
+  pub rest : distinct t n ≡ distinctFrom t k (n - k)
+  pub long : length tags ≡ 468
+  pub wide : length seen ≡ 64
+  pub tagged : Tagged t k tags
+  pub marked : Seen t k seen
+
+-- it may begin behind slot 0, where that has no label
+pub entering-start : (t tags seen : List ℕ) (n : ℕ) → isLabel (slotBytes t 0) ≡ false → 0 < n → length tags ≡ 468 → length seen ≡ 64 → Entering t tags seen 1 n
+unfolding distinct
+entering-start t tags seen n f h l w =
+    record {
+      rest = ap (distinctFrom t 0) (sym (sub-zero n)) ∙ distinct-next t 0 n h (no-label t 0 f);
+      long = l;
+      wide = w;
+      tagged = tag-skip t tags 0 f (λ j u e. absurd (omega arith));
+      marked = mark-skip t seen 0 f (λ j u e. absurd (omega arith));
+    }
+
+module _ (t tags tags′ seen seen′ : List ℕ) (k n : ℕ) (x : Entering t tags seen k n) (h : k < n) (r : Bool) (y : Entered t k tags tags′ seen seen′ r) where
+  pub entering-next : r ≡ true → Entering t tags′ seen′ (k + 1) n
+  entering-next e =
+      record {
+        rest = x .rest ∙ distinct-next t k n h (sym (y .new) ∙ e);
+        long = y .long ∙ x .long;
+        wide = y .wide ∙ x .wide;
+        tagged = y .tagged e;
+        marked = y .marked e;
+      }
+
+  pub entering-stop : r ≡ false → distinct t n ≡ false
+  entering-stop e = x .rest ∙ distinct-stop t k n h (sym (y .new) ∙ e)
+
+pub entering-end : (t tags seen : List ℕ) (k n : ℕ) → Entering t tags seen k n → n ≤ k → distinct t n ≡ true
+entering-end t tags seen k n x h = x .rest ∙ distinct-end t k n h

@@ -3,7 +3,7 @@ use fields::*;
 ghost use mathlib.Core.Path.{_≡_};
 ghost use Prim.Native.Nat.{_+_, _*_, _≤_, _<_};
 ghost use lib.ListN.{length};
-ghost use Rattle.names.specs.Find.{isNamed, findSlot, isNothing, notFound, refusalOf, distinct, keyed, mixed, tagOf, hasTag, Tagged, Seen, Entered};
+ghost use Rattle.names.specs.Find.{isNamed, findSlot, isNothing, notFound, refusalOf, keyed, mixed, tagOf, hasTag, Tagged, Seen, Entered};
 
 // A lookup's answer.
 pub enum Found {
@@ -11,15 +11,16 @@ pub enum Found {
     Nothing,
 }
 
-// Whether the record is a format 1 under this name.
+// Whether the record is a format 1 under this name. The name is asked first: few records have it, and a processor foresees that
+// branch. It cannot foresee one on the identifier, where labels stand among other records.
 pub fn is_named(rec: &[u8], name: &[u8]) -> bool
     requires { ⌜ length (now rec) ≡ 140 ⌝ }
     ensures { λ r. ⌜ r ≡ isNamed (now (rec .entry)) (now (name .entry)) ⌝ }
 {
-    if rec[44] != 0xF1 {
+    if fields::same(&rec[..44], name) {} else {
         return false;
     }
-    fields::same(&rec[..44], name)
+    rec[44] == 0xF1
 }
 
 // The first of the n slots that has a format 1 under this name. Its number is 0, or document 01's 5 where there is none.
@@ -118,7 +119,7 @@ fn is_new<'a>(table: &[u8], k: usize, tags: &'a [u16], seen: &'a [u64], t: u16, 
 }
 
 // Whether slot k has no label, or one with a new name; its tag joins the others then, and its mark.
-fn enter(table: &[u8], k: usize, tags: &mut [u16], seen: &mut [u64]) -> bool
+pub fn enter(table: &[u8], k: usize, tags: &mut [u16], seen: &mut [u64]) -> bool
     requires { ⌜ (140 * k + 140 ≤ length (now table)) × (k < length (now tags)) × Tagged (now table) k (now tags) × (length (now seen) ≡ 64) × Seen (now table) k (now seen) ⌝ }
     ensures { λ r. ⌜ Entered (now (table .entry)) k (now (tags .entry)) (now (tags .exit)) (now (seen .entry)) (now (seen .exit)) r ⌝ }
 {
@@ -136,22 +137,4 @@ fn enter(table: &[u8], k: usize, tags: &mut [u16], seen: &mut [u64]) -> bool
         return true;
     }
     false
-}
-
-// Whether the names of the format 1s among the n slots differ.
-pub fn names_differ(table: &[u8], n: usize) -> bool
-    requires { ⌜ (140 * n ≤ length (now table)) × (n ≤ 468) ⌝ }
-    ensures { λ r. ⌜ r ≡ distinct (now (table .entry)) n ⌝ }
-{
-    let mut tags = [0u16; 468];
-    let mut seen = [0u64; 64];
-    let mut k: usize = 0;
-    while k < n {
-        if enter(table, k, &mut tags, &mut seen) {
-            k += 1;
-        } else {
-            return false;
-        }
-    }
-    true
 }

@@ -17,9 +17,9 @@ use Rattle.rules.specs.Reading.{chop}
 use Rattle.sound.specs.Sound.{LabelOk}
 use Rattle.tracks.proofs.Held.{shows-same}
 use Rattle.fields.specs.Records.{slotBytes}
-use Rattle.names.specs.Find.{isLabel}
+use Rattle.names.specs.Find.{distinct, isLabel}
 use Rattle.label_check.specs.Marks.{TookLabel, labelAt, units}
-use Rattle.table.specs.Labels.{LabelsGone, LabelsTaken, Looked, atSlot, labelsBelow}
+use Rattle.table.specs.Labels.{GoneBelow, LabelsGone, LabelsTaken, Looked, atSlot, labelsBelow}
 
 -- ---- no label
 
@@ -172,13 +172,13 @@ gone-wrong g t m m′ s s′ ls ks x =
           omega arith);
     }
 
-module _ (g : Geometry) (t m m′ m″ s s′ s″ : List ℕ) (k : ℕ) (x : LabelsTaken g t k m m′ s s′ true) where
-  pub scan-next : (r : Bool) → r ≡ true → Looked g t k m′ m″ s′ s″ r → LabelsTaken g t (k + 1) m m″ s s″ true
+module _ (g : Geometry) (t m m′ m″ s s′ s″ : List ℕ) (k : ℕ) (x : GoneBelow g t k m m′ s s′ true) where
+  pub scan-next : (r : Bool) → r ≡ true → Looked g t k m′ m″ s′ s″ r → GoneBelow g t (k + 1) m m″ s s″ true
   scan-next r e y =
       subst (λ (ls : List Label). LabelsGone g t ls m m″ s s″ true) (sym (below-next g t k))
       (gone-more g t m m′ m″ s s′ s″ (labelsBelow g t k) (atSlot g t k) true x (subst (λ (b : Bool). Looked g t k m′ m″ s′ s″ b) e y))
 
-  pub scan-stop : (r : Bool) (n : ℕ) → r ≡ false → k < n → Looked g t k m′ m″ s′ s″ r → LabelsTaken g t n m m″ s s″ false
+  pub scan-stop : (r : Bool) (n : ℕ) → r ≡ false → k < n → Looked g t k m′ m″ s′ s″ r → GoneBelow g t n m m″ s s″ false
   scan-stop r n e u y =
       let w = below-more g t (k + 1) (n - (k + 1)) in
       let q : k + 1 + (n - (k + 1)) ≡ n = omega arith in
@@ -187,5 +187,19 @@ module _ (g : Geometry) (t m m′ m″ s s′ s″ : List ℕ) (k : ℕ) (x : La
       (subst (λ (ls : List Label). LabelsGone g t ls m m″ s s″ false) (sym (below-next g t k))
       (gone-more g t m m′ m″ s s′ s″ (labelsBelow g t k) (atSlot g t k) false x (subst (λ (b : Bool). Looked g t k m′ m″ s′ s″ b) e y))))
 
-pub scan-start : (g : Geometry) (t m s : List ℕ) → isLabel (slotBytes t 0) ≡ false → LabelsTaken g t 1 m m s s true
+pub scan-start : (g : Geometry) (t m s : List ℕ) → isLabel (slotBytes t 0) ≡ false → GoneBelow g t 1 m m s s true
 scan-start g t m s e = rw (below-one g t e) (gone-none g t m s)
+
+-- ---- labels and names
+
+-- a label is wrong, or two overlap
+pub taken-wrong : (g : Geometry) (t m m′ s s′ : List ℕ) (n : ℕ) → GoneBelow g t n m m′ s s′ false → LabelsTaken g t n m m′ s s′ false
+taken-wrong g t m m′ s s′ n x = record { longMap = x .longMap; longSlots = x .longSlots; differ = λ e. clash {b = false} e refl; gone = λ d. x }
+
+-- a name is there twice: the labels below k were well
+pub taken-twice : (g : Geometry) (t m m′ s s′ : List ℕ) (k n : ℕ) → GoneBelow g t k m m′ s s′ true → distinct t n ≡ false → LabelsTaken g t n m m′ s s′ false
+taken-twice g t m m′ s s′ k n x f = record { longMap = x .longMap; longSlots = x .longSlots; differ = λ e. clash {b = false} e refl; gone = λ d. clash d f }
+
+pub taken-all : (g : Geometry) (t m m′ s s′ : List ℕ) (k n : ℕ) → k ≡ n → GoneBelow g t k m m′ s s′ true → distinct t n ≡ true → LabelsTaken g t n m m′ s s′ true
+taken-all g t m m′ s s′ k n q x d =
+    record { longMap = x .longMap; longSlots = x .longSlots; differ = λ _. d; gone = λ _. subst (λ (j : ℕ). GoneBelow g t j m m′ s s′ true) q x }

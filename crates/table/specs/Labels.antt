@@ -1,4 +1,4 @@
--- The labels of a table, slot by slot, taken out of the maps of free tracks and slots. Assumes nothing.
+-- The labels of a table, slot by slot, taken out of the maps of free tracks and slots; and that their names differ. Assumes nothing.
 use mathlib.Core.Path.{_≡_}
 use Prim.Native.Nat.{ℕ}
 use mathlib.Core.Bool.{Bool, true, false}
@@ -12,7 +12,7 @@ use Rattle.rules.specs.Reading.{chop}
 use Rattle.sound.specs.Sound.{LabelOk}
 use Rattle.tracks.specs.Map.{Shows}
 use Rattle.fields.specs.Records.{slotBytes}
-use Rattle.names.specs.Find.{isLabel}
+use Rattle.names.specs.Find.{distinct, isLabel}
 use Rattle.label_check.specs.Marks.{labelAt, units}
 
 -- the label in slot k, if there is one
@@ -36,5 +36,13 @@ pub record LabelsGone (g : Geometry) (t : List ℕ) (ls : List Label) (m m′ s 
 abbrev pub Looked : Geometry → List ℕ → ℕ → List ℕ → List ℕ → List ℕ → List ℕ → Bool → Type 0
 Looked g t k m m′ s s′ r = LabelsGone g t (atSlot g t k) m m′ s s′ r
 
-abbrev pub LabelsTaken : Geometry → List ℕ → ℕ → List ℕ → List ℕ → List ℕ → List ℕ → Bool → Type 0
-LabelsTaken g t k m m′ s s′ r = LabelsGone g t (labelsBelow g t k) m m′ s s′ r
+-- the same of the labels in the slots below k
+abbrev pub GoneBelow : Geometry → List ℕ → ℕ → List ℕ → List ℕ → List ℕ → List ℕ → Bool → Type 0
+GoneBelow g t k m m′ s s′ r = LabelsGone g t (labelsBelow g t k) m m′ s s′ r
+
+-- the same, and no two of them have the same name; or two have, or the answer is that of the labels
+pub record LabelsTaken (g : Geometry) (t : List ℕ) (k : ℕ) (m m′ s s′ : List ℕ) (r : Bool) : Type 0 where
+  pub longMap : length m′ ≡ length m
+  pub longSlots : length s′ ≡ length s
+  pub differ : r ≡ true → distinct t k ≡ true
+  pub gone : distinct t k ≡ true → GoneBelow g t k m m′ s s′ r

@@ -1,4 +1,4 @@
-// The labels of a table, slot by slot: tested, and taken out of the maps of free tracks and slots.
+// The labels of a table, slot by slot: tested, their names compared, and taken out of the maps of free tracks and slots.
 use forms::Geometry;
 ghost use mathlib.Core.Path.{_≡_};
 ghost use mathlib.Core.Bool.{false};
@@ -23,15 +23,21 @@ fn look(table: &[u8], k: usize, g: Geometry, map: &mut [u64], empty: &mut [u64])
     label_check::take_label(table, k, g, map, empty)
 }
 
-// Tests all labels and takes them out of the maps. Slot 0 has none.
+// Tests all labels and takes them out of the maps, and tests that their names differ. One pass does both: a second one would ask
+// of each slot again whether it has a label, which a processor cannot foresee. Slot 0 has none.
 pub fn take_labels(table: &[u8], g: Geometry, map: &mut [u64], empty: &mut [u64]) -> bool
     requires { ⌜ Limits (geometryOf g) × (length (now table) ≡ 140 * slots (geometryOf g)) × (isLabel (slotBytes (now table) 0) ≡ false) × (tracks (geometryOf g) ≤ 64 * length (now map)) × (length (now empty) ≡ 8) ⌝ }
     ensures { λ r. ⌜ LabelsTaken (geometryOf g) (now (table .entry)) (slots (geometryOf g)) (now (map .entry)) (now (map .exit)) (now (empty .entry)) (now (empty .exit)) r ⌝ }
 {
     let n = (g.vtoc_tracks * g.records) as usize;
+    let mut tags = [0u16; 468];
+    let mut seen = [0u64; 64];
     let mut k: usize = 1;
     while k < n {
-        if look(table, k, g, map, empty) {
+        if look(table, k, g, map, empty) {} else {
+            return false;
+        }
+        if names::enter(table, k, &mut tags, &mut seen) {
             k += 1;
         } else {
             return false;

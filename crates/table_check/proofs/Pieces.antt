@@ -20,9 +20,8 @@ use Rattle.sound.specs.Sound.{LabelOk, Sound}
 use Rattle.tracks.specs.Map.{Shows, freeFrom}
 use Rattle.tracks.proofs.Held.{free-gaps, shows-once, shows-same}
 use Rattle.fields.proofs.Slots.{chop-slot, length-chop}
-use Rattle.names.specs.Find.{distinct}
 use Rattle.label_check.specs.Marks.{units}
-use Rattle.table.specs.Labels.{LabelsTaken, labelsBelow}
+use Rattle.table.specs.Labels.{GoneBelow, LabelsTaken, labelsBelow}
 use Rattle.table.proofs.Scan.{unit-tally}
 use Rattle.chain.specs.Chain.{ChainGone, chainFrom}
 use Rattle.chain.proofs.Laws.{chain-head, chain-length}
@@ -114,7 +113,7 @@ module _ (g : Geometry) (limit : Limits g) (t : List ℕ) (len : length t ≡ 14
       omega arith
 
   module _ (m m₁ m₂ s s₁ s₂ : List ℕ) (begun : MapsBegun g m m₁ s s₁) where
-    -- ---- a label is wrong, or two overlap
+    -- ---- a label is wrong, or two overlap or have one name
 
     pub labels-wrong : (r : Bool) → r ≡ false → LabelsTaken g t N m₁ m₂ s₁ s₂ r → Contents g t m m₂ s s₂ false
     labels-wrong r e x =
@@ -124,7 +123,7 @@ module _ (g : Geometry) (limit : Limits g) (t : List ℕ) (len : length t ≡ 14
           yes = λ q. clash {b = false} q refl;
           shown = λ q. clash {b = false} q refl;
           no = λ q y.
-              x .no e (held g []) (units (0 ∷ [])) (begun .freeTracks) (begun .freeSlots) (y .labels)
+              x .gone (differ-names g t (y .differ)) .no e (held g []) (units (0 ∷ [])) (begun .freeTracks) (begun .freeSlots) (y .labels)
               (λ j u. let a = y .once j u in let b = held-same j in omega arith)
               (λ j u.
               let a = y .slotOnce j in
@@ -134,11 +133,14 @@ module _ (g : Geometry) (limit : Limits g) (t : List ℕ) (len : length t ≡ 14
         }
 
     module _ (r : Bool) (e : r ≡ true) (x : LabelsTaken g t N m₁ m₂ s₁ s₂ r) where
+      out : GoneBelow g t N m₁ m₂ s₁ s₂ r
+      out = x .gone (x .differ e)
+
       tracks-shown : Shows m₂ T (held g ls)
-      tracks-shown = shows-same m₂ T (flat runsOf ls ++ held g []) (held g ls) (λ j u. held-same j) (x .free e (held g []) (begun .freeTracks))
+      tracks-shown = shows-same m₂ T (flat runsOf ls ++ held g []) (held g ls) (λ j u. held-same j) (out .free e (held g []) (begun .freeTracks))
 
       slots-shown : Shows s₂ N before
-      slots-shown = x .empty e (units (0 ∷ [])) (begun .freeSlots)
+      slots-shown = out .empty e (units (0 ∷ [])) (begun .freeSlots)
 
       free-is : freeFrom m₂ T 0 ≡ free g ls
       unfolding free
@@ -150,19 +152,7 @@ module _ (g : Geometry) (limit : Limits g) (t : List ℕ) (len : length t ≡ 14
       long-slots : length s₂ ≡ length s
       long-slots = x .longSlots ∙ begun .longSlots
 
-      -- ---- two have one name
-
-      pub names-wrong : (b : Bool) → b ≡ false → b ≡ distinct t N → Contents g t m m₂ s s₂ false
-      names-wrong b q d =
-          record {
-            longMap = long-map;
-            longSlots = long-slots;
-            yes = λ q. clash {b = false} q refl;
-            shown = λ q. clash {b = false} q refl;
-            no = λ _ y. clash (d ∙ differ-names g t (y .differ)) q;
-          }
-
-      module _ (b : Bool) (q : b ≡ true) (d : b ≡ distinct t N) (s₃ : List ℕ) (w : Bool) (z : ChainGone g t (freeFrom m₂ T 0) 1 s₂ s₃ w) where
+      module _ (s₃ : List ℕ) (w : Bool) (z : ChainGone g t (freeFrom m₂ T 0) 1 s₂ s₃ w) where
         gone : ChainGone g t (free g ls) 1 s₂ s₃ w
         gone = subst (λ (f : List Run). ChainGone g t f 1 s₂ s₃ w) free-is z
 
@@ -192,7 +182,7 @@ module _ (g : Geometry) (limit : Limits g) (t : List ℕ) (len : length t ≡ 14
               let f = used-tally ls ks k in
               let a = below-none N k ks (gone .inside v) u in
               let l = length-chop N t in
-              let c = below-none (length rs) k (flat slotsOf ls) (labels-below g rs ls (x .good e)) (omega arith) in
+              let c = below-none (length rs) k (flat slotsOf ls) (labels-below g rs ls (out .good e)) (omega arith) in
               let n = limit .least in
               let i = ap bit (ne-eqb 0 k (omega arith)) in
               omega arith
@@ -213,8 +203,8 @@ module _ (g : Geometry) (limit : Limits g) (t : List ℕ) (len : length t ≡ 14
                 limits = limit;
                 many = length-chop N t;
                 long = all-long N t len;
-                labels = x .good e;
-                differ = names-differ g t (sym d ∙ q);
+                labels = out .good e;
+                differ = names-differ g t (x .differ e);
                 once = shows-once m₂ T (held g ls) tracks-shown;
                 head = chain-head g t (free g ls) 1;
                 members = chain-length g t (free g ls) 1;

@@ -64,9 +64,6 @@ fn contents_ok(table: &[u8], g: Geometry, map: &mut [u64], empty: &mut [u64]) ->
     if table::take_labels(table, g, map, empty) {} else {
         return false;
     }
-    if names::names_differ(table, (g.vtoc_tracks * g.records) as usize) {} else {
-        return false;
-    }
     if chain::take_chain(table, g, map, empty) {} else {
         return false;
     }

@@ -1,7 +1,7 @@
-use Rattle.names.specs.Find.{isNamed}
+use Rattle.names.proofs.Laws.{its-name, other-name}
 use lib.ListN.{length-take}
-use borrow.Author.Tests.{eq-eqb, ne-eqb}
 use native.Mathlib.Omega.{arith}
+use mathlib.Core.Path.{sym, _∙_}
 use borrow.Author.Needs.{needs}
 use Rattle.names.proofs.is_named.Statement.{statement}
 use Rattle.names.proofs.is_named.Tie as tie
@@ -9,28 +9,27 @@ use Rattle.names.proofs.is_named.Reads as reads
 use Rattle.names.proofs.is_named.Lts as lts
 use Rattle.fields.proofs.same.Reads as same-reads
 
--- src/lib.rt:21:8
-shared-slice-read-if1 : tie.Need-shared-slice-read-if1
-shared-slice-read-if1 c = search needs
-
--- src/lib.rt:22:9
-returns : tie.Need-returns
-unfolding isNamed
-returns c = simp (ne-eqb _ _ (c .if1 .taken))
-
--- src/lib.rt:24:18
+-- src/lib.rt:20:21
 slice-aggregate-same : tie.Need-slice-aggregate-same
 slice-aggregate-same c = simp length-take (omega arith)
 
--- src/lib.rt:24:5
+-- src/lib.rt:20:8
 same-requires : tie.Need-same-requires
 same-requires c κs = search needs
 
--- src/lib.rt:17:1
+-- src/lib.rt:21:9
+returns : tie.Need-returns
+returns c = sym (other-name (c .before .before .before .before .before .args .rec .now) (c .before .before .before .before .before .args .name .now) (sym (c .before .same .ensures) ∙ c .if1 .left))
+
+-- src/lib.rt:23:5
+shared-slice-read-result : tie.Need-shared-slice-read-result
+shared-slice-read-result c = search needs
+
+-- src/lib.rt:16:1
 returns-2 : tie.Need-returns-2
-unfolding isNamed
-returns-2 c = simp (eq-eqb _ _ (c .before .before .if1 .left)) (c .same .ensures)
+returns-2 c = sym (its-name (c .before .before .before .before .before .before .args .rec .now) (c .before .before .before .before .before .before .args .name .now) (sym (c .before .before .same .ensures) ∙ c .before .if1 .taken))
 
 pub is-named-spec : {M : Type 1} → statement M
 is-named-spec =
-    tie.close (tie.spec shared-slice-read-if1 returns slice-aggregate-same same-requires returns-2)
+    tie.close
+    (tie.spec slice-aggregate-same same-requires returns shared-slice-read-result returns-2)

@@ -1,5 +1,6 @@
-use Rattle.table.proofs.Scan.{scan-start, scan-next, scan-stop}
-use Rattle.table.specs.Labels.{LabelsTaken}
+use Rattle.table.proofs.Scan.{scan-start, scan-next, scan-stop, taken-all, taken-twice, taken-wrong}
+use Rattle.table.specs.Labels.{GoneBelow}
+use Rattle.names.proofs.Laws.{Entering, entering-end, entering-next, entering-start, entering-stop}
 use Rattle.forms.specs.Forms.{geometryOf}
 use Rattle.model.specs.Model.{slots}
 use lib.ListN.{length}
@@ -12,74 +13,127 @@ use Rattle.table.proofs.take_labels.Statement.{statement}
 use Rattle.table.proofs.take_labels.Tie as tie
 use Rattle.table.proofs.take_labels.Reads as reads
 use Rattle.table.proofs.take_labels.Lts as lts
+use Rattle.names.proofs.enter.Reads as enter-reads
 use Rattle.table.proofs.look.Reads as look-reads
 
 abbrev Inv-loop : tie.InvT-loop
-Inv-loop table g map₀ empty₀ n k₀ map empty k = (1 ≤ k) × (k ≤ n) × (n ≡ slots (geometryOf g)) × (length map ≡ length map₀) × (length empty ≡ length empty₀) × LabelsTaken (geometryOf g) table k map₀ map empty₀ empty true
+Inv-loop table g map₀ empty₀ n tags₀ seen₀ k₀ map empty tags seen k =
+    (1 ≤ k) × (k ≤ n) × (n ≡ slots (geometryOf g)) × (length map ≡ length map₀) × (length empty ≡ length empty₀) × GoneBelow (geometryOf g) table k map₀ map empty₀ empty true × Entering table tags seen k n
 
 abbrev μ-loop : tie.MeasureT-loop
-μ-loop table g map₀ empty₀ n k₀ map empty k = n - k
+μ-loop table g map₀ empty₀ n tags₀ seen₀ k₀ map empty tags seen k = n - k
 
--- src/lib.rt:31:14
+-- src/lib.rt:32:14
 mul-n : tie.Need-mul-n Inv-loop μ-loop
 mul-n c = search needs
 
--- src/lib.rt:31:13
+-- src/lib.rt:32:13
 cast-n : tie.Need-cast-n Inv-loop μ-loop
 cast-n c = search needs
 
--- src/lib.rt:33:5
+-- src/lib.rt:36:5
 loop-holds : tie.Need-loop-holds Inv-loop μ-loop
-loop-holds c = (omega arith, omega (arith, c .before .before .before .before .pre .0 .least), refl, refl, refl, scan-start (geometryOf (c .before .before .before .before .args .g)) (c .before .before .before .before .args .table .now) (c .before .before .before .before .args .map .now) (c .before .before .before .before .args .empty .now) (c .before .before .before .before .pre .2))
+loop-holds c =
+    let a = c .before .before .before .before in
+    (omega arith, omega (arith, a .pre .0 .least), refl, refl, refl, scan-start (geometryOf (a .args .g)) (a .args .table .now) (a .args .map .now) (a .args .empty .now) (a .pre .2), entering-start (a .args .table .now) _ _ (slots (geometryOf (a .args .g))) (a .pre .2) (omega (arith, a .pre .0 .least)) refl refl)
 
--- src/lib.rt:34:12
+-- src/lib.rt:37:12
 look-requires : tie.Need-look-requires Inv-loop μ-loop
 look-requires c κs =
+    let a = c .before .before .before .before .before .before .before .before in
     let l = c .before .before .before .loop .inv in
-    (c .before .before .before .before .before .before .before .before .pre .0, c .before .before .before .before .before .before .before .before .pre .1, l .0, omega arith, omega (arith, l .3, c .before .before .before .before .before .before .before .before .pre .3), l .4 ∙ c .before .before .before .before .before .before .before .before .pre .4)
+    (a .pre .0, a .pre .1, l .0, omega arith, omega (arith, l .3, a .pre .3), l .4 ∙ a .pre .4)
 
--- src/lib.rt:35:13
-add-k : tie.Need-add-k Inv-loop μ-loop
-add-k c = search needs
-
--- src/lib.rt:33:5
-loop-less : tie.Need-loop-less Inv-loop μ-loop
-loop-less c = search needs
-
--- src/lib.rt:33:5
-loop-again : tie.Need-loop-again Inv-loop μ-loop
-loop-again c =
-    let l = c .before .before .before .before .before .before .before .before .before .loop .inv in
-    (omega arith, omega arith, refl, c .before .before .before .before .before .look .ensures .longMap ∙ l .3, c .before .before .before .before .before .look .ensures .longSlots ∙ l .4, scan-next (geometryOf (c .before .before .before .before .before .before .before .before .before .before .before .before .before .before .args .g)) (c .before .before .before .before .before .before .before .before .before .before .before .before .before .before .args .table .now) (c .before .before .before .before .before .before .before .before .before .before .before .before .before .before .args .map .now) (c .before .before .before .before .before .before .before .before .before .loop .map) (c .before .before .before .before .before .look .last .1 .1 .1 .0) (c .before .before .before .before .before .before .before .before .before .before .before .before .before .before .args .empty .now) (c .before .before .before .before .before .before .before .before .before .loop .empty) (c .before .before .before .before .before .look .last .1 .1 .1 .1 .0) (c .before .before .before .before .before .before .before .before .before .loop .k) (l .5) (c .before .before .before .before .before .look .result) (c .if1 .taken) (c .before .before .before .before .before .look .ensures))
-
--- src/lib.rt:37:13
+-- src/lib.rt:38:13
 same-length : tie.Need-same-length Inv-loop μ-loop
 same-length c = search needs
 
--- src/lib.rt:37:13
+-- src/lib.rt:38:13
 same-length-2 : tie.Need-same-length-2 Inv-loop μ-loop
 same-length-2 c = search needs
 
--- src/lib.rt:37:13
+-- src/lib.rt:38:13
 returns : tie.Need-returns Inv-loop μ-loop
 returns c =
-    let l = c .before .before .before .before .before .before .before .before .before .loop .inv in
-    scan-stop (geometryOf (c .before .before .before .before .before .before .before .before .before .before .before .before .before .before .args .g)) (c .before .before .before .before .before .before .before .before .before .before .before .before .before .before .args .table .now) (c .before .before .before .before .before .before .before .before .before .before .before .before .before .before .args .map .now) (c .before .before .before .before .before .before .before .before .before .loop .map) (c .before .before .before .before .before .look .last .1 .1 .1 .0) (c .before .before .before .before .before .before .before .before .before .before .before .before .before .before .args .empty .now) (c .before .before .before .before .before .before .before .before .before .loop .empty) (c .before .before .before .before .before .look .last .1 .1 .1 .1 .0) (c .before .before .before .before .before .before .before .before .before .loop .k) (l .5) (c .before .before .before .before .before .look .result) (slots (geometryOf (c .before .before .before .before .before .before .before .before .before .before .before .before .before .before .args .g))) (c .if1 .left) (omega arith) (c .before .before .before .before .before .look .ensures)
+    let a = c .before .before .before .before .before .before .before .before .before .before .before .before .before .before in
+    let l = c .before .before .before .before .before .before .before .before .before .loop in
+    let k = c .before .before .before .before .before .look in
+    taken-wrong (geometryOf (a .args .g)) (a .args .table .now) (a .args .map .now) (k .last .1 .1 .1 .0) (a .args .empty .now) (k .last .1 .1 .1 .1 .0) (slots (geometryOf (a .args .g)))
+    (scan-stop (geometryOf (a .args .g)) (a .args .table .now) (a .args .map .now) (l .map) (k .last .1 .1 .1 .0) (a .args .empty .now) (l .empty) (k .last .1 .1 .1 .1 .0) (l .k) (l .inv .5) (k .result) (slots (geometryOf (a .args .g))) (c .if1 .left) (omega arith) (k .ensures))
 
--- src/lib.rt:27:1
+-- src/lib.rt:40:35
+slice-aggregate-enter : tie.Need-slice-aggregate-enter Inv-loop μ-loop
+slice-aggregate-enter c = search needs
+
+-- src/lib.rt:40:46
+slice-aggregate-enter-2 : tie.Need-slice-aggregate-enter-2 Inv-loop μ-loop
+slice-aggregate-enter-2 c = search needs
+
+-- src/lib.rt:40:12
+enter-requires : tie.Need-enter-requires Inv-loop μ-loop
+enter-requires c κs =
+    let a = c .before .before .before .before .before .before .before .before .before .before .before .before .before .before .before .before in
+    let l = c .before .before .before .before .before .before .before .before .before .before .before .loop in
+    let e = l .inv .6 in
+    (omega arith, omega (arith, e .long, a .pre .0 .most), e .tagged, e .wide, e .marked)
+
+-- src/lib.rt:41:13
+add-k : tie.Need-add-k Inv-loop μ-loop
+add-k c = search needs
+
+-- src/lib.rt:36:5
+loop-less : tie.Need-loop-less Inv-loop μ-loop
+loop-less c = search needs
+
+-- src/lib.rt:36:5
+loop-again : tie.Need-loop-again Inv-loop μ-loop
+loop-again c =
+    let a = c .before .before .before .before .before .before .before .before .before .before .before .before .before .before .before .before .before .before .before .before in
+    let l = c .before .before .before .before .before .before .before .before .before .before .before .before .before .before .before .loop in
+    let k = c .before .before .before .before .before .before .before .before .before .before .before .look in
+    let e = c .before .before .before .enter in (
+      omega arith,
+      omega arith,
+      refl,
+      k .ensures .longMap ∙ l .inv .3,
+      k .ensures .longSlots ∙ l .inv .4,
+      scan-next (geometryOf (a .args .g)) (a .args .table .now) (a .args .map .now) (l .map) (k .last .1 .1 .1 .0) (a .args .empty .now) (l .empty) (k .last .1 .1 .1 .1 .0) (l .k) (l .inv .5) (k .result) (c .before .before .before .before .before .before .if1 .taken) (k .ensures),
+      entering-next (a .args .table .now) (l .tags) _ (l .seen) _ (l .k) (slots (geometryOf (a .args .g))) (l .inv .6) (c .before .before .before .before .before .before .before .before .before .before .before .before .before .before .loop-test .taken) (e .result) (e .ensures) (c .if2 .taken),
+    )
+
+-- src/lib.rt:43:13
 same-length-3 : tie.Need-same-length-3 Inv-loop μ-loop
 same-length-3 c = search needs
 
--- src/lib.rt:27:1
+-- src/lib.rt:43:13
 same-length-4 : tie.Need-same-length-4 Inv-loop μ-loop
 same-length-4 c = search needs
 
--- src/lib.rt:27:1
+-- src/lib.rt:43:13
 returns-2 : tie.Need-returns-2 Inv-loop μ-loop
 returns-2 c =
-    let l = c .before .loop .inv in
-    let e : c .before .loop .k ≡ slots (geometryOf (c .before .before .before .before .before .before .args .g)) = omega arith in
-    subst (λ (x : ℕ). LabelsTaken (geometryOf (c .before .before .before .before .before .before .args .g)) (c .before .before .before .before .before .before .args .table .now) x (c .before .before .before .before .before .before .args .map .now) (c .before .loop .map) (c .before .before .before .before .before .before .args .empty .now) (c .before .loop .empty) true) e (l .5)
+    let a = c .before .before .before .before .before .before .before .before .before .before .before .before .before .before .before .before .before .before .before .before in
+    let l = c .before .before .before .before .before .before .before .before .before .before .before .before .before .before .before .loop in
+    let k = c .before .before .before .before .before .before .before .before .before .before .before .look in
+    let e = c .before .before .before .enter in
+    taken-twice (geometryOf (a .args .g)) (a .args .table .now) (a .args .map .now) (k .last .1 .1 .1 .0) (a .args .empty .now) (k .last .1 .1 .1 .1 .0) (l .k + 1) (slots (geometryOf (a .args .g)))
+    (scan-next (geometryOf (a .args .g)) (a .args .table .now) (a .args .map .now) (l .map) (k .last .1 .1 .1 .0) (a .args .empty .now) (l .empty) (k .last .1 .1 .1 .1 .0) (l .k) (l .inv .5) (k .result) (c .before .before .before .before .before .before .if1 .taken) (k .ensures))
+    (entering-stop (a .args .table .now) (l .tags) _ (l .seen) _ (l .k) (slots (geometryOf (a .args .g))) (l .inv .6) (c .before .before .before .before .before .before .before .before .before .before .before .before .before .before .loop-test .taken) (e .result) (e .ensures) (c .if2 .left))
+
+-- src/lib.rt:28:1
+same-length-5 : tie.Need-same-length-5 Inv-loop μ-loop
+same-length-5 c = search needs
+
+-- src/lib.rt:28:1
+same-length-6 : tie.Need-same-length-6 Inv-loop μ-loop
+same-length-6 c = search needs
+
+-- src/lib.rt:28:1
+returns-3 : tie.Need-returns-3 Inv-loop μ-loop
+returns-3 c =
+    let a = c .before .before .before .before .before .before in
+    let l = c .before .loop in
+    taken-all (geometryOf (a .args .g)) (a .args .table .now) (a .args .map .now) (l .map) (a .args .empty .now) (l .empty) (l .k) (slots (geometryOf (a .args .g))) (omega arith) (l .inv .5) (entering-end (a .args .table .now) (l .tags) (l .seen) (l .k) (slots (geometryOf (a .args .g))) (l .inv .6) (c .loop-test .left))
 
 pub take-labels-spec : {M : Type 1} → statement M
 take-labels-spec =
@@ -91,12 +145,18 @@ take-labels-spec =
     cast-n
     loop-holds
     look-requires
-    add-k
-    loop-less
-    loop-again
     same-length
     same-length-2
     returns
+    slice-aggregate-enter
+    slice-aggregate-enter-2
+    enter-requires
+    add-k
+    loop-less
+    loop-again
     same-length-3
     same-length-4
-    returns-2)
+    returns-2
+    same-length-5
+    same-length-6
+    returns-3)
