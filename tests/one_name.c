@@ -9,7 +9,7 @@
 #include <stdlib.h>
 #include <string.h>
 
-uint32_t probe_name(const uint8_t *name, size_t length);
+uint32_t vtoc_probe_name(const uint8_t *name, size_t length);
 
 /* The EBCDIC of a character that a name may hold; X'00', which no name holds, for any other. */
 static uint8_t ebcdic(char c)
@@ -33,6 +33,6 @@ int main(int count, char **arguments)
     memset(name, 0x40, sizeof name);
     for (size_t i = 0; arguments[1][i] != '\0'; i++)
         name[i] = ebcdic(arguments[1][i]);
-    printf("%lu\n", (unsigned long)probe_name(name, sizeof name));
+    printf("%lu\n", (unsigned long)vtoc_probe_name(name, sizeof name));
     return EXIT_SUCCESS;
 }

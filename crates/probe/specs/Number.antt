@@ -1,9 +1,13 @@
--- What the check of a table answers by number. Assumes nothing.
+-- What the check of a table and the name rule answer by number. Assumes nothing.
 use Prim.Native.Nat.{ℕ}
 use mathlib.Core.Bool.{cond}
 use mathlib.Core.List.{List}
-use Rattle.rules.specs.Table.{goodLength, taken}
+use Rattle.rules.specs.Table.{goodLength, goodName, taken}
 
 -- refusal 2 is for a table's length, refusal 3 for a table that is not taken; 0 is none
 unfoldable pub checkNumber : List ℕ → ℕ
 checkNumber t = cond (goodLength t) (cond (taken t) 0 3) 2
+
+-- the name rule as a number: 1 where it is obeyed
+unfoldable pub nameNumber : List ℕ → ℕ
+nameNumber name = cond (goodName name) 1 0

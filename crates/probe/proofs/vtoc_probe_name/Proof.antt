@@ -1,0 +1,20 @@
+use mathlib.Core.Path.{sym, _∙_}
+use Rattle.probe.proofs.Numbers.{breaks, obeys}
+use borrow.Author.Needs.{needs}
+use Rattle.probe.proofs.vtoc_probe_name.Statement.{statement}
+use Rattle.probe.proofs.vtoc_probe_name.Tie as tie
+use Rattle.probe.proofs.vtoc_probe_name.Reads as reads
+use Rattle.probe.proofs.vtoc_probe_name.Lts as lts
+use Rattle.fields.proofs.name_ok.Reads as name-ok-reads
+
+name-ok-requires : tie.Need-name-ok-requires
+name-ok-requires c κs = search needs
+
+returns : tie.Need-returns
+returns c = obeys (c .before .before .before .args .name .now) (sym (c .before .name-ok .ensures) ∙ c .if1 .taken)
+
+returns-2 : tie.Need-returns-2
+returns-2 c = breaks (c .before .before .before .args .name .now) (sym (c .before .name-ok .ensures) ∙ c .if1 .left)
+
+pub vtoc-probe-name-spec : {M : Type 1} → statement M
+vtoc-probe-name-spec = tie.close (tie.spec name-ok-requires returns returns-2)
