@@ -90,7 +90,7 @@ fn allocate_in(
     place(table, g, map, &mut empty, name, attributes, request, answer)
 }
 
-// The call. A small volume has a small map: to clear the large one would be much of the call's time.
+// The call. A small volume has a small map: to fill the large one would be much of the call's time.
 pub fn allocate(
     table: &mut [u8],
     name: &[u8],
@@ -104,7 +104,7 @@ pub fn allocate(
     ensures { λ r. ⌜ Allocates (now (table .entry)) (now (name .entry)) (now (attributes .entry)) kind start amount secondary (now (answer .entry)) r (now (table .exit)) (now (answer .exit)) ⌝ }
 {
     if opening::few_tracks(table) {
-        let mut map = [0u64; 64];
+        let mut map = [u64::MAX; 64];
         return allocate_in(
             table,
             name,
@@ -117,7 +117,7 @@ pub fn allocate(
             &mut map,
         );
     }
-    let mut map = [0u64; 1024];
+    let mut map = [u64::MAX; 1024];
     allocate_in(
         table,
         name,

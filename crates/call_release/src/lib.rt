@@ -118,14 +118,14 @@ fn release_in(table: &mut [u8], name: &[u8], ttr: u32, answer: &mut [u8], map: &
     release_set(table, g, map, &mut empty, k, ttr, answer)
 }
 
-// The call. A small volume has a small map: to clear the large one would be much of the call's time.
+// The call. A small volume has a small map: to fill the large one would be much of the call's time.
 pub fn release(table: &mut [u8], name: &[u8], ttr: u32, answer: &mut [u8]) -> u32
     ensures { λ r. ⌜ Releases (now (table .entry)) (now (name .entry)) ttr (now (answer .entry)) r (now (table .exit)) (now (answer .exit)) ⌝ }
 {
     if opening::few_tracks(table) {
-        let mut map = [0u64; 64];
+        let mut map = [u64::MAX; 64];
         return release_in(table, name, ttr, answer, &mut map);
     }
-    let mut map = [0u64; 1024];
+    let mut map = [u64::MAX; 1024];
     release_in(table, name, ttr, answer, &mut map)
 }

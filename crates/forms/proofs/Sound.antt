@@ -1,11 +1,12 @@
 -- The tests of whole records as propositions, one by one. Assumes nothing.
 use mathlib.Core.Path.{_≡_, refl, sym, ap, _∙_, subst}
-use mathlib.Core.Bool.{Bool, true, false, _&&_}
+use mathlib.Core.Bool.{Bool, true, false, _&&_, _||_}
 use mathlib.Core.List.{List}
 use Prim.Native.Nat.{ℕ, _+_, _-_, _*_, _≤_, _<_}
 use native.Mathlib.Nat.{mul-le-mul, le-refl}
 use native.Mathlib.Omega.{arith}
-use borrow.Author.Tests.{eqb-true, eq-eqb, leb-true, leb-false, le-leb, lt-ltb, le-ltb}
+use borrow.Author.Tests.{eqb-true, eq-eqb, ne-eqb, leb-true, leb-false, le-leb, lt-ltb, le-ltb}
+use lib.Bits.{bitAnd}
 use lib.Dec.{T, eqb, leb}
 use lib.ListN.{getD, drop}
 use lib.Seq.{getD-take, getD-drop}
@@ -16,6 +17,7 @@ use Rattle.rules.specs.Reading.{readGeometry, trackAt}
 use Rattle.rules.specs.Table.{goodName, goodUnit, limits}
 use Rattle.rules.proofs.Valid.{Limits, limits→, →limits}
 use Rattle.fields.specs.Tests.{allAre, goodTen}
+use Rattle.fields.proofs.Names.{agree, agree-is, for-all}
 use Rattle.forms.specs.Forms.{extentOk, oneOk, threeOk}
 
 -- a test that implies what is not so is false
@@ -79,6 +81,22 @@ track-part h i n j r u =
     let e2 : i + (j + 2) ≡ i + j + 2 = omega arith in
     let e3 : i + (j + 2 + 1) ≡ i + j + 2 + 1 = omega arith in
     rw (a, b, c, d, e1, e2, e3)
+
+-- ---- the unit
+
+-- one test tells both units of space among the bytes: computed
+space-unit : (u : ℕ) → u < 256 → (eqb u 0x80 || eqb u 0xC0) ≡ eqb (bitAnd u 0xBF) 0x80
+space-unit u h = agree-is _ _ (for-all (λ x. agree (eqb x 0x80 || eqb x 0xC0) (eqb (bitAnd x 0xBF) 0x80)) 0 256 tt u (omega arith) (omega arith))
+
+module _ (u s : ℕ) (h : u < 256) where
+  pub unit-space : bitAnd u 0xBF ≡ 0x80 → true ≡ goodUnit u s
+  unit-space e = rw (space-unit u h, eq-eqb (bitAnd u 0xBF) 0x80 e)
+
+  pub unit-other : (bitAnd u 0xBF ≡ 0x80 → ⊥) → (u ≡ 0x00 → ⊥) → false ≡ goodUnit u s
+  unit-other m n = rw (space-unit u h, ne-eqb (bitAnd u 0xBF) 0x80 m, ne-eqb u 0x00 n)
+
+  pub unit-absolute : (bitAnd u 0xBF ≡ 0x80 → ⊥) → u ≡ 0x00 → eqb s 0 ≡ goodUnit u s
+  unit-absolute m e = rw (space-unit u h, ne-eqb (bitAnd u 0xBF) 0x80 m, eq-eqb u 0x00 e)
 
 -- ---- the formats
 

@@ -95,14 +95,12 @@ pub fn limits(g: Geometry) -> bool
 
 // ---- format 1
 
-// Whether the unit and the secondary amount (DS1SCALO) go together.
+// Whether the unit and the secondary amount (DS1SCALO) go together. One test for tracks and cylinders (X'80', X'C0'): which of the
+// two a data set has cannot be predicted.
 fn unit_ok(unit: u8, secondary: u32) -> bool
     ensures { λ r. ⌜ r ≡ goodUnit unit secondary ⌝ }
 {
-    if unit == 0x80 {
-        return true;
-    }
-    if unit == 0xC0 {
+    if unit & 0xBF == 0x80 {
         return true;
     }
     if unit != 0x00 {

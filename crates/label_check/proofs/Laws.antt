@@ -3,6 +3,7 @@ use mathlib.Core.Path.{_≡_, _∙_, sym, subst, refl, ap, ap₂}
 use mathlib.Core.Bool.{true, false, _&&_, Bool, cond}
 use mathlib.Core.List.{List, _++_}
 use Prim.Native.Nat.{ℕ, suc, _+_, _-_, _*_, _≤_, _<_, zero}
+use native.Mathlib.Nat.{add-zero, zero-add}
 use native.Mathlib.Omega.{arith}
 use Rattle.label_check.specs.declared.Form.{Form}
 use Rattle.label_check.specs.declared.Form.the-variants.{Bad, Good}
@@ -10,15 +11,15 @@ use native.Mathlib.Numerals.{add-one}
 use borrow.Author.Tests.{lt-leb, le-leb}
 use lib.Dec.{leb}
 use lib.ListN.{getD, take, drop, length, length-drop, take-append-drop}
-use lib.Seq.{drop-drop, take-all}
+use lib.Seq.{drop-drop, take-add, take-all}
 use Rattle.model.specs.Basics.{part}
 use Rattle.model.specs.Model.{Geometry}
 use Rattle.rules.specs.Layout.{extentPart}
 use Rattle.rules.proofs.Keyed.{count}
 use Rattle.fields.specs.Records.{slotBytes}
 use Rattle.fields.specs.Tests.{allAre}
-use Rattle.fields.proofs.Rows.{and-assoc, are-append, from-place}
-use Rattle.fields.proofs.Tens.{in-format1}
+use Rattle.fields.proofs.Rows.{and-assoc, and-true, are-append, from-place}
+use Rattle.fields.proofs.Tens.{in-format1, in-format3, in-rest3}
 use Rattle.forms.specs.Forms.{extentOk, oneOk, threeOk}
 use Rattle.label_check.specs.Label.{extentsOk, fewShape, goodIf, goodThird, namedThird, orZero, refusalOf, shapeOf, thirdShape, unsoundAt, unusedOk}
 
@@ -37,20 +38,58 @@ pub extents-end : (h t : ℕ) (f1 f3 : List ℕ) (n e m : ℕ) → m ≤ e → e
 unfolding extentsOk
 extents-end h t f1 f3 n e m u = let q : m - e ≡ 0 = omega arith in rw q
 
-module _ (f1 f3 : List ℕ) (e m : ℕ) (u : e < m) where
-  zero-step : unusedOk f1 f3 e (m - e) ≡ (allAre 0 (extentPart f1 f3 e) && unusedOk f1 f3 (e + 1) (m - (e + 1)))
+-- ---- extents that are not in use, by rows of zeros
+
+-- k extents from number e on that lie one behind the other, from place `at` of r on
+abbrev Lie : List ℕ → List ℕ → List ℕ → ℕ → ℕ → ℕ → Type 0
+Lie f1 f3 r k e at = (j : ℕ) → j < k → extentPart f1 f3 (e + j) ≡ part (at + 10 * j) 10 r
+
+-- they are one row; m more follow
+row : (f1 f3 r : List ℕ) (k e at m : ℕ) → Lie f1 f3 r k e at → (allAre 0 (part at (10 * k) r) && unusedOk f1 f3 (e + k) m) ≡ unusedOk f1 f3 e (k + m)
+unfolding unusedOk allAre
+row f1 f3 r zero e at m lie = rw (add-zero e, zero-add m)
+row f1 f3 r (suc k) e at m lie =
+    let long : 10 * suc k ≡ 10 + 10 * k = omega arith in
+    let next : e + suc k ≡ suc e + k = omega arith in
+    let count : suc k + m ≡ suc (k + m) = omega arith in
+    let first : part at 10 r ≡ extentPart f1 f3 e = sym (rw (add-zero e, add-zero at) at (lie 0 (omega arith))) in
+    let others : Lie f1 f3 r k (suc e) (at + 10) =
+    λ j u.
+    let a : suc e + j ≡ e + suc j = omega arith in
+    let b : at + 10 + 10 * j ≡ at + 10 * suc j = omega arith in
+    rw (a, b) (lie (suc j) (omega arith)) in
+    rw (long, next, count, take-add 10 (10 * k) (drop at r), drop-drop 10 at r, are-append 0 (part at 10 r) (part (at + 10) (10 * k) r), and-assoc, first)
+    (ap (λ (b : Bool). allAre 0 (extentPart f1 f3 e) && b) (row f1 f3 r k (suc e) (at + 10) m others))
+
+module _ (f1 f3 : List ℕ) (l1 : length f1 ≡ 140) (l3 : length f3 ≡ 140) where
+  -- all behind the id of the format 3
+  pub unused-behind : (n : ℕ) → 7 ≤ n → n ≤ 16 → allAre 0 (part (45 + 10 * (n - 7)) (135 - (45 + 10 * (n - 7))) f3) ≡ unusedOk f1 f3 n (16 - n)
   unfolding unusedOk
-  zero-step = let q : m - e ≡ suc (m - suc e) = omega arith in rw (q, add-one)
+  unused-behind n u v =
+      let long : 135 - (45 + 10 * (n - 7)) ≡ 10 * (16 - n) = omega arith in
+      let lie : Lie f1 f3 f3 (16 - n) n (45 + 10 * (n - 7)) =
+      λ j h. let place : 45 + 10 * (n - 7) + 10 * j ≡ 45 + 10 * (n + j - 7) = omega arith in rw place (in-rest3 f1 f3 (n + j) l1 l3 (omega arith) (omega arith)) in
+      rw long
+      (sym (and-true (allAre 0 (part (45 + 10 * (n - 7)) (10 * (16 - n)) f3)))
+      ∙ row f1 f3 f3 (16 - n) n (45 + 10 * (n - 7)) 0 lie
+      ∙ ap (unusedOk f1 f3 n) (add-zero (16 - n)))
 
-  pub unused-next : allAre 0 (extentPart f1 f3 e) ≡ true → unusedOk f1 f3 e (m - e) ≡ unusedOk f1 f3 (e + 1) (m - (e + 1))
-  unused-next p = rw (zero-step, p)
+  -- some before it
+  around : (n : ℕ) → 3 ≤ n → n ≤ 7 → (allAre 0 (part (4 + 10 * (n - 3)) (44 - (4 + 10 * (n - 3))) f3) && allAre 0 (part 45 90 f3)) ≡ unusedOk f1 f3 n (16 - n)
+  around n u v =
+      let long : 44 - (4 + 10 * (n - 3)) ≡ 10 * (7 - n) = omega arith in
+      let end : 7 ≡ n + (7 - n) = omega arith in
+      let count : 7 - n + 9 ≡ 16 - n = omega arith in
+      let lie : Lie f1 f3 f3 (7 - n) n (4 + 10 * (n - 3)) =
+      λ j h. let place : 4 + 10 * (n - 3) + 10 * j ≡ 4 + 10 * (n + j - 3) = omega arith in rw place (in-format3 f1 f3 (n + j) l1 l3 (omega arith) (omega arith)) in
+      ap₂ (λ (x : ℕ) (b : Bool). allAre 0 (part (4 + 10 * (n - 3)) x f3) && b) long
+      (unused-behind 7 (omega arith) (omega arith) ∙ ap (λ (e : ℕ). unusedOk f1 f3 e 9) end)
+      ∙ row f1 f3 f3 (7 - n) n (4 + 10 * (n - 3)) 9 lie
+      ∙ ap (unusedOk f1 f3 n) count
 
-  pub unused-bad : allAre 0 (extentPart f1 f3 e) ≡ false → unusedOk f1 f3 e (m - e) ≡ false
-  unused-bad p = rw (zero-step, p)
-
-pub unused-end : (f1 f3 : List ℕ) (e m : ℕ) → m ≤ e → unusedOk f1 f3 e (m - e) ≡ true
-unfolding unusedOk
-unused-end f1 f3 e m u = let q : m - e ≡ 0 = omega arith in rw q
+  pub unused-around : (n : ℕ) (b : Bool) → 3 ≤ n → n ≤ 7 → allAre 0 (part (4 + 10 * (n - 3)) (44 - (4 + 10 * (n - 3))) f3) ≡ b
+      → (b && allAre 0 (part 45 90 f3)) ≡ unusedOk f1 f3 n (16 - n)
+  unused-around n b u v e = rw (← e) (around n u v)
 
 -- ---- a label: the definitions, by the tests that led to an answer
 

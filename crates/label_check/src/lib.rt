@@ -2,7 +2,8 @@
 // out of the maps of free ones.
 use forms::Geometry;
 ghost use mathlib.Core.Path.{_≡_};
-ghost use Prim.Native.Nat.{_+_, _-_, _*_, _≤_, _<_};
+ghost use mathlib.Core.List.{List};
+ghost use Prim.Native.Nat.{ℕ, _+_, _-_, _*_, _≤_, _<_};
 ghost use lib.ListN.{length};
 ghost use Rattle.model.specs.Model.{slots, tracks};
 ghost use Rattle.rules.proofs.Valid.{Limits};
@@ -16,20 +17,21 @@ pub enum Form {
     Bad,
 }
 
-// Whether the extents from number n on and below m are zeros.
-fn unused_ok<'a>(f1: &'a [u8], f3: &'a [u8], n: usize, m: usize) -> bool
-    requires { ⌜ (length (now f1) ≡ 140) × (length (now f3) ≡ 140) × (n ≤ m) × (m ≤ 16) ⌝ }
-    ensures { λ r. ⌜ r ≡ unusedOk (now (f1 .entry)) (now (f3 .entry)) n (m - n) ⌝ }
+// Whether the extents from number n on are zeros, where n is above 3: rows of the format 3, before and behind its id. Whatever the
+// format 1 is, none of them is in it.
+fn unused_ok(f3: &[u8], n: usize) -> bool
+    requires { ⌜ (length (now f3) ≡ 140) × (3 < n) × (n ≤ 16) ⌝ }
+    ensures { λ r. ⌜ ((f1 : List ℕ) → length f1 ≡ 140 → r ≡ unusedOk f1 (now (f3 .entry)) n (16 - n)) ⌝ }
 {
-    let mut e = n;
-    while e < m {
-        if fields::all_are(fields::extent_part(f1, f3, e), 0) {
-            e += 1;
-        } else {
-            return false;
-        }
+    if n >= 7 {
+        let at = 45 + 10 * (n - 7);
+        return fields::all_are(&f3[at..135], 0);
     }
-    true
+    let at = 4 + 10 * (n - 3);
+    if fields::all_are(&f3[at..44], 0) {} else {
+        return false;
+    }
+    fields::all_are(&f3[45..135], 0)
 }
 
 // Whether a format 1 of n extents, 3 at most, has zeros behind them and no link: one row of zeros, to the record's end.
@@ -43,7 +45,7 @@ fn few_ok(f1: &[u8], n: usize) -> bool
 
 // The slot of the format 3 of a format 1 of n extents, more than 3, where it has zeros behind them; else 0.
 fn third_of<'a>(table: &'a [u8], f1: &'a [u8], n: usize, g: Geometry) -> usize
-    requires { ⌜ (length (now f1) ≡ 140) × (n ≤ 16) × Limits (geometryOf g) × (140 * slots (geometryOf g) ≤ length (now table)) ⌝ }
+    requires { ⌜ (length (now f1) ≡ 140) × (3 < n) × (n ≤ 16) × Limits (geometryOf g) × (140 * slots (geometryOf g) ≤ length (now table)) ⌝ }
     ensures { λ r. ⌜ r ≡ thirdShape (geometryOf g) (now (table .entry)) (now (f1 .entry)) n ⌝ }
 {
     let many = (g.vtoc_tracks * g.records) as usize;
@@ -55,7 +57,7 @@ fn third_of<'a>(table: &'a [u8], f1: &'a [u8], n: usize, g: Geometry) -> usize
     if forms::three_ok(f3) {} else {
         return 0;
     }
-    if unused_ok(f1, f3, n, 16) {
+    if unused_ok(f3, n) {
         return q;
     }
     0

@@ -73,10 +73,10 @@ pub fn open_to_read(table: &[u8], lengths: bool) -> u32
 {
     let mut empty = [0u64; 8];
     if few_tracks(table) {
-        let mut map = [0u64; 64];
+        let mut map = [u64::MAX; 64];
         return open(table, lengths, &mut map, &mut empty);
     }
-    let mut map = [0u64; 1024];
+    let mut map = [u64::MAX; 1024];
     open(table, lengths, &mut map, &mut empty)
 }
 

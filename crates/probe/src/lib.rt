@@ -11,7 +11,7 @@ pub extern "C" fn vtoc_probe_check(table: &[u8]) -> u32
     if table_check::good_length(table) {} else {
         return 2;
     }
-    let mut map = [0u64; 1024];
+    let mut map = [u64::MAX; 1024];
     let mut empty = [0u64; 8];
     if table_check::check(table, &mut map, &mut empty) {
         return 0;

@@ -37,29 +37,29 @@ first-taken m m₁ m₂ n r pos b x =
     let e = taken-true m₁ m₂ 0 1 r a x in
     shows-take m₁ m₂ n 0 1 [] h a (x .made e)
 
-module _ (g : Geometry) (limit : Limits g) (m m₁ m₂ m₃ : List ℕ) (r₁ r₂ : Bool) (b : Opened m m₁ (tracks g))
-    (x : Taken m₁ m₂ (g .vtocStart) (g .vtocStart + g .vtocTracks) r₁) (y : Taken m₂ m₃ 0 1 r₂) where
-  pub tracks-begun : Shows m₃ (tracks g) (held g [])
+module _ (g : Geometry) (limit : Limits g) (m m₁ m₂ : List ℕ) (r₁ r₂ : Bool) (b : AllFree m 0 (tracks g))
+    (x : Taken m m₁ (g .vtocStart) (g .vtocStart + g .vtocTracks) r₁) (y : Taken m₁ m₂ 0 1 r₂) where
+  pub tracks-begun : Shows m₂ (tracks g) (held g [])
   unfolding held
   tracks-begun =
-      let h = shows-opened m m₁ (tracks g) b in
+      let h : Shows m (tracks g) [] = λ t u. let z = b t (omega arith) u in omega arith in
       let n = limit .ends in
-      let f : AllFree m₁ (g .vtocStart) (g .vtocStart + g .vtocTracks) = λ t u w. let z = h t (omega arith) in omega arith in
-      let e = taken-true m₁ m₂ (g .vtocStart) (g .vtocStart + g .vtocTracks) r₁ f x in
-      let k = shows-take m₁ m₂ (tracks g) (g .vtocStart) (g .vtocTracks) [] h f (x .made e) in
+      let f : AllFree m (g .vtocStart) (g .vtocStart + g .vtocTracks) = λ t u w. b t (omega arith) (omega arith) in
+      let e = taken-true m m₁ (g .vtocStart) (g .vtocStart + g .vtocTracks) r₁ f x in
+      let k = shows-take m m₁ (tracks g) (g .vtocStart) (g .vtocTracks) [] h f (x .made e) in
       let s = limit .start in
-      let p : AllFree m₂ 0 1 = λ t u w.
+      let p : AllFree m₁ 0 1 = λ t u w.
       let z = k t (omega arith) in
       let c = hit-below (run (g .vtocStart) (g .vtocTracks)) t (omega arith) in
       omega arith
       in
-      let q = taken-true m₂ m₃ 0 1 r₂ p y in
-      shows-take m₂ m₃ (tracks g) 0 1 (run (g .vtocStart) (g .vtocTracks) ∷ []) k p (y .made q)
+      let q = taken-true m₁ m₂ 0 1 r₂ p y in
+      shows-take m₁ m₂ (tracks g) 0 1 (run (g .vtocStart) (g .vtocTracks) ∷ []) k p (y .made q)
 
-  pub maps-begun : (s s₁ s₂ : List ℕ) (r₃ : Bool) → Opened s s₁ (slots g) → Taken s₁ s₂ 0 1 r₃ → MapsBegun g m m₃ s s₂
+  pub maps-begun : (s s₁ s₂ : List ℕ) (r₃ : Bool) → Opened s s₁ (slots g) → Taken s₁ s₂ 0 1 r₃ → MapsBegun g m m₂ s s₂
   maps-begun s s₁ s₂ r₃ c z =
       record {
-        longMap = y .long ∙ x .long ∙ b .long;
+        longMap = y .long ∙ x .long;
         longSlots = z .long ∙ c .long;
         freeTracks = tracks-begun;
         freeSlots = first-taken s s₁ s₂ (slots g) r₃ (omega (arith, limit .least)) c z;

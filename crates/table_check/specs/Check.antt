@@ -3,7 +3,7 @@ use mathlib.Core.Path.{_≡_}
 use Prim.Native.Nat.{ℕ, _*_, _≤_, _<_}
 use mathlib.Core.Bool.{Bool, true, false}
 use mathlib.Core.List.{List, [], _∷_}
-use lib.ListN.{length}
+use lib.ListN.{length, replicate}
 use Rattle.model.specs.Basics.{zeros}
 use Rattle.model.specs.Model.{Geometry, Volume, free, held, slots, tally, tracks, unused, used}
 use Rattle.rules.specs.Layout.{format4}
@@ -11,7 +11,7 @@ use Rattle.rules.specs.Reading.{chop, read, readGeometry}
 use Rattle.rules.specs.Table.{taken}
 use Rattle.rules.proofs.Valid.{Limits}
 use Rattle.sound.specs.Sound.{Sound}
-use Rattle.tracks.specs.Map.{Shows}
+use Rattle.tracks.specs.Map.{AllFree, Shows}
 use Rattle.fields.specs.Records.{slotBytes}
 use Rattle.label_check.specs.Marks.{units}
 use Rattle.table.specs.Labels.{labelsBelow}
@@ -23,11 +23,15 @@ abbrev pub volumeAt : Geometry → List ℕ → Volume
 volumeAt g t =
     record { geometry = g; labels = labelsBelow g t (slots g); chain = chainFrom g t (free g (labelsBelow g t (slots g))) 1 }
 
--- a map of free tracks has room for the volume that the format 4 of the table tells of, where that is a volume at all: a
--- call on a small volume clears a small map
+-- n words of ones: a map in which every track is free, as a call makes it
+abbrev pub ones : ℕ → List ℕ
+ones n = replicate n 0xffff_ffff_ffff_ffff
+
+-- A map of free tracks has room for the volume that the format 4 of the table tells of, where that is a volume at all: a
+-- call on a small volume fills a small map. Every track is free in it: the check only takes tracks out.
 pub record Roomy (t m : List ℕ) : Type 0 where
-  pub most : length m ≤ 1024
   pub enough : Limits (readGeometry (slotBytes t 0)) → tracks (readGeometry (slotBytes t 0)) ≤ 64 * length m
+  pub fresh : AllFree m 0 (64 * length m)
 
 -- all tracks are free but the label track and the VTOC, all slots but slot 0
 pub record MapsBegun (g : Geometry) (m m′ s s′ : List ℕ) : Type 0 where

@@ -7,6 +7,7 @@ ghost use lib.ListN.{length};
 ghost use Rattle.model.specs.Model.{slots, tracks};
 ghost use Rattle.rules.specs.Table.{goodLength};
 ghost use Rattle.rules.proofs.Valid.{Limits};
+ghost use Rattle.tracks.specs.Map.{AllFree};
 ghost use Rattle.fields.specs.Records.{slotBytes};
 ghost use Rattle.forms.specs.Forms.{geometryOf};
 ghost use Rattle.names.specs.Find.{isLabel};
@@ -26,12 +27,12 @@ pub fn good_length(table: &[u8]) -> bool
     n <= 468
 }
 
-// Begins the maps of free tracks and free slots: the label track, the VTOC and slot 0 are not free.
+// Begins the maps of free tracks and free slots: the label track, the VTOC and slot 0 are not free. Every track is free in the map
+// that is lent, as its caller made it: a map is filled once.
 pub fn begin_maps(g: Geometry, map: &mut [u64], empty: &mut [u64])
-    requires { ⌜ Limits (geometryOf g) × (length (now map) ≤ 1024) × (tracks (geometryOf g) ≤ 64 * length (now map)) × (length (now empty) ≡ 8) ⌝ }
+    requires { ⌜ Limits (geometryOf g) × AllFree (now map) 0 (tracks (geometryOf g)) × (tracks (geometryOf g) ≤ 64 * length (now map)) × (length (now empty) ≡ 8) ⌝ }
     ensures { λ _. ⌜ MapsBegun (geometryOf g) (now (map .entry)) (now (map .exit)) (now (empty .entry)) (now (empty .exit)) ⌝ }
 {
-    tracks::free_below(map, (g.cylinders * g.heads) as usize);
     let start = g.vtoc_start as usize;
     let end = start + g.vtoc_tracks as usize;
     let vtoc = tracks::take_range(map, start, end);
@@ -57,7 +58,7 @@ fn rest_ok(table: &[u8], g: Geometry, empty: &[u64]) -> bool
 
 // Whether a table of geometry g holds what it must.
 fn contents_ok(table: &[u8], g: Geometry, map: &mut [u64], empty: &mut [u64]) -> bool
-    requires { ⌜ Limits (geometryOf g) × (length (now table) ≡ 140 * slots (geometryOf g)) × (isLabel (slotBytes (now table) 0) ≡ false) × (length (now map) ≤ 1024) × (tracks (geometryOf g) ≤ 64 * length (now map)) × (length (now empty) ≡ 8) ⌝ }
+    requires { ⌜ Limits (geometryOf g) × (length (now table) ≡ 140 * slots (geometryOf g)) × (isLabel (slotBytes (now table) 0) ≡ false) × AllFree (now map) 0 (tracks (geometryOf g)) × (tracks (geometryOf g) ≤ 64 * length (now map)) × (length (now empty) ≡ 8) ⌝ }
     ensures { λ r. ⌜ Contents (geometryOf g) (now (table .entry)) (now (map .entry)) (now (map .exit)) (now (empty .entry)) (now (empty .exit)) r ⌝ }
 {
     begin_maps(g, map, empty);

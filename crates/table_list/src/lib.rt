@@ -14,6 +14,7 @@ ghost use Rattle.forms.specs.Forms.{geometryOf};
 ghost use Rattle.listing.specs.Text.{Written, dataText};
 ghost use Rattle.label_check.specs.Marks.{labelAt};
 ghost use Rattle.table.specs.Labels.{atSlot, labelsBelow};
+ghost use Rattle.table_check.specs.Check.{ones};
 ghost use Rattle.table_list.specs.Whole.{Listable, Ready, spanLine};
 
 // ---- free extents
@@ -141,9 +142,10 @@ fn list_taken(table: &[u8], g: Geometry, map: &[u64], empty: &[u64], out: &mut [
     put_slots(out, c, spares.count)
 }
 
-// Writes the listing of any table, taken or not, and gives back its length. The maps are room to work in.
+// Writes the listing of any table, taken or not, and gives back its length. The maps are room to work in; every track is free in
+// that of tracks.
 pub fn list(table: &[u8], map: &mut [u64], empty: &mut [u64], out: &mut [u8]) -> usize
-    requires { ⌜ (length (now map) ≡ 1024) × (length (now empty) ≡ 8) × (1000000 ≤ length (now out)) ⌝ }
+    requires { ⌜ (now map ≡ ones 1024) × (length (now empty) ≡ 8) × (1000000 ≤ length (now out)) ⌝ }
     ensures { λ r. ⌜ (length (now (out .exit)) ≡ length (now (out .entry))) × (take r (now (out .exit)) ≡ listing (now (table .entry))) × (r ≤ 1000000) ⌝ }
 {
     if table_check::good_length(table) {} else {

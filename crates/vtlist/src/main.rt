@@ -27,7 +27,7 @@ fn main() {
     let mut table = io::large_buffer();
     let n = io::read_full(STDIN_FILENO, &mut table);
     read_rest();
-    let mut map = [0u64; 1024];
+    let mut map = [u64::MAX; 1024];
     let mut empty = [0u64; 8];
     let mut out = room();
     let r = table_list::list(&table[..n], &mut map, &mut empty, &mut out);

@@ -54,7 +54,7 @@ returns-3 c = numbered _ _ _ _ (form-few (geometryOf (c .before .before .before 
 
 -- src/lib.rt:82:9
 third-of-requires : tie.Need-third-of-requires
-third-of-requires c κs = (c .before .before .before .before .before .record-at .ensures .1, omega (arith, c .before .wide .ensures .0, one-few (c .before .before .before .before .before .record-at .result .now) (sym (c .before .before .before .before .one-ok .ensures) ∙ c .before .before .before .if1 .taken)), c .before .before .before .before .before .before .before .pre .1, c .before .before .before .before .before .before .before .pre .2)
+third-of-requires c κs = (c .before .before .before .before .before .record-at .ensures .1, c .if2 .left, omega (arith, c .before .wide .ensures .0, one-few (c .before .before .before .before .before .record-at .result .now) (sym (c .before .before .before .before .one-ok .ensures) ∙ c .before .before .before .if1 .taken)), c .before .before .before .before .before .before .before .pre .1, c .before .before .before .before .before .before .before .pre .2)
 
 -- src/lib.rt:84:9
 returns-4 : tie.Need-returns-4

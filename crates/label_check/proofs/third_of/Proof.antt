@@ -48,9 +48,9 @@ returns c = third-none (geometryOf (c .before .before .before .before .before .b
 record-at-requires : tie.Need-record-at-requires
 record-at-requires c κs =
     let g = geometryOf (c .before .before .before .before .before .before .args .g) in
-    let n = c .before .before .before .before .before .before .pre .2 .least in
+    let n = c .before .before .before .before .before .before .pre .3 .least in
     let b = slot-below (g .heads) (g .records) (g .vtocStart) (slots g) (part 135 5 (c .before .before .before .before .before .before .args .f1 .now)) (omega arith) in
-    omega (arith, c .before .slot-of .ensures, c .before .before .before .before .before .before .pre .3)
+    omega (arith, c .before .slot-of .ensures, c .before .before .before .before .before .before .pre .4)
 
 -- src/lib.rt:57:8
 three-ok-requires : tie.Need-three-ok-requires
@@ -66,11 +66,11 @@ unused-ok-requires c κs = search needs
 
 -- src/lib.rt:61:9
 returns-3 : tie.Need-returns-3
-returns-3 c = third-tested (geometryOf (c .before .before .before .before .before .before .before .before .before .before .before .args .g)) (c .before .before .before .before .before .before .before .before .before .before .before .args .table .now) (c .before .before .before .before .before .before .before .before .before .before .before .args .f1 .now) (c .before .before .before .before .before .before .before .before .before .before .before .args .n) (c .before .before .before .before .before .before .slot-of .result) (c .before .before .before .before .before .before .slot-of .ensures) (c .before .before .before .before .record-at .result .now) (c .before .before .before .before .record-at .ensures .0) true (sym (c .before .before .before .three-ok .ensures) ∙ c .before .before .if2 .taken) (sym (c .before .unused-ok .ensures) ∙ c .if3 .taken)
+returns-3 c = third-tested (geometryOf (c .before .before .before .before .before .before .before .before .before .before .before .args .g)) (c .before .before .before .before .before .before .before .before .before .before .before .args .table .now) (c .before .before .before .before .before .before .before .before .before .before .before .args .f1 .now) (c .before .before .before .before .before .before .before .before .before .before .before .args .n) (c .before .before .before .before .before .before .slot-of .result) (c .before .before .before .before .before .before .slot-of .ensures) (c .before .before .before .before .record-at .result .now) (c .before .before .before .before .record-at .ensures .0) true (sym (c .before .before .before .three-ok .ensures) ∙ c .before .before .if2 .taken) (sym (c .before .unused-ok .ensures (c .before .before .before .before .before .before .before .before .before .before .before .args .f1 .now) (c .before .before .before .before .before .before .before .before .before .before .before .pre .0)) ∙ c .if3 .taken)
 
 -- src/lib.rt:47:1
 returns-4 : tie.Need-returns-4
-returns-4 c = third-tested (geometryOf (c .before .before .before .before .before .before .before .before .before .before .before .args .g)) (c .before .before .before .before .before .before .before .before .before .before .before .args .table .now) (c .before .before .before .before .before .before .before .before .before .before .before .args .f1 .now) (c .before .before .before .before .before .before .before .before .before .before .before .args .n) (c .before .before .before .before .before .before .slot-of .result) (c .before .before .before .before .before .before .slot-of .ensures) (c .before .before .before .before .record-at .result .now) (c .before .before .before .before .record-at .ensures .0) false (sym (c .before .before .before .three-ok .ensures) ∙ c .before .before .if2 .taken) (sym (c .before .unused-ok .ensures) ∙ c .if3 .left)
+returns-4 c = third-tested (geometryOf (c .before .before .before .before .before .before .before .before .before .before .before .args .g)) (c .before .before .before .before .before .before .before .before .before .before .before .args .table .now) (c .before .before .before .before .before .before .before .before .before .before .before .args .f1 .now) (c .before .before .before .before .before .before .before .before .before .before .before .args .n) (c .before .before .before .before .before .before .slot-of .result) (c .before .before .before .before .before .before .slot-of .ensures) (c .before .before .before .before .record-at .result .now) (c .before .before .before .before .record-at .ensures .0) false (sym (c .before .before .before .three-ok .ensures) ∙ c .before .before .if2 .taken) (sym (c .before .unused-ok .ensures (c .before .before .before .before .before .before .before .before .before .before .before .args .f1 .now) (c .before .before .before .before .before .before .before .before .before .before .before .pre .0)) ∙ c .if3 .left)
 
 pub third-of-spec : {M : Type 1} → statement M
 third-of-spec =

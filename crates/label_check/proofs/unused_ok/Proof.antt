@@ -1,66 +1,115 @@
-use mathlib.Core.Path.{_≡_, refl, sym, ap, _∙_}
-use Prim.Native.Nat.{ℕ, _-_, _≤_}
+use mathlib.Core.Path.{sym, _∙_}
+use mathlib.Core.Bool.{true, false}
 use native.Mathlib.Omega.{arith}
-use Rattle.fields.specs.Tests.{allAre}
-use Rattle.label_check.specs.Label.{unusedOk}
-use Rattle.label_check.proofs.Laws.{unused-bad, unused-end, unused-next}
+use Rattle.label_check.proofs.Laws.{unused-around, unused-behind}
 use borrow.Author.Needs.{needs}
 use Rattle.label_check.proofs.unused_ok.Statement.{statement}
 use Rattle.label_check.proofs.unused_ok.Tie as tie
 use Rattle.label_check.proofs.unused_ok.Reads as reads
 use Rattle.label_check.proofs.unused_ok.Lts as lts
 use Rattle.fields.proofs.all_are.Reads as all-are-reads
-use Rattle.fields.proofs.extent_part.Reads as extent-part-reads
 
-abbrev Inv-loop : tie.InvT-loop
-Inv-loop f1 f3 n m e₀ e = (unusedOk f1 f3 n (m - n) ≡ unusedOk f1 f3 e (m - e)) × (e ≤ m)
+-- src/lib.rt:27:23
+mul-at : tie.Need-mul-at
+mul-at c = search needs
 
-abbrev μ-loop : tie.MeasureT-loop
-μ-loop f1 f3 n m e₀ e = m - e
+-- src/lib.rt:27:18
+add-at : tie.Need-add-at
+add-at c = search needs
 
--- src/lib.rt:25:5
-loop-holds : tie.Need-loop-holds Inv-loop μ-loop
-loop-holds c = (refl, c .before .before .pre .2)
+-- src/lib.rt:28:32
+sub-all-are : tie.Need-sub-all-are
+sub-all-are c = search needs
 
--- src/lib.rt:26:28
-extent-part-requires : tie.Need-extent-part-requires Inv-loop μ-loop
-extent-part-requires c κs = search needs
+-- src/lib.rt:28:32
+part-all-are-start : tie.Need-part-all-are-start
+part-all-are-start c = search needs
 
--- src/lib.rt:26:12
-all-are-requires : tie.Need-all-are-requires Inv-loop μ-loop
+-- src/lib.rt:28:32
+part-all-are-end : tie.Need-part-all-are-end
+part-all-are-end c = search needs
+
+-- src/lib.rt:28:9
+all-are-requires : tie.Need-all-are-requires
 all-are-requires c κs = search needs
 
--- src/lib.rt:27:13
-add-e : tie.Need-add-e Inv-loop μ-loop
-add-e c = search needs
+-- src/lib.rt:28:9
+returns : tie.Need-returns
+returns c = λ f1 l1. c .all-are .ensures ∙ unused-behind f1 (c .before .before .before .before .args .f3 .now) l1 (c .before .before .before .before .pre .0) (c .before .before .before .before .args .n) (c .before .before .if1 .taken) (c .before .before .before .before .pre .2)
 
--- src/lib.rt:25:5
-loop-less : tie.Need-loop-less Inv-loop μ-loop
-loop-less c = search needs
+-- src/lib.rt:30:24
+sub-at : tie.Need-sub-at
+sub-at c = search needs
 
--- src/lib.rt:25:5
-loop-again : tie.Need-loop-again Inv-loop μ-loop
-loop-again c = (c .before .before .before .before .loop .inv .0 ∙ unused-next (c .before .before .before .before .before .before .before .args .f1 .now) (c .before .before .before .before .before .before .before .args .f3 .now) (c .before .before .before .before .loop .e) (c .before .before .before .before .before .before .before .args .m) (c .before .before .before .loop-test .taken) (ap (allAre 0) (sym (c .before .before .extent-part .ensures)) ∙ sym (c .before .all-are .ensures) ∙ c .if1 .taken), omega arith)
+-- src/lib.rt:30:18
+mul-at-2 : tie.Need-mul-at-2
+mul-at-2 c = search needs
 
--- src/lib.rt:29:13
-returns : tie.Need-returns Inv-loop μ-loop
-returns c = sym (c .before .before .before .before .loop .inv .0 ∙ unused-bad (c .before .before .before .before .before .before .before .args .f1 .now) (c .before .before .before .before .before .before .before .args .f3 .now) (c .before .before .before .before .loop .e) (c .before .before .before .before .before .before .before .args .m) (c .before .before .before .loop-test .taken) (ap (allAre 0) (sym (c .before .before .extent-part .ensures)) ∙ sym (c .before .all-are .ensures) ∙ c .if1 .left))
+-- src/lib.rt:30:14
+add-at-2 : tie.Need-add-at-2
+add-at-2 c = search needs
 
--- src/lib.rt:20:1
-returns-2 : tie.Need-returns-2 Inv-loop μ-loop
-returns-2 c = sym (c .before .loop .inv .0 ∙ unused-end (c .before .before .before .before .args .f1 .now) (c .before .before .before .before .args .f3 .now) (c .before .loop .e) (c .before .before .before .before .args .m) (c .loop-test .left))
+-- src/lib.rt:31:24
+sub-all-are-2 : tie.Need-sub-all-are-2
+sub-all-are-2 c = search needs
+
+-- src/lib.rt:31:24
+part-all-are-start-2 : tie.Need-part-all-are-start-2
+part-all-are-start-2 c = search needs
+
+-- src/lib.rt:31:24
+part-all-are-end-2 : tie.Need-part-all-are-end-2
+part-all-are-end-2 c = search needs
+
+-- src/lib.rt:31:8
+all-are-requires-2 : tie.Need-all-are-requires-2
+all-are-requires-2 c κs = search needs
+
+-- src/lib.rt:32:9
+returns-2 : tie.Need-returns-2
+returns-2 c = λ f1 l1. unused-around f1 (c .before .before .before .before .before .args .f3 .now) l1 (c .before .before .before .before .before .pre .0) (c .before .before .before .before .before .args .n) false (omega arith) (omega arith) (sym (c .before .all-are2 .ensures) ∙ c .if2 .left)
+
+-- src/lib.rt:34:21
+sub-all-are-3 : tie.Need-sub-all-are-3
+sub-all-are-3 c = search needs
+
+-- src/lib.rt:34:21
+part-all-are-start-3 : tie.Need-part-all-are-start-3
+part-all-are-start-3 c = search needs
+
+-- src/lib.rt:34:21
+part-all-are-end-3 : tie.Need-part-all-are-end-3
+part-all-are-end-3 c = search needs
+
+-- src/lib.rt:34:5
+all-are-requires-3 : tie.Need-all-are-requires-3
+all-are-requires-3 c κs = search needs
+
+-- src/lib.rt:22:1
+returns-3 : tie.Need-returns-3
+returns-3 c = λ f1 l1. c .all-are3 .ensures ∙ unused-around f1 (c .before .before .before .before .before .before .before .args .f3 .now) l1 (c .before .before .before .before .before .before .before .pre .0) (c .before .before .before .before .before .before .before .args .n) true (omega arith) (omega arith) (sym (c .before .before .before .all-are2 .ensures) ∙ c .before .before .if2 .taken)
 
 pub unused-ok-spec : {M : Type 1} → statement M
 unused-ok-spec =
     tie.close
     (tie.spec
-    Inv-loop
-    μ-loop
-    loop-holds
-    extent-part-requires
+    mul-at
+    add-at
+    sub-all-are
+    part-all-are-start
+    part-all-are-end
     all-are-requires
-    add-e
-    loop-less
-    loop-again
     returns
-    returns-2)
+    sub-at
+    mul-at-2
+    add-at-2
+    sub-all-are-2
+    part-all-are-start-2
+    part-all-are-end-2
+    all-are-requires-2
+    returns-2
+    sub-all-are-3
+    part-all-are-start-3
+    part-all-are-end-3
+    all-are-requires-3
+    returns-3)

@@ -1,5 +1,5 @@
 use Rattle.table_check.proofs.Whole.{contents-decide, no-four, no-label, out-of-limits, too-short, wrong-length}
-use Rattle.table_check.proofs.Room.{room-for}
+use Rattle.table_check.proofs.Room.{free-for, room-for}
 use Rattle.forms.specs.Forms.{geometryOf}
 use Rattle.rules.proofs.Valid.{limits→}
 use Rattle.rules.specs.Reading.{readGeometry}
@@ -69,7 +69,7 @@ contents-ok-requires c κs =
     let a = b .before .before .before .before .before .before .before .before in
     let l = limits→ (geometryOf (b .geometry-of .result)) (true-is (sym (c .before .before .before .before .before .limits .ensures) ∙ c .before .before .before .before .if3 .taken)) in
     let e = b .before .before .before .record-at .ensures .0 in
-    (l, c .before .before .if4 .left, no-label (a .args .table .now) (b .before .before .before .record-at .result .now) e (b .before .if2 .left), a .pre .0 .most, room-for (a .args .table .now) (a .args .map .now) _ (a .pre .0) (b .geometry-of .ensures ∙ ap readGeometry e) l, a .pre .1)
+    (l, c .before .before .if4 .left, no-label (a .args .table .now) (b .before .before .before .record-at .result .now) e (b .before .if2 .left), free-for (a .args .table .now) (a .args .map .now) _ (a .pre .0) (b .geometry-of .ensures ∙ ap readGeometry e) l, room-for (a .args .table .now) (a .args .map .now) _ (a .pre .0) (b .geometry-of .ensures ∙ ap readGeometry e) l, a .pre .1)
 
 -- src/lib.rt:62:1
 same-length : tie.Need-same-length

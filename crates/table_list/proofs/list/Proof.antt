@@ -1,5 +1,6 @@
 use mathlib.Core.Path.{_≡_, refl, sym, ap, _∙_}
 use native.Mathlib.Omega.{arith}
+use lib.ListN.{length}
 use Rattle.forms.specs.Forms.{geometryOf}
 use Rattle.model.proofs.Lists.{true-is}
 use Rattle.rules.specs.Reading.{readGeometry}
@@ -68,7 +69,7 @@ geometry-of-requires c κs = search needs
 
 -- src/lib.rt:163:5
 list-taken-requires : tie.Need-list-taken-requires
-list-taken-requires c κs = (ready (c .before .before .before .before .before .before .before .before .before .before .before .before .before .before .before .before .before .before .before .args .table .now) _ _ (geometryOf (c .before .before .before .geometry-of .result)) (true-is (sym (c .before .before .before .before .before .before .before .before .before .before .check .ensures .told) ∙ c .before .before .before .before .before .if2 .taken)) (c .before .before .before .before .before .before .before .before .before .before .check .ensures .shown (c .before .before .before .before .before .if2 .taken)) (c .before .before .before .geometry-of .ensures ∙ ap readGeometry (c .before .before .before .before .record-at .ensures .0)), c .before .before .before .before .before .before .before .before .before .before .check .ensures .longMap ∙ c .before .before .before .before .before .before .before .before .before .before .before .before .before .before .before .before .before .before .before .pre .0, c .before .before .before .before .before .before .before .before .before .before .check .ensures .longSlots ∙ c .before .before .before .before .before .before .before .before .before .before .before .before .before .before .before .before .before .before .before .pre .1, c .before .before .before .before .before .before .before .before .before .before .before .before .before .before .before .before .before .before .before .pre .2)
+list-taken-requires c κs = (ready (c .before .before .before .before .before .before .before .before .before .before .before .before .before .before .before .before .before .before .before .args .table .now) _ _ (geometryOf (c .before .before .before .geometry-of .result)) (true-is (sym (c .before .before .before .before .before .before .before .before .before .before .check .ensures .told) ∙ c .before .before .before .before .before .if2 .taken)) (c .before .before .before .before .before .before .before .before .before .before .check .ensures .shown (c .before .before .before .before .before .if2 .taken)) (c .before .before .before .geometry-of .ensures ∙ ap readGeometry (c .before .before .before .before .record-at .ensures .0)), c .before .before .before .before .before .before .before .before .before .before .check .ensures .longMap ∙ ap length (c .before .before .before .before .before .before .before .before .before .before .before .before .before .before .before .before .before .before .before .pre .0), c .before .before .before .before .before .before .before .before .before .before .check .ensures .longSlots ∙ c .before .before .before .before .before .before .before .before .before .before .before .before .before .before .before .before .before .before .before .pre .1, c .before .before .before .before .before .before .before .before .before .before .before .before .before .before .before .before .before .before .before .pre .2)
 
 -- src/lib.rt:152:1
 same-length-5 : tie.Need-same-length-5
