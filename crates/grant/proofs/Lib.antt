@@ -3,6 +3,7 @@ pub mod Longest
 pub mod BestFit
 pub mod Entering
 pub mod Passing
+pub mod PassingOver
 pub mod Gathering
 pub mod Choosing
 pub mod Reply

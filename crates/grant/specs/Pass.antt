@@ -1,5 +1,5 @@
 -- One pass over the free extents: the best fit so far and the five longest so far, in units. Assumes nothing.
-use Prim.Native.Nat.{ℕ, zero, suc, _+_, _*_, _≤_}
+use Prim.Native.Nat.{ℕ, zero, suc, _+_, _*_, _≤_, _<_}
 use mathlib.Core.Path.{_≡_}
 use mathlib.Core.Bool.{Bool, cond, _&&_, _||_}
 use mathlib.Core.Option.{Option, none}
@@ -9,6 +9,7 @@ use lib.Dec.{leb, ltb, eqb}
 use Rattle.model.specs.Basics.{orElse}
 use Rattle.model.specs.Model.{Run, run}
 use Rattle.model.specs.Choice.{candidates, serving, shortest, longestFirst, wholeIn}
+use Rattle.rules.specs.Demand3.{entryPlace, readEntry}
 
 -- candidates as the code holds them, first unit and count, and none where the count is 0
 abbrev pub toRun : List ℕ → Run
@@ -60,6 +61,10 @@ fiveAfter u five (r ∷ rs) = fiveAfter u (entered (wholeIn u r) five) rs
 pub record Looked (u n : ℕ) (f : List Run) (best best′ : Run) (five five′ : List Run) : Type 0 where
   pub best-is : bestAfter u n best f ≡ best′
   pub five-is : (best′ .count ≡ n → ⊥) → fiveAfter u five f ≡ five′
+
+-- each entry of the format 5 r is shorter than a unit of u tracks, however many tracks a cylinder has
+abbrev pub Shorter : ℕ → List ℕ → Type 0
+Shorter u r = (h j : ℕ) → j < 26 → readEntry h r (entryPlace j) .count < u
 
 -- what the pass has found: the best fit for n units, and where there is none the five longest candidates
 pub record Surveyed (u n : ℕ) (f : List Run) (best : Run) (five : List Run) : Type 0 where

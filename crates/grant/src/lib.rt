@@ -3,6 +3,7 @@
 // that has exactly the amount: no later one is better, and the five longest are then of no use.
 use forms::Geometry;
 ghost use mathlib.Core.Path.{_≡_};
+ghost use mathlib.Core.Bool.{true};
 ghost use mathlib.Core.List.{List, [], map};
 ghost use Prim.Native.Nat.{_-_, _*_, _≤_, _<_};
 ghost use lib.ListN.{length};
@@ -13,7 +14,7 @@ ghost use Rattle.rules.proofs.Valid.{Limits};
 ghost use Rattle.forms.specs.Forms.{geometryOf};
 ghost use Rattle.free_list.specs.FreeList.{Entries, Listed};
 ghost use Rattle.grant.specs.Grant.{grantedRuns, row, grant, replyOf};
-ghost use Rattle.grant.specs.Pass.{toRun, toRuns, padded, better, fitsBetter, entered, Looked, Surveyed, Within, Small};
+ghost use Rattle.grant.specs.Pass.{toRun, toRuns, padded, better, fitsBetter, entered, Looked, Shorter, Surveyed, Within, Small};
 
 // Units that follow each other: the first, and how many; none where the count is 0.
 struct Units {
@@ -116,6 +117,56 @@ fn look_member(
     now
 }
 
+// The larger of two bytes.
+fn larger(a: u8, b: u8) -> u8
+    ensures { λ r. ⌜ (a ≤ r) × (b ≤ r) ⌝ }
+{
+    if a < b { b } else { a }
+}
+
+// Whether each entry of a format 5 is shorter than a unit of u tracks. It takes the cylinders of all entries together, and the
+// most odd tracks: a loop without a branch costs less than to read the entries one by one.
+fn all_shorter(rec: &[u8], u: u32) -> bool
+    requires { ⌜ length (now rec) ≡ 140 ⌝ }
+    ensures { λ r. ⌜ (r ≡ true → Shorter u (now (rec .entry))) ⌝ }
+{
+    let mut cylinders: u8 = 0;
+    let mut odd: u8 = 0;
+    let mut j: usize = 0;
+    while j < 26 {
+        let p = records::entry_place(j);
+        cylinders = cylinders | rec[p + 2] | rec[p + 3];
+        odd = larger(odd, rec[p + 4]);
+        j += 1;
+    }
+    if cylinders != 0 {
+        return false;
+    }
+    fields::wide(odd) < u
+}
+
+// Looks at one format 5, or passes over it where it has no unit. The first one, often the only one, is not asked, nor is any
+// for single tracks, which every entry has.
+fn look_or_pass(
+    rec: &[u8],
+    later: bool,
+    h: u32,
+    u: u32,
+    amount: u32,
+    best: Units,
+    five: &mut [[u32; 2]; 5],
+) -> Units
+    requires { ⌜ (length (now rec) ≡ 140) × (1 ≤ h) × (h ≤ 255) × (1 ≤ u) × (u ≤ 255) × (1 ≤ amount) × (length (now five) ≡ 5) ⌝ }
+    ensures { λ r. ⌜ (length (now (five .exit)) ≡ 5) × ((f : List Run) → Entries h (now (rec .entry)) f → Looked u amount f (run (best .start) (best .count)) (run (r .start) (r .count)) (toRuns (now (five .entry))) (toRuns (now (five .exit)))) ⌝ }
+{
+    if later && u != 1 {
+        if all_shorter(rec, u) {
+            return best;
+        }
+    }
+    look_member(rec, h, u, amount, best, five)
+}
+
 // One pass over the free extents that the table lists: the best fit is the result; where there is none, the five longest are
 // in `five`.
 fn survey(table: &[u8], g: Geometry, u: u32, amount: u32, five: &mut [[u32; 2]; 5]) -> Units
@@ -130,7 +181,15 @@ fn survey(table: &[u8], g: Geometry, u: u32, amount: u32, five: &mut [[u32; 2]; 
         if k == 0 {
             return best;
         }
-        best = look_member(fields::record_at(table, k), g.heads, u, amount, best, five);
+        best = look_or_pass(
+            fields::record_at(table, k),
+            k != 1,
+            g.heads,
+            u,
+            amount,
+            best,
+            five,
+        );
         if best.count == amount {
             return best;
         }

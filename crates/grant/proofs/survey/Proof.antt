@@ -16,7 +16,7 @@ use Rattle.grant.proofs.survey.Reads as reads
 use Rattle.grant.proofs.survey.Lts as lts
 use Rattle.fields.proofs.record_at.Reads as record-at-reads
 use Rattle.free_list.proofs.member_after.Reads as member-after-reads
-use Rattle.grant.proofs.look_member.Reads as look-member-reads
+use Rattle.grant.proofs.look_or_pass.Reads as look-or-pass-reads
 
 abbrev Inv-loop : tie.InvT-loop
 Inv-loop table g u amount five₀ best₀ k₀ left₀ five best k left =
@@ -48,8 +48,8 @@ returns c =
 record-at-requires : tie.Need-record-at-requires Inv-loop μ-loop
 record-at-requires c κs = omega (arith, c .before .before .loop .inv .1, c .before .before .before .before .before .pre .0 .1)
 
-look-member-requires : tie.Need-look-member-requires Inv-loop μ-loop
-look-member-requires c κs =
+look-or-pass-requires : tie.Need-look-or-pass-requires Inv-loop μ-loop
+look-or-pass-requires c κs =
     let p = c .before .before .before .before .before .before .before .pre in
     (c .before .record-at .ensures .1, p .0 .0 .heads, p .0 .0 .headsMost, p .0 .2, p .0 .3, p .0 .4, c .before .before .before .before .loop .inv .0)
 
@@ -62,7 +62,7 @@ returns-2 c =
     let rec = c .before .before .before .before .record-at in
     λ f x. onwards-exact (a .u) (a .amount) f (toRuns (a .five .now)) _ _ (p .1 .1) (p .0 .4) (geometryOf (a .g)) (a .table .now) (l .left) (l .k) _ _ (p .0 .0)
     (omega (arith, c .before .before .before .before .before .if1 .left)) (l .inv .2 f x)
-    (λ e y. c .before .before .look-member .ensures .1 (take 26 e) (subst (λ (r : List ℕ). Entries (a .g .heads) r (take 26 e)) (sym (rec .ensures .0)) y)) (c .if2 .taken)
+    (λ e y. c .before .before .look-or-pass .ensures .1 (take 26 e) (subst (λ (r : List ℕ). Entries (a .g .heads) r (take 26 e)) (sym (rec .ensures .0)) y)) (c .if2 .taken)
 
 member-after-requires : tie.Need-member-after-requires Inv-loop μ-loop
 member-after-requires c κs =
@@ -82,7 +82,7 @@ loop-again c =
     let p = top .pre in
     let l = c .before .before .before .before .before .before .before .before .loop in
     let rec = c .before .before .before .before .before .record-at in
-    let looked = c .before .before .before .look-member in (
+    let looked = c .before .before .before .look-or-pass in (
       looked .ensures .0,
       c .member-after .ensures .0,
       λ f x. going-next (geometryOf (a .g)) (a .table .now) _ (l .left) (l .k) (l .inv .2 f x) (omega (arith, c .before .before .before .before .before .before .if1 .left)) (c .member-after .result) _
@@ -108,7 +108,7 @@ survey-spec =
     loop-holds
     returns
     record-at-requires
-    look-member-requires
+    look-or-pass-requires
     returns-2
     member-after-requires
     sub-left
