@@ -145,11 +145,10 @@ fn all_shorter(rec: &[u8], u: u32) -> bool
     fields::wide(odd) < u
 }
 
-// Looks at one format 5, or passes over it where it has no unit. The first one, often the only one, is not asked, nor is any
-// for single tracks, which every entry has.
+// Looks at one format 5; where `pass` is set, one that has no unit is passed over.
 fn look_or_pass(
     rec: &[u8],
-    later: bool,
+    pass: bool,
     h: u32,
     u: u32,
     amount: u32,
@@ -159,7 +158,7 @@ fn look_or_pass(
     requires { ⌜ (length (now rec) ≡ 140) × (1 ≤ h) × (h ≤ 255) × (1 ≤ u) × (u ≤ 255) × (1 ≤ amount) × (length (now five) ≡ 5) ⌝ }
     ensures { λ r. ⌜ (length (now (five .exit)) ≡ 5) × ((f : List Run) → Entries h (now (rec .entry)) f → Looked u amount f (run (best .start) (best .count)) (run (r .start) (r .count)) (toRuns (now (five .entry))) (toRuns (now (five .exit)))) ⌝ }
 {
-    if later && u != 1 {
+    if pass {
         if all_shorter(rec, u) {
             return best;
         }
@@ -168,8 +167,15 @@ fn look_or_pass(
 }
 
 // One pass over the free extents that the table lists: the best fit is the result; where there is none, the five longest are
-// in `five`.
-fn survey(table: &[u8], g: Geometry, u: u32, amount: u32, five: &mut [[u32; 2]; 5]) -> Units
+// in `five`. The first format 5, often the only one, is never passed over.
+fn survey(
+    table: &[u8],
+    g: Geometry,
+    pass: bool,
+    u: u32,
+    amount: u32,
+    five: &mut [[u32; 2]; 5],
+) -> Units
     requires { ⌜ Limits (geometryOf g) × (length (now table) ≡ 140 * slots (geometryOf g)) × (1 ≤ u) × (u ≤ 255) × (1 ≤ amount) ⌝ }
     requires { ⌜ (length (now five) ≡ 5) × (toRuns (now five) ≡ padded 5 []) ⌝ }
     ensures { λ r. ⌜ ((f : List Run) → Listed (geometryOf g) (now (table .entry)) f → Surveyed u amount f (run (r .start) (r .count)) (toRuns (now (five .exit)))) ⌝ }
@@ -183,7 +189,7 @@ fn survey(table: &[u8], g: Geometry, u: u32, amount: u32, five: &mut [[u32; 2]; 
         }
         best = look_or_pass(
             fields::record_at(table, k),
-            k != 1,
+            pass && k != 1,
             g.heads,
             u,
             amount,
@@ -197,6 +203,19 @@ fn survey(table: &[u8], g: Geometry, u: u32, amount: u32, five: &mut [[u32; 2]; 
         left -= 1;
     }
     best
+}
+
+// The survey for units of u tracks. For single tracks no format 5 is passed over, since every entry has one. The constants give
+// them a loop of their own, which costs a quarter less; but for `false` the compiler would make the two calls one.
+fn survey_for(table: &[u8], g: Geometry, u: u32, amount: u32, five: &mut [[u32; 2]; 5]) -> Units
+    requires { ⌜ Limits (geometryOf g) × (length (now table) ≡ 140 * slots (geometryOf g)) × (1 ≤ u) × (u ≤ 255) × (1 ≤ amount) ⌝ }
+    requires { ⌜ (length (now five) ≡ 5) × (toRuns (now five) ≡ padded 5 []) ⌝ }
+    ensures { λ r. ⌜ ((f : List Run) → Listed (geometryOf g) (now (table .entry)) f → Surveyed u amount f (run (r .start) (r .count)) (toRuns (now (five .exit)))) ⌝ }
+{
+    if u == 1 {
+        return survey(table, g, false, 1, amount, five);
+    }
+    survey(table, g, true, u, amount, five)
 }
 
 // A piece: the tracks of the first n units of a candidate.
@@ -254,7 +273,7 @@ pub fn choose(table: &[u8], g: Geometry, u: u32, amount: u32, pieces: &mut [[u16
     ensures { λ r. ⌜ ((f : List Run) → Listed (geometryOf g) (now (table .entry)) f → grant (r .count) (r .tracks) (now (pieces .exit)) ≡ replyOf (grantedRuns u amount f) (now (pieces .entry))) ⌝ }
 {
     let mut five = [[0u32; 2]; 5];
-    let best = survey(table, g, u, amount, &mut five);
+    let best = survey_for(table, g, u, amount, &mut five);
     if best.count != 0 {
         let part = piece(u, [best.start, best.count], amount);
         pieces[0] = part;

@@ -13,15 +13,15 @@ use Rattle.grant.specs.Pass.{padded}
 use Rattle.grant.proofs.choose.Statement.{statement}
 use Rattle.grant.proofs.choose.Tie as tie
 
-survey-requires : tie.Need-survey-requires
+survey-for-requires : tie.Need-survey-for-requires
 unfolding padded
-survey-requires c κs = let p = c .before .before .pre in ((p .0 .0, p .0 .1, p .0 .2, p .0 .3, p .1 .0), (refl, refl))
+survey-for-requires c κs = let p = c .before .before .pre in ((p .0 .0, p .0 .1, p .0 .2, p .0 .3, p .1 .0), (refl, refl))
 
 piece-requires : tie.Need-piece-requires
 piece-requires c κs =
     let top = c .before .before .before .before .before in
     let w = top .pre .1 .3 in
-    best-within (w .0) (tracks (geometryOf (top .args .g))) (w .1 .apart) (top .pre .0 .0 .tracksMost) (omega arith) (c .before .before .survey .ensures (w .0) (w .1)) (omega arith)
+    best-within (w .0) (tracks (geometryOf (top .args .g))) (w .1 .apart) (top .pre .0 .0 .tracksMost) (omega arith) (c .before .before .survey-for .ensures (w .0) (w .1)) (omega arith)
 
 element-set-from-part : tie.Need-element-set-from-part
 element-set-from-part c = search needs
@@ -34,36 +34,36 @@ mul-tracks c =
 returns : tie.Need-returns
 returns c =
     let top = c .before .before .before .before .before .before in
-    λ f x. rw (c .piece .ensures) (granted-one f (tracks (geometryOf (top .args .g))) (x .apart) (top .pre .0 .0 .tracksMost) (omega arith) (c .before .before .before .survey .ensures f x) (omega arith) (top .args .pieces .now) (top .pre .1 .2))
+    λ f x. rw (c .piece .ensures) (granted-one f (tracks (geometryOf (top .args .g))) (x .apart) (top .pre .0 .0 .tracksMost) (omega arith) (c .before .before .before .survey-for .ensures f x) (omega arith) (top .args .pieces .now) (top .pre .1 .2))
 
 sum-requires : tie.Need-sum-requires
 sum-requires c κs =
     let top = c .before .before .before .before .before in
     let w = top .pre .1 .3 in
-    five-small (w .0) (tracks (geometryOf (top .args .g))) (w .1 .apart) (top .pre .0 .0 .tracksMost) (omega arith) (c .before .before .survey .ensures (w .0) (w .1)) (omega arith) (omega arith)
+    five-small (w .0) (tracks (geometryOf (top .args .g))) (w .1 .apart) (top .pre .0 .0 .tracksMost) (omega arith) (c .before .before .survey-for .ensures (w .0) (w .1)) (omega arith) (omega arith)
 
 returns-2 : tie.Need-returns-2
 returns-2 c =
     let top = c .before .before .before .before .before .before .before in
-    λ f x. granted-none f (tracks (geometryOf (top .args .g))) (x .apart) (top .pre .0 .0 .tracksMost) (omega arith) (c .before .before .before .before .survey .ensures f x) (omega arith) (omega arith) (top .args .pieces .now)
+    λ f x. granted-none f (tracks (geometryOf (top .args .g))) (x .apart) (top .pre .0 .0 .tracksMost) (omega arith) (c .before .before .before .before .survey-for .ensures f x) (omega arith) (omega arith) (top .args .pieces .now)
 
 fill-requires : tie.Need-fill-requires
 fill-requires c κs =
     let top = c .before .before .before .before .before .before .before .before in
     let w = top .pre .1 .3 in
-    ((omega arith, omega arith, omega arith, omega arith, omega arith), (five-within (w .0) (tracks (geometryOf (top .args .g))) (w .1 .apart) (top .pre .0 .0 .tracksMost) (omega arith) (c .before .before .before .before .before .survey .ensures (w .0) (w .1)) (omega arith), top .pre .1 .2))
+    ((omega arith, omega arith, omega arith, omega arith, omega arith), (five-within (w .0) (tracks (geometryOf (top .args .g))) (w .1 .apart) (top .pre .0 .0 .tracksMost) (omega arith) (c .before .before .before .before .before .survey-for .ensures (w .0) (w .1)) (omega arith), top .pre .1 .2))
 
 returns-3 : tie.Need-returns-3
 returns-3 c =
     let top = c .before .before .before .before .before .before .before .before .before in
     λ f x. c .fill .ensures
-    ∙ ap (λ (o : Option (List Run)). replyOf o (top .args .pieces .now)) (granted-more f (tracks (geometryOf (top .args .g))) (x .apart) (top .pre .0 .0 .tracksMost) (omega arith) (c .before .before .before .before .before .before .survey .ensures f x) (omega arith))
+    ∙ ap (λ (o : Option (List Run)). replyOf o (top .args .pieces .now)) (granted-more f (tracks (geometryOf (top .args .g))) (x .apart) (top .pre .0 .0 .tracksMost) (omega arith) (c .before .before .before .before .before .before .survey-for .ensures f x) (omega arith))
 
 pub choose-spec : {M : Type 1} → statement M
 choose-spec =
     tie.close
     (tie.spec
-    survey-requires
+    survey-for-requires
     piece-requires
     element-set-from-part
     mul-tracks
