@@ -1,11 +1,12 @@
 -- Runs that end within one word, the rest of a track's own. Assumes nothing.
-use mathlib.Core.Path.{_≡_, refl, sym, ap, _∙_}
+use mathlib.Core.Path.{_≡_, refl, sym, ap, _∙_, subst}
 use mathlib.Core.Logic.{⊎-elim}
 use mathlib.Core.List.{List}
 use Prim.Native.Nat.{ℕ, _+_, _-_, _*_, _/_, _%_, _^_, _≤_, _<_}
 use native.Mathlib.Nat.{le-refl}
 use native.Mathlib.Omega.{arith}
-use lib.ListN.{getD}
+use lib.ListN.{getD, length, take}
+use lib.Seq.{take-all}
 use lib.Bits.{bitAnd, bitOr, or-lt}
 use lib.Count.{trailingZeros}
 use Rattle.tracks.specs.Map.{NextRun, bitAt, freeBit}
@@ -144,3 +145,14 @@ module _ (x : ℕ) (some : x ≡ 0 → ⊥) (fits : x < 2 ^ 64) where
             clear = λ j h. left-low j (omega arith);
             shown = λ i u v w. left-high (i % 64) (omega arith) ∙ seen .shown i (omega arith) v (omega arith);
           }
+
+-- ---- the map lent on as a part of itself
+
+whole : (m : List ℕ) → take (length m - 0) m ≡ m
+whole m = take-all (length m - 0) m (omega arith)
+
+pub lent : (m : List ℕ) (P : List ℕ → Type 0) → P m → P (take (length m - 0) m)
+lent m P p = subst P (sym (whole m)) p
+
+pub back : (m : List ℕ) (P : List ℕ → Type 0) → P (take (length m - 0) m) → P m
+back m P p = subst P (whole m) p

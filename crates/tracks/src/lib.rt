@@ -325,7 +325,7 @@ pub fn next_run(map: &[u64], s: usize, n: usize) -> Span
 // The first run of free tracks from t on and below n, as next_run, for runs that are wanted one after the other: x shows the
 // tracks from t on, so that the map is not read again, nor waited for, where the run ends in t's word. One less fills the bits
 // below the run, one more carries to the track behind it. x is kept in place, not shifted down: the next run then waits for
-// four simple operations and for no count of zeros.
+// four simple operations and for no count of zeros. The map is lent on as a part: as it is, it would be stored at each call.
 pub fn run_ahead(map: &[u64], t: usize, n: usize, x: u64) -> Ahead
     requires { ⌜ (t ≤ n) × (n ≤ 64 * length (now map)) × Rest (now map) n t x ⌝ }
     ensures { λ r. ⌜ NextRun (now (map .entry)) n t (r .from) (r .to) × Rest (now (map .entry)) n (r .to) (r .rest) ⌝ }
@@ -345,7 +345,7 @@ pub fn run_ahead(map: &[u64], t: usize, n: usize, x: u64) -> Ahead
             }
         }
     }
-    run_far(map, t, n, x)
+    run_far(&map[0..], t, n, x)
 }
 
 // The tracks of the word x that are free behind one that is not; y is the word before x.
