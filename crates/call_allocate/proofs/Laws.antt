@@ -10,7 +10,7 @@ use Rattle.names.specs.declared.Found.{Found}
 use Rattle.model.specs.Basics.{any}
 use Rattle.model.specs.Model.{Geometry, slots}
 use Rattle.model.proofs.Lists.{and-l, and-r, true-is}
-use Rattle.rules.specs.Calls.{Amount, Call, Outcome, allocate, allocate₁, allocate₂, amountOf, grant, inRange, refuse, rule}
+use Rattle.rules.specs.Calls.{Amount, Call, Outcome, Request, allocate, allocateAmount, allocatePieces, amountOf, given, grant, inRange, refuse, request, rule}
 use Rattle.rules.specs.Entries.{lent, perform, result, written}
 use Rattle.rules.specs.Reading.{read}
 use Rattle.rules.specs.Table.{goodName, named, taken}
@@ -25,8 +25,11 @@ use Rattle.call_allocate.specs.Asking.{Asking, Chooses}
 
 module _ (t name at : List ℕ) (kind start amount sec : ℕ) (a : List ℕ) (ok : Bool) (r : ℕ)
     (lengths : ok ≡ (eqb (length a) 24 && (eqb (length name) 44 && eqb (length at) 52))) (number : r ≡ openNumber t ok) where
+  abbrev asked : Request
+  asked = request name at kind start amount sec
+
   abbrev call : Call
-  call = allocate name at kind start amount sec
+  call = allocate asked
 
   abbrev Comes : ℕ → List ℕ → List ℕ → Type 0
   Comes n t′ a′ = result n (lent t′ a′ []) ≡ perform (lent t a []) call
@@ -52,21 +55,24 @@ module _ (t name at : List ℕ) (kind start amount sec : ℕ) (a : List ℕ) (ok
     bad-name h = ruled (refuse 4) (rule-4 h) 4 t a refl
 
     module _ (good : goodName name ≡ true) where
-      rule-is : rule (read t) call ≡ allocate₁ (read t) name at (amountOf kind start amount) sec
+      rule-is : rule (read t) call ≡ given (amountOf kind start amount) 7 (allocateAmount (read t) asked)
       unfolding rule
       rule-is = rw good
 
       pub unknown : 3 ≤ kind → Comes 7 t a
-      unknown h = ruled (refuse 7) (rule-is ∙ ap (λ (o : Option Amount). allocate₁ (read t) name at o sec) (unknown-kind kind start amount h)) 7 t a refl
+      unknown h = ruled (refuse 7) (rule-is ∙ ap (λ (o : Option Amount). given o 7 (allocateAmount (read t) asked)) (unknown-kind kind start amount h)) 7 t a refl
 
-      module _ (q : Amount) (asked : some q ≡ amountOf kind start amount) (sec′ : ℕ) (same : sec′ ≡ sec) (g : Geometry) (eg : g ≡ read t .geometry) where
-        amount-is : rule (read t) call ≡ allocate₁ (read t) name at (some q) sec′
-        amount-is = rule-is ∙ ap₂ (λ (o : Option Amount) (k : ℕ). allocate₁ (read t) name at o k) (sym asked) (sym same)
+      module _ (q : Amount) (told : some q ≡ amountOf kind start amount) (sec′ : ℕ) (same : sec′ ≡ sec) (g : Geometry) (eg : g ≡ read t .geometry) where
+        abbrev same-asked : Request
+        same-asked = request name at kind start amount sec′
+
+        amount-is : rule (read t) call ≡ allocateAmount (read t) same-asked q
+        amount-is = rule-is ∙ ap₂ (λ (o : Option Amount) (k : ℕ). given o 7 (allocateAmount (read t) (request name at kind start amount k))) (sym told) (sym same)
 
         range-is : inRange (read t .geometry) sec′ q ≡ inRange g sec′ q
         range-is = ap (λ (y : Geometry). inRange y sec′ q) (sym eg)
 
-        rule-7 : inRange g sec′ q ≡ false → allocate₁ (read t) name at (some q) sec′ ≡ refuse 7
+        rule-7 : inRange g sec′ q ≡ false → allocateAmount (read t) same-asked q ≡ refuse 7
         rule-7 h = rw (range-is, h)
 
         pub out-of-range : inRange g sec′ q ≡ false → Comes 7 t a
@@ -76,7 +82,7 @@ module _ (t name at : List ℕ) (kind start amount sec : ℕ) (a : List ℕ) (ok
           any-so : any (named name) (read t .labels) ≡ known
           any-so = any-is name (read t .labels) ∙ ap (λ (x : Found). not (isNothing x)) (sym (looked-up t is-taken g eg name)) ∙ sym d
 
-          rule-6 : known ≡ true → allocate₁ (read t) name at (some q) sec′ ≡ refuse 6
+          rule-6 : known ≡ true → allocateAmount (read t) same-asked q ≡ refuse 6
           rule-6 p = rw (range-is, inside, any-so, p)
 
           pub duplicate : known ≡ true → Comes 6 t a
@@ -99,8 +105,8 @@ module _ (t name at : List ℕ) (kind start amount sec : ℕ) (a : List ℕ) (ok
                   ranges = true-is inside;
                 }
 
-            rule-0 : allocate₁ (read t) name at (some q) sec′ ≡ allocate₂ (read t) name at q sec′ (grant (read t .geometry) (read t .labels) q)
+            rule-0 : allocateAmount (read t) same-asked q ≡ given (grant (read t .geometry) (read t .labels) q) 9 (allocatePieces (read t) same-asked q)
             rule-0 = rw (range-is, inside, any-so, p)
 
             pub placed : (n : ℕ) (t′ a′ : List ℕ) → Chooses t name at a q sec′ n t′ a′ → Comes n t′ a′
-            placed n t′ a′ x = ruled (allocate₂ (read t) name at q sec′ (grant (read t .geometry) (read t .labels) q)) (amount-is ∙ rule-0) n t′ a′ x
+            placed n t′ a′ x = ruled (given (grant (read t .geometry) (read t .labels) q) 9 (allocatePieces (read t) same-asked q)) (amount-is ∙ rule-0) n t′ a′ x

@@ -9,9 +9,10 @@ use lib.Dec.{T, eqb, eqb→eq, leb, leb→le}
 use lib.ListN.{length, take}
 use Rattle.model.specs.Model.{Extent, Geometry, Label, Run, Volume, extent, free, held, overs, slots, tracks}
 use Rattle.model.proofs.Lists.{and-l, and-r, is-true}
-use Rattle.rules.specs.Calls.{Amount, absolute, allocate, allocate₁, allocate₂, granted, inCylinders, inRange, inTracks, settled, unitOf}
+use Rattle.rules.specs.Calls.{Amount, absolute, allocateAmount, allocatePieces, given, granted, inCylinders, inRange, inTracks, newSet, settled, unitOf}
 use Rattle.rules.specs.Calls.{grant as granting}
 use Rattle.rules.specs.Entries.{lent, written}
+use Rattle.rules.specs.Ledger.{adds}
 use Rattle.rules.specs.Reading.{read}
 use Rattle.rules.specs.Slots.{settleWith}
 use Rattle.rules.proofs.Grants.{allocate-keeps}
@@ -29,7 +30,7 @@ use Rattle.free_list.specs.FreeList.{Listed}
 use Rattle.free_list.proofs.Chain.{listed}
 use Rattle.opening.proofs.Lookup.{limits-of, table-long}
 use Rattle.granting.specs.Granting.{Granted, Grants}
-use Rattle.call_allocate.specs.Asking.{Asking, Chooses}
+use Rattle.call_allocate.specs.Asking.{Asking, Chooses, asking}
 
 range-secondary : (g : Geometry) (sec : ℕ) (a : Amount) → T (inRange g sec a) → sec < 16777216
 range-secondary g sec (inTracks n) r = let p : T (leb sec 16777215) = search (and-l, and-r) depth 9 in let q = leb→le sec 16777215 p in omega arith
@@ -69,20 +70,20 @@ module _ {t m s name at a : List ℕ} {g : Geometry} {amount : Amount} {sec : �
   abbrev chosen : Option (List Extent)
   chosen = granting (v .geometry) ls amount
 
-  rule-is : allocate₁ v name at (some amount) sec ≡ allocate₂ v name at amount sec chosen
+  rule-is : allocateAmount v (asking name at sec) amount ≡ given chosen 9 (allocatePieces v (asking name at sec) amount)
   rule-is =
       let p : inRange (v .geometry) sec amount ≡ true = is-true (subst (λ (y : Geometry). T (inRange y sec amount)) (d .geometryIs) (d .ranges)) in
       let q = d .nameNew in
       rw (p, q)
 
   abbrev new : List Extent → Label
-  new es = record { slot = 0; name = name; attributes = at; unit = unitOf amount; secondary = sec; ttr = 0; extents = es; slot3 = 0 }
+  new es = newSet (asking name at sec) amount es
 
   new-valid : (es : List Extent) → chosen ≡ some es → (w : Volume) → settleWith v ls (new es) ≡ some w → Valid w
   new-valid es c w e =
-      subst (Keeps v (allocate name at 0 0 0 sec))
-      (rule-is ∙ ap (allocate₂ v name at amount sec) c ∙ ap (settled (granted (overs es))) e)
-      (allocate-keeps v (is-ready .valid) name at 0 0 0 sec (d .longName) (d .nameGood) (d .longAttributes) (some amount)) .valid
+      subst (Keeps v (adds name))
+      (rule-is ∙ ap (λ (o : Option (List Extent)). given o 9 (allocatePieces v (asking name at sec) amount)) c ∙ ap (settled (granted (overs es))) e)
+      (allocate-keeps v (is-ready .valid) (asking name at sec) (d .longName) (d .nameGood) (d .longAttributes) amount) .valid
 
   -- ---- the choice
 
@@ -94,7 +95,7 @@ module _ {t m s name at a : List ℕ} {g : Geometry} {amount : Amount} {sec : �
     askable-there = subst (λ (y : Geometry). Askable y amount) (d .geometryIs) askable
 
     pub no-space : count ≡ 0 → Chooses t name at a amount sec 9 t a
-    no-space z = sym (ap (λ (o : Option (List Extent)). written (lent t a []) (allocate₂ v name at amount sec o)) (refused v (is-ready .valid) amount askable-there count sum p p′ reply z .0))
+    no-space z = sym (ap (λ (o : Option (List Extent)). written (lent t a []) (given o 9 (allocatePieces v (asking name at sec) amount))) (refused v (is-ready .valid) amount askable-there count sum p p′ reply z .0))
 
     module _ (nz : count ≡ 0 → ⊥) where
       it : Accepted v amount count sum p p′
@@ -147,4 +148,4 @@ module _ {t m s name at a : List ℕ} {g : Geometry} {amount : Amount} {sec : �
         put t′ a′ r x =
             x
             ∙ ap₂ (λ (ps : List Run) (l : Label). written (lent t a []) (settled (granted ps) (settleWith v ls l))) (sym (it .runs)) label-is
-            ∙ sym (ap (λ (o : Option (List Extent)). written (lent t a []) (allocate₂ v name at amount sec o)) (it .granted))
+            ∙ sym (ap (λ (o : Option (List Extent)). written (lent t a []) (given o 9 (allocatePieces v (asking name at sec) amount))) (it .granted))

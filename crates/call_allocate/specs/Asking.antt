@@ -7,7 +7,7 @@ use lib.Dec.{T}
 use lib.ListN.{length}
 use Rattle.model.specs.Basics.{any}
 use Rattle.model.specs.Model.{Geometry, tracks}
-use Rattle.rules.specs.Calls.{Amount, allocate₂, grant, inRange}
+use Rattle.rules.specs.Calls.{Amount, Request, allocatePieces, given, grant, inRange, request}
 use Rattle.rules.specs.Entries.{lent, result, written}
 use Rattle.rules.specs.Reading.{read}
 use Rattle.rules.specs.Table.{goodName, named, taken}
@@ -27,8 +27,13 @@ pub record Asking (t m s name at a : List ℕ) (g : Geometry) (amount : Amount) 
   pub nameNew : any (named name) (read t .labels) ≡ false
   pub ranges : T (inRange g secondary amount)
 
+-- what is left of a request once its amount is read: the numbers that told it matter no more
+abbrev pub asking : (name at : List ℕ) (secondary : ℕ) → Request
+asking name at secondary = request name at 0 0 0 secondary
+
 -- the result, the table and the answer are those of the choice of pieces
 abbrev pub Chooses : (t name at a : List ℕ) (amount : Amount) (secondary r : ℕ) (t′ a′ : List ℕ) → Type 0
 Chooses t name at a amount secondary r t′ a′ =
     result r (lent t′ a′ [])
-    ≡ written (lent t a []) (allocate₂ (read t) name at amount secondary (grant (read t .geometry) (read t .labels) amount))
+    ≡ written (lent t a [])
+    (given (grant (read t .geometry) (read t .labels) amount) 9 (allocatePieces (read t) (asking name at secondary) amount))

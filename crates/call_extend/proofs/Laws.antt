@@ -1,15 +1,15 @@
 -- Extend as a whole: its refusals in their order. Assumes nothing.
 use mathlib.Core.Path.{_≡_, refl, sym, ap, _∙_}
 use mathlib.Core.Bool.{Bool, true, false, _&&_}
-use mathlib.Core.Option.{some}
+use mathlib.Core.Option.{Option}
 use mathlib.Core.List.{List, []}
 use Prim.Native.Nat.{ℕ}
 use lib.Dec.{T, eqb, eqb→eq}
 use lib.ListN.{length}
 use Rattle.names.specs.declared.Found.the-variants.{Nothing, Slot}
-use Rattle.model.specs.Model.{Geometry, slots}
+use Rattle.model.specs.Model.{Geometry, Label, slots}
 use Rattle.model.proofs.Lists.{and-l, true-is}
-use Rattle.rules.specs.Calls.{Call, Outcome, extend, extend₁, refuse, rule}
+use Rattle.rules.specs.Calls.{Call, Outcome, extend, extendSet, given, refuse, rule}
 use Rattle.rules.specs.Entries.{lent, perform, result, written}
 use Rattle.rules.specs.Reading.{read}
 use Rattle.rules.specs.Slots.{found}
@@ -47,12 +47,12 @@ module _ (t name a : List ℕ) (ok : Bool) (r : ℕ) (lengths : ok ≡ (eqb (len
     bad-name h = ruled (refuse 4) (rule-4 h) 4 t a refl
 
     module _ (good : goodName name ≡ true) (g : Geometry) (eg : g ≡ read t .geometry) where
-      rule-is : rule (read t) call ≡ extend₁ (read t) name (found (read t) name)
+      rule-is : rule (read t) call ≡ given (found (read t) name) 5 (extendSet (read t) name)
       unfolding rule
       rule-is = rw good
 
       pub not-found : Nothing ≡ findSlot t name (slots g) → Comes 5 t a
-      not-found e = ruled (refuse 5) (rule-is ∙ ap (extend₁ (read t) name) (not-there t is-taken g eg name e)) 5 t a refl
+      not-found e = ruled (refuse 5) (rule-is ∙ ap (λ (o : Option Label). given o 5 (extendSet (read t) name)) (not-there t is-taken g eg name e)) 5 t a refl
 
       module _ (k : ℕ) (e : Slot k ≡ findSlot t name (slots g)) (m₀ m s : List ℕ) (shown : Shown (read t) m s) (roomy : Roomy t m₀) (same : length m ≡ length m₀) (ls : length s ≡ 8) where
         pub longer : Longer t m s a g k
@@ -72,4 +72,4 @@ module _ (t name a : List ℕ) (ok : Bool) (r : ℕ) (lengths : ok ≡ (eqb (len
         unfolding longer
         lengthened n t′ a′ x =
             let f = there t is-taken g eg name k e in
-            ruled (extend₁ (read t) name (some (f .label))) (rule-is ∙ ap (extend₁ (read t) name) (f .same)) n t′ a′ x
+            ruled (extendSet (read t) name (f .label)) (rule-is ∙ ap (λ (o : Option Label). given o 5 (extendSet (read t) name)) (f .same)) n t′ a′ x

@@ -10,10 +10,11 @@ use lib.Dec.{eqb, leb}
 use lib.ListN.{length, take, getD, length-map}
 use Rattle.model.specs.Basics.{get3, upFrom}
 use Rattle.model.specs.Model.{Extent, Geometry, Label, Run, Volume, extent, free, held, overs, runsOf, slots, times, tracks}
-use Rattle.rules.specs.Calls.{Amount, extend, extend₁, extend₂, granted, inCylinders, inTracks, refuse, secondaryOf, settled}
+use Rattle.rules.specs.Calls.{Amount, extendPieces, extendSet, given, granted, inCylinders, inTracks, refuse, secondaryOf, settled}
 use Rattle.rules.specs.Calls.{grant as granting}
 use Rattle.rules.specs.Entries.{lent, written}
 use Rattle.rules.specs.Layout.{format1, format3}
+use Rattle.rules.specs.Ledger.{appends}
 use Rattle.rules.specs.Reading.{read, readLabel, recordAt}
 use Rattle.rules.specs.Slots.{settleWith, withExtents, without}
 use Rattle.rules.proofs.Grants.{extend-keeps}
@@ -135,10 +136,10 @@ module _ {t m s a : List ℕ} {g : Geometry} {k : ℕ} (d : Longer t m s a g k) 
         abbrev chosen : Option (List Extent)
         chosen = granting (v .geometry) (v .labels) q
 
-        rule-is : extend₁ v name (some l) ≡ extend₂ v name l chosen
+        rule-is : extendSet v name l ≡ given chosen 9 (extendPieces v name l)
         rule-is =
             let e : leb 1 (l .secondary) ≡ true = le-leb 1 (l .secondary) (let z = sec-is in let w = positive in omega arith) in
-            rw e (ap (λ (y : Amount). extend₂ v name l (granting (v .geometry) (v .labels) y)) (sym amount-is))
+            rw e (ap (λ (y : Amount). given (granting (v .geometry) (v .labels) y) 9 (extendPieces v name l)) (sym amount-is))
 
         module _ (n sum : ℕ) (p p′ : List (List ℕ)) (f : (ls : List Label) → Shows m (tracks g) (held g ls) → Listed g t (free g ls) → grant n sum p′ ≡ replyOf (piecesOf g ls q) p) where
           reply : grant n sum p′ ≡ replyOf (piecesOf (v .geometry) (v .labels) q) p
@@ -148,7 +149,7 @@ module _ {t m s a : List ℕ} {g : Geometry} {k : ℕ} (d : Longer t m s a g k) 
           askable-there = subst (λ (y : Geometry). Askable y q) (d .geometryIs) askable
 
           pub no-space : n ≡ 0 → Extended d 9 t a
-          no-space z = sym (ap (written (lent t a [])) (rule-is ∙ ap (extend₂ v name l) (refused v (is-ready .valid) q askable-there n sum p p′ reply z .0)))
+          no-space z = sym (ap (written (lent t a [])) (rule-is ∙ ap (λ (o : Option (List Extent)). given o 9 (extendPieces v name l)) (refused v (is-ready .valid) q askable-there n sum p p′ reply z .0)))
 
           module _ (nz : n ≡ 0 → ⊥) where
             got : Accepted v q n sum p p′
@@ -166,23 +167,23 @@ module _ {t m s a : List ℕ} {g : Geometry} {k : ℕ} (d : Longer t m s a g k) 
             together : length (l .extents) + length new ≡ count + n
             together = let a = length-map (got .ps) (extent (typeOf q)) in let b = got .number in let c = it .many in omega arith
 
-            rule-10 : 16 < count + n → extend₂ v name l (some new) ≡ refuse 10
+            rule-10 : 16 < count + n → extendPieces v name l new ≡ refuse 10
             rule-10 u =
                 let e : leb (length (l .extents) + length new) 16 ≡ false = lt-leb (length (l .extents) + length new) 16 (let w = together in omega arith) in
                 rw e
 
             pub too-many : 16 < count + n → Extended d 10 t a
-            too-many u = sym (ap (written (lent t a [])) (rule-is ∙ ap (extend₂ v name l) (got .granted) ∙ rule-10 u))
+            too-many u = sym (ap (written (lent t a [])) (rule-is ∙ ap (λ (o : Option (List Extent)). given o 9 (extendPieces v name l)) (got .granted) ∙ rule-10 u))
 
             module _ (fits : count + n ≤ 16) where
-              rule-done : extend₁ v name (some l) ≡ settled (granted (overs new)) (settleWith v others (withExtents (l .extents ++ new) (l .ttr) l))
+              rule-done : extendSet v name l ≡ settled (granted (overs new)) (settleWith v others (withExtents (l .extents ++ new) (l .ttr) l))
               rule-done =
                   let e : leb (length (l .extents) + length new) 16 ≡ true = le-leb (length (l .extents) + length new) 16 (let w = together in omega arith) in
-                  rule-is ∙ ap (extend₂ v name l) (got .granted) ∙ rw e
+                  rule-is ∙ ap (λ (o : Option (List Extent)). given o 9 (extendPieces v name l)) (got .granted) ∙ rw e
 
               new-valid : (w : Volume) → settleWith v others (withExtents (l .extents ++ new) (l .ttr) l) ≡ some w → Valid w
               new-valid w e =
-                  subst (Keeps v (extend name)) (rule-done ∙ ap (settled (granted (overs new))) e)
+                  subst (Keeps v (appends name)) (rule-done ∙ ap (settled (granted (overs new))) e)
                   (extend-keeps v (is-ready .valid) name l (d .there .same)) .valid
 
               module _ (kind : ℕ) (ek : kind ≡ typeOf q) where

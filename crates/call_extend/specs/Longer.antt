@@ -1,12 +1,11 @@
 -- A data set that is found and is to be extended. Assumes nothing.
 use mathlib.Core.Path.{_≡_}
 use Prim.Native.Nat.{ℕ, _*_, _≤_}
-use mathlib.Core.Option.{some}
 use mathlib.Core.List.{List, []}
 use lib.Dec.{T}
 use lib.ListN.{length}
 use Rattle.model.specs.Model.{Geometry, tracks}
-use Rattle.rules.specs.Calls.{extend₁}
+use Rattle.rules.specs.Calls.{extendSet}
 use Rattle.rules.specs.Entries.{lent, result, written}
 use Rattle.rules.specs.Reading.{read}
 use Rattle.rules.specs.Table.{taken}
@@ -27,4 +26,4 @@ pub record Longer (t m s a : List ℕ) (g : Geometry) (k : ℕ) : Type 0 where
 -- the result, the table and the answer are those of the rule
 abbrev pub Extended : {t m s a : List ℕ} {g : Geometry} {k : ℕ} → Longer t m s a g k → (r : ℕ) (t′ a′ : List ℕ) → Type 0
 Extended {t = t} {a = a} d r t′ a′ =
-    result r (lent t′ a′ []) ≡ written (lent t a []) (extend₁ (read t) (d .name) (some (d .there .label)))
+    result r (lent t′ a′ []) ≡ written (lent t a []) (extendSet (read t) (d .name) (d .there .label))

@@ -11,7 +11,7 @@ use lib.Seq.{take-all}
 use Rattle.model.specs.Basics.{bit, filter, upFrom, zeros}
 use Rattle.model.specs.Model.{Geometry, Run, free, run, slots, tally, tracks, unused, used}
 use Rattle.model.proofs.Lists.{length-upFrom}
-use Rattle.rules.specs.Demand3.{entryPlace}
+use Rattle.rules.specs.Reading.{entryPlace}
 use Rattle.rules.specs.Entries.{fresh, initialise, lent, result}
 use Rattle.rules.specs.Layout.{encode, entry, format4, format5}
 use Rattle.rules.specs.Table.{limits}

@@ -1,6 +1,7 @@
 -- Obtain's 280 bytes, and the call as a whole. Assumes nothing.
 use mathlib.Core.Path.{_≡_, refl, sym, ap, ap₂, _∙_}
 use mathlib.Core.Bool.{Bool, true, false, cond, _&&_}
+use mathlib.Core.Option.{Option}
 use mathlib.Core.List.{List, _++_, append-nil}
 use Prim.Native.Nat.{ℕ, zero, suc, _≤_}
 use native.Mathlib.Omega.{arith}
@@ -12,7 +13,7 @@ use Rattle.names.specs.declared.Found.the-variants.{Nothing, Slot}
 use Rattle.model.specs.Basics.{zeros}
 use Rattle.model.specs.Model.{Geometry, Label, slots}
 use Rattle.model.proofs.Lists.{and-l, and-r, true-is}
-use Rattle.rules.specs.Calls.{obtain, obtain₁, refuse, rule}
+use Rattle.rules.specs.Calls.{given, obtain, obtainSet, refuse, rule}
 use Rattle.rules.specs.Entries.{lent, perform, result, written}
 use Rattle.rules.specs.Layout.{format1, format3}
 use Rattle.rules.specs.Reading.{read}
@@ -94,12 +95,12 @@ module _ (t name l a : List ℕ) (ok : Bool) (r : ℕ) (long : ok ≡ (eqb (leng
     is-taken = opened-taken t ok (sym z ∙ number)
 
     module _ (h : goodName name ≡ true) (g : Geometry) (eg : g ≡ read t .geometry) where
-      rule-is : rule (read t) (obtain name) ≡ obtain₁ (read t) (found (read t) name)
+      rule-is : rule (read t) (obtain name) ≡ given (found (read t) name) 5 (obtainSet (read t))
       unfolding rule
       rule-is = rw h
 
       pub not-found : Nothing ≡ findSlot t name (slots g) → result 5 (lent t a l) ≡ perform (lent t a l) (obtain name)
-      not-found e = sym (ap (written (lent t a l)) (rule-is ∙ ap (obtain₁ (read t)) (not-there t is-taken g eg name e))) ∙ ruled
+      not-found e = sym (ap (written (lent t a l)) (rule-is ∙ ap (λ (o : Option Label). given o 5 (obtainSet (read t))) (not-there t is-taken g eg name e))) ∙ ruled
 
       pub obtained : (k : ℕ) (l′ a′ : List ℕ) → Slot k ≡ findSlot t name (slots g) → l′ ≡ slotBytes t k ++ orZeros t (namedThird g (slotBytes t k)) → a′ ≡ zeros 24
           → result 0 (lent t a′ l′) ≡ perform (lent t a l) (obtain name)
@@ -110,5 +111,5 @@ module _ (t name l a : List ℕ) (ok : Bool) (r : ℕ) (long : ok ≡ (eqb (leng
           let q : l′ ≡ format1 (read t .geometry) m ++ cond (eqb (m .slot3) 0) (zeros 140) (format3 (read t .geometry) m)
           = el ∙ ap₂ (λ (i : ℕ) (u : Geometry). slotBytes t i ++ orZeros t (namedThird u (slotBytes t i))) (sym (f .slot)) eg ∙ label-bytes t (read t .geometry) name m (x .limits) (f .records) in
           (λ i. result 0 (lent (x .bytes i) (ea i) (q i)))
-          ∙ sym (ap (written (lent t a l)) (rule-is ∙ ap (obtain₁ (read t)) (f .same)))
+          ∙ sym (ap (written (lent t a l)) (rule-is ∙ ap (λ (o : Option Label). given o 5 (obtainSet (read t))) (f .same)))
           ∙ ruled

@@ -10,7 +10,8 @@ use lib.ListN.{length}
 use Rattle.model.specs.Basics.{bit}
 use Rattle.model.specs.Model.{Geometry, Label, Volume, held, oneSlot, runsOf, slots, slotsOf, tally, times, total, tracks, used}
 use Rattle.model.proofs.Lists.{and-l, and-r, sum-append, true-is}
-use Rattle.rules.specs.Calls.{accept, answer, givenBack, goodTtr, release, release₁, rule, settled, unless}
+use Rattle.rules.specs.Calls.{accept, answer, givenBack, goodTtr, release, releaseSet, rule, settled, unless}
+use Rattle.rules.specs.Ledger.{keeps}
 use Rattle.rules.specs.Entries.{lent, result, written}
 use Rattle.rules.specs.Slots.{kept3, settleWith, without}
 use Rattle.rules.proofs.Cut.{keep-times}
@@ -33,9 +34,9 @@ use Rattle.giving.proofs.Calls.{Names}
 use Rattle.call_release.specs.Shorter.{CutTo, Shortens, shorter}
 use Rattle.call_release.proofs.Small.{cut-to}
 
-pub releases : (name : List ℕ) (ttr : ℕ) → Names (release name ttr) name (λ v. release₁ v name ttr)
+pub releases : (name : List ℕ) (ttr : ℕ) → Names (release name ttr) name (λ v. releaseSet v name ttr)
 unfolding rule
-releases name ttr = record { lengths = refl; rules = λ v. refl; none = λ v. refl }
+releases name ttr = record { lengths = refl; rules = λ v. refl }
 
 -- what a good TTR says
 pub ttr-fits : (ttr all : ℕ) → goodTtr ttr all ≡ true → (ttr < 16777216) × (ttr / 256 + 1 ≤ all)
@@ -86,7 +87,7 @@ module _ (g : Geometry) (t m s : List ℕ) (k : ℕ) (d : At g t m s k) (ttr : �
         cut-to g t k ttr n count third m m′ whole start part tail one three one₂ three₂ few short l (x .stored)
         (copied t v (d .ready) (d .name) k (d .it) g (d .geometryIs) third (x .stored .slot3) one three e there)
 
-    pub bad-ttr : (a : List ℕ) → goodTtr ttr all ≡ false → result 12 (lent t a []) ≡ written (lent t a []) (release₁ v (d .name) ttr (some l))
+    pub bad-ttr : (a : List ℕ) → goodTtr ttr all ≡ false → result 12 (lent t a []) ≡ written (lent t a []) (releaseSet v (d .name) ttr l)
     bad-ttr a h =
         let q : goodTtr ttr (total (runsOf l)) ≡ false = ap (goodTtr ttr) (sym (x .spread .sum)) ∙ h in
         sym (ap (λ (b : Bool). written (lent t a []) (unless b 12 (settled (givenBack (total (runsOf l) - (ttr / 256 + 1))) (settleWith v others l₀)))) q)
@@ -95,7 +96,7 @@ module _ (g : Geometry) (t m s : List ℕ) (k : ℕ) (d : At g t m s k) (ttr : �
       good : goodTtr ttr (total (runsOf l)) ≡ true
       good = ap (goodTtr ttr) (sym (x .spread .sum)) ∙ ok
 
-      rule-is : release₁ v (d .name) ttr (some l) ≡ settled (givenBack (total (runsOf l) - (ttr / 256 + 1))) (settleWith v others l₀)
+      rule-is : releaseSet v (d .name) ttr l ≡ settled (givenBack (total (runsOf l) - (ttr / 256 + 1))) (settleWith v others l₀)
       rule-is = ap (λ (b : Bool). unless b 12 (settled (givenBack (total (runsOf l) - (ttr / 256 + 1))) (settleWith v others l₀))) good
 
       pub all-shown : Shows m′ (tracks g) (runsOf l₀ ++ held g others)
@@ -130,7 +131,7 @@ module _ (g : Geometry) (t m s : List ℕ) (k : ℕ) (d : At g t m s k) (ttr : �
       pub stays-valid : (w : Volume) → settleWith v others l₀ ≡ some w → Valid w
       stays-valid w e =
           let r = givenBack (total (runsOf l) - (ttr / 256 + 1)) in
-          let z : Keeps v (release (d .name) ttr) (accept r w) = subst (Keeps v (release (d .name) ttr)) (rule-is ∙ ap (settled r) e) (release-keeps v (d .ready .valid) (d .name) l (d .it .same) ttr) in
+          let z : Keeps v (keeps (d .name) ttr) (accept r w) = subst (Keeps v (keeps (d .name) ttr)) (rule-is ∙ ap (settled r) e) (release-keeps v (d .ready .valid) (d .name) l (d .it .same) ttr) in
           z .valid
 
       -- what `put_set` asks
@@ -160,13 +161,13 @@ module _ (g : Geometry) (t m s : List ℕ) (k : ℕ) (d : At g t m s k) (ttr : �
           }
 
       module _ (a t′ : List ℕ) (b : Bool) (put : (z : Draft g t m′ s′ low k third few one₂ three₂) → Committed z t′ b) where
-        pub full : b ≡ false → result 11 (lent t′ a []) ≡ written (lent t a []) (release₁ v (d .name) ttr (some l))
+        pub full : b ≡ false → result 11 (lent t′ a []) ≡ written (lent t a []) (releaseSet v (d .name) ttr l)
         full h =
             let z = put draft in
             ap (λ (y : List ℕ). result 11 (lent y a [])) (z .same h)
             ∙ sym (ap (written (lent t a [])) (rule-is ∙ ap (settled (givenBack (total (runsOf l) - (ttr / 256 + 1)))) (z .full h)))
 
-        pub cut-done : b ≡ true → (a′ : List ℕ) → a′ ≡ answer (givenBack (all - (ttr / 256 + 1))) → result 0 (lent t′ a′ []) ≡ written (lent t a []) (release₁ v (d .name) ttr (some l))
+        pub cut-done : b ≡ true → (a′ : List ℕ) → a′ ≡ answer (givenBack (all - (ttr / 256 + 1))) → result 0 (lent t′ a′ []) ≡ written (lent t a []) (releaseSet v (d .name) ttr l)
         cut-done h a′ ea =
             let z = put draft .done h in
             ap₂ (λ (y w : List ℕ). result 0 (lent y w [])) (z .2) (ea ∙ ap (λ (n : ℕ). answer (givenBack (n - (ttr / 256 + 1)))) (x .spread .sum))

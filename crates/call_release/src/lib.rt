@@ -10,7 +10,7 @@ ghost use Prim.Native.Nat.{_+_, _*_, _≤_, _<_};
 ghost use lib.Dec.{leb};
 ghost use lib.ListN.{length, take};
 ghost use Rattle.model.specs.Model.{Extent, slots, tracks};
-ghost use Rattle.rules.specs.Calls.{goodTtr, release₁};
+ghost use Rattle.rules.specs.Calls.{goodTtr, releaseSet};
 ghost use Rattle.rules.specs.Contracts.{Releases};
 ghost use Rattle.rules.specs.Entries.{lent, result, written};
 ghost use Rattle.rules.proofs.Valid.{Limits};
@@ -68,7 +68,7 @@ fn release_set(
 ) -> u32
     requires { ⌜ Limits (geometryOf g) × (length (now table) ≡ 140 * slots (geometryOf g)) × (tracks (geometryOf g) ≤ 64 * length (now map)) × (length (now empty) ≡ 8) × (k < slots (geometryOf g)) × (length (now answer) ≡ 24) ⌝ }
     requires { ⌜ At (geometryOf g) (now table) (now map) (now empty) k ⌝ }
-    ensures { λ r. ⌜ ((d : At (geometryOf g) (now (table .entry)) (now (map .entry)) (now (empty .entry)) k) → result r (lent (now (table .exit)) (now (answer .exit)) []) ≡ written (lent (now (table .entry)) (now (answer .entry)) []) (release₁ (d .volume) (d .name) ttr (some (d .it .label)))) ⌝ }
+    ensures { λ r. ⌜ ((d : At (geometryOf g) (now (table .entry)) (now (map .entry)) (now (empty .entry)) k) → result r (lent (now (table .exit)) (now (answer .exit)) []) ≡ written (lent (now (table .entry)) (now (answer .entry)) []) (releaseSet (d .volume) (d .name) ttr (d .it .label))) ⌝ }
 {
     let x = giving::measure(table, g, k);
     if good_ttr(ttr, x.tracks) {} else {

@@ -1,7 +1,7 @@
 -- Rename as a whole: its refusals in their order, and the table after it. Assumes nothing.
 use mathlib.Core.Path.{_≡_, refl, sym, ap, ap₂, _∙_}
 use mathlib.Core.Bool.{Bool, true, false, not, cond, _&&_}
-use mathlib.Core.Option.{some}
+use mathlib.Core.Option.{Option}
 use mathlib.Core.List.{List, []}
 use Prim.Native.Nat.{ℕ}
 use native.Mathlib.Omega.{arith}
@@ -13,11 +13,11 @@ use Rattle.names.specs.declared.Found.the-variants.{Nothing, Slot}
 use Rattle.model.specs.Basics.{any, zeros}
 use Rattle.model.specs.Model.{Geometry, Label, slots}
 use Rattle.model.proofs.Lists.{and-l, and-r, by, true-is}
-use Rattle.rules.specs.Calls.{accept, nothing, refuse, rename, rename₁, rule}
+use Rattle.rules.specs.Calls.{accept, given, nothing, refuse, rename, renameSet, rule}
 use Rattle.rules.specs.Entries.{lent, perform, result, written}
 use Rattle.rules.specs.Layout.{format1}
 use Rattle.rules.specs.Reading.{read}
-use Rattle.rules.specs.Slots.{found, insertLabel, withName, without}
+use Rattle.rules.specs.Slots.{found, replaced, withName}
 use Rattle.rules.specs.Table.{goodName, named, taken}
 use Rattle.rules.proofs.Labels.{Unlike, unlike-any}
 use Rattle.fields.specs.Records.{putRecord, slotBytes}
@@ -67,7 +67,7 @@ module _ (t old new a : List ℕ) (r : ℕ) (number : r ≡ earlyNumber t old ne
   unfolding rule
   rule-4 h = rw h
 
-  rule-is : (goodName old && goodName new) ≡ true → rule (read t) (rename old new) ≡ rename₁ (read t) old new (found (read t) old)
+  rule-is : (goodName old && goodName new) ≡ true → rule (read t) (rename old new) ≡ given (found (read t) old) 5 (renameSet (read t) old new)
   unfolding rule
   rule-is h = rw h
 
@@ -116,7 +116,7 @@ module _ (t old new a : List ℕ) (r : ℕ) (number : r ≡ earlyNumber t old ne
     module _ (g : Geometry) (eg : g ≡ read t .geometry) where
       pub not-found : Nothing ≡ findSlot t old (slots g) → result 5 (lent t a []) ≡ perform (lent t a []) (rename old new)
       not-found e =
-          sym (ap (written (lent t a [])) (rule-is names-good ∙ ap (rename₁ (read t) old new) (not-there t is-taken g eg old e))) ∙ ruled opened
+          sym (ap (written (lent t a [])) (rule-is names-good ∙ ap (λ (o : Option Label). given o 5 (renameSet (read t) old new)) (not-there t is-taken g eg old e))) ∙ ruled opened
 
       module _ (k : ℕ) (e : Slot k ≡ findSlot t old (slots g)) where
         it : FoundAt t (read t) old k
@@ -126,15 +126,15 @@ module _ (t old new a : List ℕ) (r : ℕ) (number : r ≡ earlyNumber t old ne
           any-so : any (named new) (read t .labels) ≡ known
           any-so = any-is new (read t .labels) ∙ ap (λ (x : Found). not (isNothing x)) (sym (looked-up t is-taken g eg new)) ∙ sym d
 
-          rule-6 : known ≡ true → rename₁ (read t) old new (some (it .label)) ≡ refuse 6
+          rule-6 : known ≡ true → renameSet (read t) old new (it .label) ≡ refuse 6
           rule-6 p = rw (any-so, p)
 
           rule-0 : known ≡ false
-              → rename₁ (read t) old new (some (it .label)) ≡ accept nothing (record { geometry = read t .geometry; labels = insertLabel (withName new (it .label)) (without old (read t .labels)); chain = read t .chain })
+              → renameSet (read t) old new (it .label) ≡ accept nothing (replaced (read t) old (withName new (it .label)))
           rule-0 p = rw (any-so, p)
 
           pub duplicate : known ≡ true → result 6 (lent t a []) ≡ perform (lent t a []) (rename old new)
-          duplicate p = sym (ap (written (lent t a [])) (rule-is names-good ∙ ap (rename₁ (read t) old new) (it .same) ∙ rule-6 p)) ∙ ruled opened
+          duplicate p = sym (ap (written (lent t a [])) (rule-is names-good ∙ ap (λ (o : Option Label). given o 5 (renameSet (read t) old new)) (it .same) ∙ rule-6 p)) ∙ ruled opened
 
           pub done : known ≡ false → (t′ a′ : List ℕ) → ((g : Geometry) (l : Label) → Format1 g l (slotBytes t k) → t′ ≡ putRecord t k (format1 g (withName new l))) → a′ ≡ zeros 24
               → result 0 (lent t′ a′ []) ≡ perform (lent t a []) (rename old new)
@@ -148,5 +148,5 @@ module _ (t old new a : List ℕ) (r : ℕ) (number : r ≡ earlyNumber t old ne
               let q = renamed v (is-ready .valid) old l (it .same) new new-long n u (it .records .inside) in
               let y = put G l x ∙ ap₂ (λ (b : List ℕ) (i : ℕ). putRecord b i (format1 G (withName new l))) (is-ready .bytes) (sym (it .slot)) ∙ q in
               ap₂ (λ (b c : List ℕ). result 0 (lent b c [])) y ea
-              ∙ sym (ap (written (lent t a [])) (rule-is names-good ∙ ap (rename₁ (read t) old new) (it .same) ∙ rule-0 p))
+              ∙ sym (ap (written (lent t a [])) (rule-is names-good ∙ ap (λ (o : Option Label). given o 5 (renameSet (read t) old new)) (it .same) ∙ rule-0 p))
               ∙ ruled opened

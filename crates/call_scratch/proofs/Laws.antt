@@ -5,10 +5,11 @@ use mathlib.Core.Option.{Option, some}
 use mathlib.Core.List.{List, [], _∷_, _++_, append-assoc}
 use Prim.Native.Nat.{ℕ, _≤_}
 use Rattle.model.specs.Model.{Extent, Geometry, Label, Volume, held, oneSlot, overs, runsOf, slots, slotsOf, tally, times, total, tracks, used}
-use Rattle.rules.specs.Calls.{accept, answer, givenBack, rule, scratch, scratch₁, settled}
+use Rattle.rules.specs.Calls.{accept, answer, givenBack, removeSet, rule, scratch, settled}
 use Rattle.rules.specs.Entries.{lent, result, written}
 use Rattle.rules.specs.Slots.{settle, without}
-use Rattle.rules.proofs.Changes.{scratch-keeps}
+use Rattle.rules.specs.Ledger.{removes}
+use Rattle.rules.proofs.Changes.{remove-keeps}
 use Rattle.rules.proofs.Kept.{Keeps}
 use Rattle.rules.proofs.Valid.{Valid}
 use Rattle.tracks.specs.Map.{Shows}
@@ -22,9 +23,9 @@ use Rattle.commit.proofs.Sets.{held-apart, others-stay, shows-below, slots-insi
 use Rattle.giving.specs.Giving.{At, FreedSlot, Measures}
 use Rattle.giving.proofs.Calls.{Names}
 
-pub scratches : (name : List ℕ) → Names (scratch name) name (λ v. scratch₁ v name)
+pub scratches : (name : List ℕ) → Names (scratch name) name (λ v. removeSet v name)
 unfolding rule
-scratches name = record { lengths = refl; rules = λ v. refl; none = λ v. refl }
+scratches name = record { lengths = refl; rules = λ v. refl }
 
 module _ (g : Geometry) (t m s : List ℕ) (k : ℕ) (d : At g t m s k) where
   abbrev v : Volume
@@ -60,8 +61,8 @@ module _ (g : Geometry) (t m s : List ℕ) (k : ℕ) (d : At g t m s k) where
 
     pub stays-valid : (w : Volume) → after ≡ some w → Valid w
     stays-valid w e =
-        let q : scratch₁ v (d .name) (some l) ≡ accept (givenBack (total (runsOf l))) w = ap (settled (givenBack (total (runsOf l)))) (settle-is ∙ e) in
-        let y : Keeps v (scratch (d .name)) (accept (givenBack (total (runsOf l))) w) = subst (Keeps v (scratch (d .name))) q (scratch-keeps v (d .ready .valid) (d .name) l (d .it .same)) in
+        let q : removeSet v (d .name) l ≡ accept (givenBack (total (runsOf l))) w = ap (settled (givenBack (total (runsOf l)))) (settle-is ∙ e) in
+        let y : Keeps v (removes (d .name)) (accept (givenBack (total (runsOf l))) w) = subst (Keeps v (removes (d .name))) q (remove-keeps v (d .ready .valid) (d .name) l (d .it .same)) in
         y .valid
 
     -- what `drop_set` asks
@@ -88,13 +89,13 @@ module _ (g : Geometry) (t m s : List ℕ) (k : ℕ) (d : At g t m s k) where
         }
 
     module _ (a t′ : List ℕ) (b : Bool) (put : (y : Left g t m′ s₂ low k third) → Gone y t′ b) where
-      pub full : b ≡ false → result 11 (lent t′ a []) ≡ written (lent t a []) (scratch₁ v (d .name) (some l))
+      pub full : b ≡ false → result 11 (lent t′ a []) ≡ written (lent t a []) (removeSet v (d .name) l)
       full h =
           let y = put left in
           ap (λ (z : List ℕ). result 11 (lent z a [])) (y .same h)
           ∙ sym (ap (λ (o : Option Volume). written (lent t a []) (settled (givenBack (total (runsOf l))) o)) (settle-is ∙ y .full h))
 
-      pub gone : b ≡ true → (a′ : List ℕ) → a′ ≡ answer (givenBack all) → result 0 (lent t′ a′ []) ≡ written (lent t a []) (scratch₁ v (d .name) (some l))
+      pub gone : b ≡ true → (a′ : List ℕ) → a′ ≡ answer (givenBack all) → result 0 (lent t′ a′ []) ≡ written (lent t a []) (removeSet v (d .name) l)
       gone h a′ ea =
           let y = put left .done h in
           ap₂ (λ (z w : List ℕ). result 0 (lent z w [])) (y .2) (ea ∙ ap (λ (n : ℕ). answer (givenBack n)) (x .spread .sum))

@@ -7,7 +7,7 @@ ghost use mathlib.Core.List.{[]};
 ghost use Prim.Native.Nat.{_*_, _≤_, _<_};
 ghost use lib.ListN.{length};
 ghost use Rattle.model.specs.Model.{slots, tracks};
-ghost use Rattle.rules.specs.Calls.{scratch₁};
+ghost use Rattle.rules.specs.Calls.{removeSet};
 ghost use Rattle.rules.specs.Contracts.{Scratches};
 ghost use Rattle.rules.specs.Entries.{lent, result, written};
 ghost use Rattle.rules.proofs.Valid.{Limits};
@@ -26,7 +26,7 @@ fn scratch_set(
 ) -> u32
     requires { ⌜ Limits (geometryOf g) × (length (now table) ≡ 140 * slots (geometryOf g)) × (tracks (geometryOf g) ≤ 64 * length (now map)) × (length (now empty) ≡ 8) × (k < slots (geometryOf g)) × (length (now answer) ≡ 24) ⌝ }
     requires { ⌜ At (geometryOf g) (now table) (now map) (now empty) k ⌝ }
-    ensures { λ r. ⌜ ((d : At (geometryOf g) (now (table .entry)) (now (map .entry)) (now (empty .entry)) k) → result r (lent (now (table .exit)) (now (answer .exit)) []) ≡ written (lent (now (table .entry)) (now (answer .entry)) []) (scratch₁ (d .volume) (d .name) (some (d .it .label)))) ⌝ }
+    ensures { λ r. ⌜ ((d : At (geometryOf g) (now (table .entry)) (now (map .entry)) (now (empty .entry)) k) → result r (lent (now (table .exit)) (now (answer .exit)) []) ≡ written (lent (now (table .entry)) (now (answer .entry)) []) (removeSet (d .volume) (d .name) (d .it .label))) ⌝ }
 {
     let x = giving::measure(table, g, k);
     giving::give_back(table, g, k, x, 0, map);

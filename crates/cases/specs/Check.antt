@@ -54,7 +54,7 @@ abbrev pub buffer : ℕ → List ℕ
 buffer n = replicate n 0xEE
 
 abbrev pub labelsFor : Call → List ℕ
-labelsFor (allocate n at kind start amount secondary) = []
+labelsFor (allocate q) = []
 labelsFor (extend n) = []
 labelsFor (release n ttr) = []
 labelsFor (scratch n) = []
@@ -67,7 +67,7 @@ damaged [] t = t
 damaged (p ∷ ps) t = damaged ps (set t (p .0) (p .1))
 
 abbrev pub sameLent : Lent → Lent → Bool
-sameLent a b = same (a .table) (b .table) && same (a .answer) (b .answer) && same (a .labels) (b .labels)
+sameLent a b = same (a .table) (b .table) && same (a .answer) (b .answer) && same (a .extra) (b .extra)
 
 abbrev pub accepted : Result → ℕ → ℕ → Bool
 accepted r answer after =
@@ -109,7 +109,7 @@ right t (ok c answer after ∷ rows) =
     accepted r answer after && right (r .after .table) rows
 right t (okLabels c answer after labels ∷ rows) =
     let r : Result = perform (lent t (buffer 24) (labelsFor c)) c in
-    accepted r answer after && eqb (digest (r .after .labels)) labels && right t rows
+    accepted r answer after && eqb (digest (r .after .extra)) labels && right t rows
 right t (no c n ∷ rows) =
     let b : Lent = lent t (buffer 24) (labelsFor c) in
     let r : Result = perform b c in

@@ -9,9 +9,8 @@ use lib.ListN.{drop, drop-of-length-le, getD, length, length-drop, length-take, 
 use Rattle.model.specs.Basics.{bit, get2, part}
 use Rattle.model.specs.Model.{Geometry, Run, Separate, Volume, fivesFor, free, run, slots, tally, tracks, used}
 use Rattle.model.proofs.Lists.{All, All-both, All-drop, All-left, All-take}
-use Rattle.rules.specs.Demand3.{entryPlace, readEntry}
 use Rattle.rules.specs.Layout.{fives, format5, headOr0, link}
-use Rattle.rules.specs.Reading.{chop, recordAt}
+use Rattle.rules.specs.Reading.{chop, entryPlace, readEntry, recordAt}
 use Rattle.rules.proofs.FreeBack.{entry-at, five-link, pigeonhole}
 use Rattle.rules.proofs.Placed.{tally-nonzero}
 use Rattle.rules.proofs.Settle.{used-tally}

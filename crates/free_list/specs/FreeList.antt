@@ -5,9 +5,8 @@ use mathlib.Core.List.{List}
 use lib.ListN.{getD, length}
 use Rattle.model.specs.Model.{Geometry, Run, Separate, run, slots, tracks}
 use Rattle.model.proofs.Lists.{All}
-use Rattle.rules.specs.Demand3.{entryPlace, readEntry}
 use Rattle.rules.specs.Layout.{fives, headOr0}
-use Rattle.rules.specs.Reading.{chop}
+use Rattle.rules.specs.Reading.{chop, entryPlace, readEntry}
 use Rattle.sound.specs.Sound.{FiveOk}
 
 -- the entries of the format 5 r are those of the free extents f; the others have no track

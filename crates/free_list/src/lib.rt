@@ -6,7 +6,7 @@ ghost use mathlib.Core.List.{List};
 ghost use Prim.Native.Nat.{ℕ, suc, _+_, _*_, _/_, _%_, _≤_, _<_};
 ghost use lib.ListN.{drop, length};
 ghost use Rattle.model.specs.Model.{Run, run, slots};
-ghost use Rattle.rules.specs.Demand3.{entryPlace, readEntry};
+ghost use Rattle.rules.specs.Reading.{entryPlace, readEntry};
 ghost use Rattle.rules.proofs.Valid.{Limits};
 ghost use Rattle.forms.specs.Forms.{geometryOf};
 ghost use Rattle.free_list.specs.FreeList.{Lists};

@@ -8,7 +8,7 @@ use lib.Bits.{and-le-l, and-le-r, bitOr, or-add-and}
 use lib.ListN.{getD, length}
 use Rattle.model.specs.Basics.{get2}
 use Rattle.model.specs.Model.{Run, run}
-use Rattle.rules.specs.Demand3.{entryPlace, readEntry}
+use Rattle.rules.specs.Reading.{entryPlace, readEntry}
 use Rattle.free_list.specs.FreeList.{Entries}
 use Rattle.grant.specs.Pass.{Looked, Shorter}
 use Rattle.grant.proofs.Passing.{looked-empty, looked-next, same-best, same-five}

@@ -9,7 +9,7 @@ use lib.Dec.{leb, ltb, eqb}
 use Rattle.model.specs.Basics.{orElse}
 use Rattle.model.specs.Model.{Run, run}
 use Rattle.model.specs.Choice.{candidates, serving, shortest, longestFirst, wholeIn}
-use Rattle.rules.specs.Demand3.{entryPlace, readEntry}
+use Rattle.rules.specs.Reading.{entryPlace, readEntry}
 
 -- candidates as the code holds them, first unit and count, and none where the count is 0
 abbrev pub toRun : List ℕ → Run

@@ -52,11 +52,11 @@ opened-ready t ok r e z = ready t (opened-taken t ok (sym z ∙ e))
 pub opened-good : (t : List ℕ) (ok : Bool) → 0 ≡ openNumber t ok → ok ≡ true
 opened-good t ok e = by ok (λ h. h) (λ h. absurd (let q = rw h at e in by (goodLength t) (λ k. let z = rw k at q in omega arith) (λ k. let z = rw k at q in omega arith)))
 
-lengths-are : (b : Lent) (c : Call) → goodLengths b c ≡ (goodLength (b .table) && (eqb (length (b .answer)) 24 && callLengths c (length (b .labels))))
+lengths-are : (b : Lent) (c : Call) → goodLengths b c ≡ (goodLength (b .table) && (eqb (length (b .answer)) 24 && callLengths c (length (b .extra))))
 unfolding goodLengths
 lengths-are b c = by (goodLength (b .table)) (λ h. rw h) (λ h. rw h)
 
-module _ (b : Lent) (c : Call) (ok : Bool) (r : ℕ) (other : ok ≡ (eqb (length (b .answer)) 24 && callLengths c (length (b .labels)))) (number : r ≡ openNumber (b .table) ok) where
+module _ (b : Lent) (c : Call) (ok : Bool) (r : ℕ) (other : ok ≡ (eqb (length (b .answer)) 24 && callLengths c (length (b .extra)))) (number : r ≡ openNumber (b .table) ok) where
   all-are : goodLengths b c ≡ (goodLength (b .table) && ok)
   all-are = lengths-are b c ∙ ap (λ (x : Bool). goodLength (b .table) && x) (sym other)
 

@@ -7,14 +7,14 @@ use mathlib.Core.List.{List}
 use lib.ListN.{length}
 use Rattle.model.specs.Model.{Label}
 use Rattle.rules.specs.Reading.{read}
-use Rattle.rules.specs.Table.{goodLength, taken}
+use Rattle.rules.specs.Table.{goodLength, tableRefusal}
 use Rattle.names.specs.declared.Found.{Found}
 use Rattle.names.specs.declared.Found.the-variants.{Slot, Nothing}
 use Rattle.table_check.specs.Check.{Shown}
 
--- the refusals 2 and 3, 0 for none; `ok`: the other lent lengths are right
+-- the refusals of lengths and of the table, 0 for none; `ok`: the other lent lengths are right
 abbrev pub openNumber : List ℕ → Bool → ℕ
-openNumber t ok = cond (goodLength t && ok) (cond (taken t) 0 3) 2
+openNumber t ok = cond (goodLength t && ok) (tableRefusal t) 2
 
 -- m and s are the maps of free tracks and of free slots
 pub record Opened (t : List ℕ) (ok : Bool) (m m′ s s′ : List ℕ) (r : ℕ) : Type 0 where

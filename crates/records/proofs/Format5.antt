@@ -11,7 +11,7 @@ use native.Mathlib.Nat.{le-refl}
 use Rattle.model.specs.Basics.{fill, flat}
 use Rattle.model.specs.Model.{Geometry, Run, run}
 use Rattle.model.proofs.Lists.{by}
-use Rattle.rules.specs.Demand3.{entryPlace}
+use Rattle.rules.specs.Reading.{entryPlace}
 use Rattle.rules.specs.Layout.{entry, fields5, format5, link, whole}
 use Rattle.rules.proofs.Fields.{length-whole}
 use Rattle.rules.proofs.LabelBack.{length-link}

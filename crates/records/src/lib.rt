@@ -7,7 +7,7 @@ ghost use Prim.Native.Nat.{ℕ, _+_, _-_, _*_, _/_, _%_, _≤_, _<_};
 ghost use lib.ListN.{length, replicate};
 ghost use Rattle.model.specs.Basics.{be2, be3};
 ghost use Rattle.model.specs.Model.{extent, run, slots};
-ghost use Rattle.rules.specs.Demand3.{entryPlace};
+ghost use Rattle.rules.specs.Reading.{entryPlace};
 ghost use Rattle.rules.specs.Layout.{cchh, entry, extentBytes, format4, format5, link};
 ghost use Rattle.rules.proofs.Valid.{Limits};
 ghost use Rattle.records.specs.Put.{putAt};

@@ -6,12 +6,12 @@ use native.Mathlib.Omega.{arith}
 use borrow.Author.Tests.{ne-eqb}
 use lib.ListN.{length, take, drop, getD, take-append-drop}
 use lib.Seq.{length-take-le}
-use Rattle.rules.specs.Calls.{Call, allocate, extend, lspace, obtain, release, rename, scratch}
+use Rattle.rules.specs.Calls.{Call, allocate, extend, lspace, obtain, release, rename, request, scratch}
 use Rattle.rules.specs.Contracts.{geometry}
 use Rattle.rules.specs.Entries.{Lent, Result, initialise, lent, perform, result}
 use Rattle.recorded.specs.Asked.{answerLent, bytesOf, get4, labelsLent, nameOf, otherOf, overAt, tableLent}
 use Rattle.recorded.specs.Line.{digest, lineOf}
-use Rattle.replay_step.specs.Play.{Does, Loads, both, called, done, freshAnswer, freshLabels, initialised, laterOp, lentOf, lineFor, loaded, obtained, operated, played, whole}
+use Rattle.replay_step.specs.Play.{Does, Loads, both, called, done, freshAnswer, freshLabels, initialised, laterOp, lentOf, lineFor, loaded, obtained, operated, played, requestOf, whole}
 
 -- whatever call was made with the first n bytes of the table and k of the answer
 put-back : {r : ℕ} {t′ a′ : List ℕ} {p : Result} (asked t a l : List ℕ) (n k : ℕ) → n ≡ tableLent asked → k ≡ answerLent asked
@@ -40,7 +40,7 @@ pub obtains : {r : ℕ} {a′ l′ : List ℕ} (name asked t a l : List ℕ) (n 
 unfolding obtained
 obtains {r} {a′} {l′} name asked t a l n k m e f g s h =
     ap (λ (u : List ℕ). result r (lent u (a′ ++ drop k a) (l′ ++ drop m l))) (sym (take-append-drop n t))
-    ∙ ap (λ (q : Result). result (q .number) (lent (q .after .table ++ drop n t) (q .after .answer ++ drop k a) (q .after .labels ++ drop m l))) h
+    ∙ ap (λ (q : Result). result (q .number) (lent (q .after .table ++ drop n t) (q .after .answer ++ drop k a) (q .after .extra ++ drop m l))) h
     ∙ rw (e, f, g, s)
 
 pub initialises : {r : ℕ} {t′ a′ : List ℕ} (asked t a : List ℕ) (n k c h d s v : ℕ) → n ≡ tableLent asked → k ≡ answerLent asked
@@ -63,7 +63,7 @@ module _ (r : List ℕ) (b : Lent) {x : Result} (op : ℕ) where
   unfolding operated
   op-1 e h = rw e h
 
-  pub op-2 : op ≡ 2 → x ≡ called r b (allocate (nameOf r) (otherOf r) (get4 r 8) (get4 r 12) (get4 r 16) (get4 r 20)) → x ≡ operated op r b
+  pub op-2 : op ≡ 2 → x ≡ called r b (allocate (requestOf r)) → x ≡ operated op r b
   unfolding operated
   op-2 e h = rw e h
 
@@ -128,8 +128,8 @@ pub lent-long : (n m : ℕ) (t : List ℕ) → length t ≡ m → n ≤ m → n 
 lent-long n m t h k = sym (length-take-le n t (omega arith))
 
 pub same-request : {n n′ at at′ : List ℕ} {k k′ s s′ a a′ v v′ : ℕ} → n ≡ n′ → at ≡ at′ → k ≡ k′ → s ≡ s′ → a ≡ a′ → v ≡ v′
-    → allocate n at k s a v ≡ allocate n′ at′ k′ s′ a′ v′
+    → allocate (request n at k s a v) ≡ allocate (request n′ at′ k′ s′ a′ v′)
 same-request {n} {n′} {at} {at′} {k} {k′} {s} {s′} {a} {a′} {v} {v′} e₁ e₂ e₃ e₄ e₅ e₆ =
-    ap₂ (λ (x y : List ℕ). allocate x y k s a v) e₁ e₂
-    ∙ ap₂ (λ (x y : ℕ). allocate n′ at′ x y a v) e₃ e₄
-    ∙ ap₂ (λ (x y : ℕ). allocate n′ at′ k′ s′ x y) e₅ e₆
+    ap₂ (λ (x y : List ℕ). allocate (request x y k s a v)) e₁ e₂
+    ∙ ap₂ (λ (x y : ℕ). allocate (request n′ at′ x y a v)) e₃ e₄
+    ∙ ap₂ (λ (x y : ℕ). allocate (request n′ at′ k′ s′ x y)) e₅ e₆

@@ -6,11 +6,15 @@ use mathlib.Core.Bool.{cond}
 use mathlib.Core.List.{List, [], _++_}
 use lib.Dec.{eqb}
 use lib.ListN.{getD, take, drop, replicate}
-use Rattle.rules.specs.Calls.{Call, allocate, extend, lspace, obtain, release, rename, scratch}
+use Rattle.rules.specs.Calls.{Call, Request, allocate, extend, lspace, obtain, release, rename, request, scratch}
 use Rattle.rules.specs.Contracts.{geometry}
 use Rattle.rules.specs.Entries.{Lent, Result, initialise, lent, perform, result}
 use Rattle.recorded.specs.Asked.{answerLent, bytesOf, get4, labelsLent, nameOf, otherOf, overAt, tableLent}
 use Rattle.recorded.specs.Line.{digest, lineOf}
+
+-- what allocate is asked for
+abbrev pub requestOf : List ℕ → Request
+requestOf r = request (nameOf r) (otherOf r) (get4 r 8) (get4 r 12) (get4 r 16) (get4 r 20)
 
 -- ---- a call, with the lent first bytes of the buffers; the bytes behind them stay. Only obtain is lent labels
 
@@ -24,16 +28,16 @@ whole r b p l =
 
 unfoldable pub initialised : List ℕ → Lent → Result
 initialised r b =
-    whole r b (initialise (geometry (get4 r 8) (get4 r 12) (get4 r 16) (get4 r 20) (get4 r 24)) (lentOf r b [])) (b .labels)
+    whole r b (initialise (geometry (get4 r 8) (get4 r 12) (get4 r 16) (get4 r 20) (get4 r 24)) (lentOf r b [])) (b .extra)
 
 unfoldable pub called : List ℕ → Lent → Call → Result
-called r b c = whole r b (perform (lentOf r b []) c) (b .labels)
+called r b c = whole r b (perform (lentOf r b []) c) (b .extra)
 
 abbrev pub withLabels : List ℕ → Lent → Result → Result
-withLabels r b p = whole r b p (p .after .labels ++ drop (labelsLent r) (b .labels))
+withLabels r b p = whole r b p (p .after .extra ++ drop (labelsLent r) (b .extra))
 
 unfoldable pub obtained : List ℕ → Lent → Result
-obtained r b = withLabels r b (perform (lentOf r b (take (labelsLent r) (b .labels))) (obtain (nameOf r)))
+obtained r b = withLabels r b (perform (lentOf r b (take (labelsLent r) (b .extra))) (obtain (nameOf r)))
 
 -- r is the result and t′, a′ are table and answer after it, whatever the labels are; these stay
 abbrev pub Does : (Lent → Result) → (t a : List ℕ) (r : ℕ) (t′ a′ : List ℕ) → Type 0
@@ -42,7 +46,7 @@ Does f t a r t′ a′ = (l : List ℕ) → result r (lent t′ a′ l) ≡ f (l
 -- ---- put
 
 unfoldable pub loaded : List ℕ → Lent → Result
-loaded r b = result 0 (lent (overAt (get4 r 8) (bytesOf r) (b .table)) (b .answer) (b .labels))
+loaded r b = result 0 (lent (overAt (get4 r 8) (bytesOf r) (b .table)) (b .answer) (b .extra))
 
 abbrev pub Loads : (asked t : List ℕ) (r : ℕ) (t′ : List ℕ) → Type 0
 Loads asked t r t′ = (a l : List ℕ) → result r (lent t′ a l) ≡ loaded asked (lent t a l)
@@ -60,7 +64,7 @@ laterOp op r b =
 unfoldable pub operated : ℕ → List ℕ → Lent → Result
 operated op r b =
     cond (eqb op 1) (initialised r b)
-    (cond (eqb op 2) (called r b (allocate (nameOf r) (otherOf r) (get4 r 8) (get4 r 12) (get4 r 16) (get4 r 20)))
+    (cond (eqb op 2) (called r b (allocate (requestOf r)))
     (cond (eqb op 3) (called r b (extend (nameOf r)))
     (cond (eqb op 4) (called r b (release (nameOf r) (get4 r 8)))
     (laterOp op r b))))
@@ -81,7 +85,7 @@ done r t = operated (getD r 0 0) r (lent t freshAnswer freshLabels)
 unfoldable pub lineFor : List ℕ → Result → List ℕ
 lineFor r p =
     lineOf (getD r 0 0) (p .number) (take 24 (p .after .answer)) (digest (take (tableLent r) (p .after .table)))
-    (digest (take (labelsLent r) (p .after .labels)))
+    (digest (take (labelsLent r) (p .after .extra)))
 
 -- the line and the table after a record, from the record and the table before
 pub record Played : Type 0 where

@@ -5,7 +5,7 @@ ghost use lib.ListN.{getD, length};
 ghost use Rattle.rules.specs.Calls.{allocate, extend, lspace, release, rename, scratch};
 ghost use Rattle.rules.specs.Entries.{lent, result};
 ghost use Rattle.recorded.specs.Asked.{get4, nameOf, otherOf};
-ghost use Rattle.replay_step.specs.Play.{Does, Loads, both, called, freshAnswer, freshLabels, initialised, laterOp, lineFor, loaded, obtained, operated, played};
+ghost use Rattle.replay_step.specs.Play.{Does, Loads, both, called, freshAnswer, freshLabels, initialised, laterOp, lineFor, loaded, obtained, operated, played, requestOf};
 
 // ---- the calls, each with the lent first bytes of the buffers
 
@@ -25,7 +25,7 @@ fn do_initialise(asked: &[u8], table: &mut [u8], answer: &mut [u8]) -> u32
 
 fn do_allocate(asked: &[u8], table: &mut [u8], answer: &mut [u8]) -> u32
     requires { ⌜ (length (now asked) ≡ 128) × (length (now table) ≡ 65536) × (length (now answer) ≡ 32) ⌝ }
-    ensures { λ r. ⌜ Does (λ b. called (now (asked .entry)) b (allocate (nameOf (now (asked .entry))) (otherOf (now (asked .entry))) (get4 (now (asked .entry)) 8) (get4 (now (asked .entry)) 12) (get4 (now (asked .entry)) 16) (get4 (now (asked .entry)) 20))) (now (table .entry)) (now (answer .entry)) r (now (table .exit)) (now (answer .exit)) ⌝ }
+    ensures { λ r. ⌜ Does (λ b. called (now (asked .entry)) b (allocate (requestOf (now (asked .entry))))) (now (table .entry)) (now (answer .entry)) r (now (table .exit)) (now (answer .exit)) ⌝ }
 {
     let n = recorded::table_lent(asked);
     let k = recorded::answer_lent(asked);
