@@ -20,7 +20,7 @@ fn do_initialise(asked: &[u8], table: &mut [u8], answer: &mut [u8]) -> u32
     let d = recorded::four(asked, 16);
     let s = recorded::four(asked, 20);
     let v = recorded::four(asked, 24);
-    call_initialise::initialise(&mut table[..n], c, h, d, s, v, &mut answer[..k])
+    vtoc::vtoc_initialise(&mut table[..n], c, h, d, s, v, &mut answer[..k])
 }
 
 fn do_allocate(asked: &[u8], table: &mut [u8], answer: &mut [u8]) -> u32
@@ -35,7 +35,7 @@ fn do_allocate(asked: &[u8], table: &mut [u8], answer: &mut [u8]) -> u32
     let secondary = recorded::four(asked, 20);
     let name = recorded::name_of(asked);
     let attributes = recorded::other_of(asked);
-    call_allocate::allocate(
+    vtoc::vtoc_allocate(
         &mut table[..n],
         name,
         attributes,
@@ -53,7 +53,7 @@ fn do_extend(asked: &[u8], table: &mut [u8], answer: &mut [u8]) -> u32
 {
     let n = recorded::table_lent(asked);
     let k = recorded::answer_lent(asked);
-    call_extend::extend(&mut table[..n], recorded::name_of(asked), &mut answer[..k])
+    vtoc::vtoc_extend(&mut table[..n], recorded::name_of(asked), &mut answer[..k])
 }
 
 fn do_release(asked: &[u8], table: &mut [u8], answer: &mut [u8]) -> u32
@@ -63,7 +63,7 @@ fn do_release(asked: &[u8], table: &mut [u8], answer: &mut [u8]) -> u32
     let n = recorded::table_lent(asked);
     let k = recorded::answer_lent(asked);
     let ttr = recorded::four(asked, 8);
-    call_release::release(
+    vtoc::vtoc_release(
         &mut table[..n],
         recorded::name_of(asked),
         ttr,
@@ -77,7 +77,7 @@ fn do_scratch(asked: &[u8], table: &mut [u8], answer: &mut [u8]) -> u32
 {
     let n = recorded::table_lent(asked);
     let k = recorded::answer_lent(asked);
-    call_scratch::scratch(&mut table[..n], recorded::name_of(asked), &mut answer[..k])
+    vtoc::vtoc_scratch(&mut table[..n], recorded::name_of(asked), &mut answer[..k])
 }
 
 fn do_rename(asked: &[u8], table: &mut [u8], answer: &mut [u8]) -> u32
@@ -86,7 +86,7 @@ fn do_rename(asked: &[u8], table: &mut [u8], answer: &mut [u8]) -> u32
 {
     let n = recorded::table_lent(asked);
     let k = recorded::answer_lent(asked);
-    call_rename::rename(
+    vtoc::vtoc_rename(
         &mut table[..n],
         recorded::name_of(asked),
         recorded::other_of(asked),
@@ -101,7 +101,7 @@ fn do_obtain(asked: &[u8], table: &[u8], answer: &mut [u8], labels: &mut [u8]) -
     let n = recorded::table_lent(asked);
     let k = recorded::answer_lent(asked);
     let m = recorded::labels_lent(asked);
-    call_obtain::obtain(
+    vtoc::vtoc_obtain(
         &table[..n],
         recorded::name_of(asked),
         &mut labels[..m],
@@ -115,7 +115,7 @@ fn do_lspace(asked: &[u8], table: &[u8], answer: &mut [u8]) -> u32
 {
     let n = recorded::table_lent(asked);
     let k = recorded::answer_lent(asked);
-    call_lspace::lspace(&table[..n], &mut answer[..k])
+    vtoc::vtoc_lspace(&table[..n], &mut answer[..k])
 }
 
 fn do_put(asked: &[u8], table: &mut [u8]) -> u32

@@ -1,14 +1,14 @@
 use Rattle.replay_step.proofs.Laws.{does-call, lent-long}
 use native.Mathlib.Omega.{arith}
 use Rattle.rules.specs.Calls.{allocate}
-use Rattle.recorded.specs.Asked.{get4, nameOf, otherOf}
+use Rattle.replay_step.specs.Play.{requestOf}
 use Rattle.replay_step.proofs.Laws.{same-request}
 use borrow.Author.Needs.{needs}
 use Rattle.replay_step.proofs.do_allocate.Statement.{statement}
 use Rattle.replay_step.proofs.do_allocate.Tie as tie
 use Rattle.replay_step.proofs.do_allocate.Reads as reads
 use Rattle.replay_step.proofs.do_allocate.Lts as lts
-use Rattle.call_allocate.proofs.allocate.Reads as allocate-reads
+use Rattle.vtoc.proofs.vtoc_allocate.Reads as vtoc-allocate-reads
 use Rattle.recorded.proofs.answer_lent.Reads as answer-lent-reads
 use Rattle.recorded.proofs.four.Reads as four-reads
 use Rattle.recorded.proofs.name_of.Reads as name-of-reads
@@ -48,24 +48,24 @@ other-of-requires : tie.Need-other-of-requires
 other-of-requires c κs = search needs
 
 -- src/lib.rt:38:29
-slice-relend-prefix-allocate : tie.Need-slice-relend-prefix-allocate
-slice-relend-prefix-allocate c = search needs
+slice-relend-prefix-vtoc-allocate : tie.Need-slice-relend-prefix-vtoc-allocate
+slice-relend-prefix-vtoc-allocate c = search needs
 
 -- src/lib.rt:38:29
-slice-aggregate-allocate : tie.Need-slice-aggregate-allocate
-slice-aggregate-allocate c = lent-long _ 65536 (c .before .before .before .before .before .before .before .before .before .before .before .before .args .table .now) (c .before .before .before .before .before .before .before .before .before .before .before .before .pre .1) (let h = c .before .before .before .before .before .before .before .before .table-lent .ensures .1 in omega arith)
+slice-aggregate-vtoc-allocate : tie.Need-slice-aggregate-vtoc-allocate
+slice-aggregate-vtoc-allocate c = lent-long _ 65536 (c .before .before .before .before .before .before .before .before .before .before .before .before .args .table .now) (c .before .before .before .before .before .before .before .before .before .before .before .before .pre .1) (let h = c .before .before .before .before .before .before .before .before .table-lent .ensures .1 in omega arith)
 
 -- src/lib.rt:38:96
-slice-relend-prefix-allocate-2 : tie.Need-slice-relend-prefix-allocate-2
-slice-relend-prefix-allocate-2 c = search needs
+slice-relend-prefix-vtoc-allocate-2 : tie.Need-slice-relend-prefix-vtoc-allocate-2
+slice-relend-prefix-vtoc-allocate-2 c = search needs
 
 -- src/lib.rt:38:96
-slice-aggregate-allocate-2 : tie.Need-slice-aggregate-allocate-2
-slice-aggregate-allocate-2 c = lent-long _ 32 (c .before .before .before .before .before .before .before .before .before .before .before .before .before .args .answer .now) (c .before .before .before .before .before .before .before .before .before .before .before .before .before .pre .2) (c .before .before .before .before .before .before .before .before .answer-lent .ensures .1)
+slice-aggregate-vtoc-allocate-2 : tie.Need-slice-aggregate-vtoc-allocate-2
+slice-aggregate-vtoc-allocate-2 c = lent-long _ 32 (c .before .before .before .before .before .before .before .before .before .before .before .before .before .args .answer .now) (c .before .before .before .before .before .before .before .before .before .before .before .before .before .pre .2) (c .before .before .before .before .before .before .before .before .answer-lent .ensures .1)
 
 -- src/lib.rt:38:5
-allocate-requires : tie.Need-allocate-requires
-allocate-requires c κs = search needs
+vtoc-allocate-requires : tie.Need-vtoc-allocate-requires
+vtoc-allocate-requires c κs = search needs
 
 -- src/lib.rt:26:1
 same-length : tie.Need-same-length
@@ -77,7 +77,7 @@ same-length-2 c = search needs
 
 -- src/lib.rt:26:1
 returns : tie.Need-returns
-returns c = does-call (allocate (nameOf (c .before .before .before .before .before .before .before .before .before .before .before .before .before .before .before .before .before .before .args .asked .now)) (otherOf (c .before .before .before .before .before .before .before .before .before .before .before .before .before .before .before .before .before .before .args .asked .now)) (get4 (c .before .before .before .before .before .before .before .before .before .before .before .before .before .before .before .before .before .before .args .asked .now) 8) (get4 (c .before .before .before .before .before .before .before .before .before .before .before .before .before .before .before .before .before .before .args .asked .now) 12) (get4 (c .before .before .before .before .before .before .before .before .before .before .before .before .before .before .before .before .before .before .args .asked .now) 16) (get4 (c .before .before .before .before .before .before .before .before .before .before .before .before .before .before .before .before .before .before .args .asked .now) 20)) (c .before .before .before .before .before .before .before .before .before .before .before .before .before .before .before .before .before .before .args .asked .now) (c .before .before .before .before .before .before .before .before .before .before .before .before .before .before .before .before .before .before .args .table .now) (c .before .before .before .before .before .before .before .before .before .before .before .before .before .before .before .before .before .before .args .answer .now) _ _ (same-request (c .before .before .before .before .before .before .before .before .name-of .ensures) (c .before .before .before .before .before .before .before .other-of .ensures) (c .before .before .before .before .before .before .before .before .before .before .before .before .four .ensures) (c .before .before .before .before .before .before .before .before .before .before .before .four2 .ensures) (c .before .before .before .before .before .before .before .before .before .before .four3 .ensures) (c .before .before .before .before .before .before .before .before .before .four4 .ensures)) (c .before .before .before .before .before .before .before .before .before .before .before .before .before .before .table-lent .ensures .0) (c .before .before .before .before .before .before .before .before .before .before .before .before .before .answer-lent .ensures .0) (c .before .before .before .before .allocate .ensures)
+returns c = does-call (allocate (requestOf (c .before .before .before .before .before .before .before .before .before .before .before .before .before .before .before .before .before .before .args .asked .now))) (c .before .before .before .before .before .before .before .before .before .before .before .before .before .before .before .before .before .before .args .asked .now) (c .before .before .before .before .before .before .before .before .before .before .before .before .before .before .before .before .before .before .args .table .now) (c .before .before .before .before .before .before .before .before .before .before .before .before .before .before .before .before .before .before .args .answer .now) _ _ (same-request (c .before .before .before .before .before .before .before .before .name-of .ensures) (c .before .before .before .before .before .before .before .other-of .ensures) (c .before .before .before .before .before .before .before .before .before .before .before .before .four .ensures) (c .before .before .before .before .before .before .before .before .before .before .before .four2 .ensures) (c .before .before .before .before .before .before .before .before .before .before .four3 .ensures) (c .before .before .before .before .before .before .before .before .before .four4 .ensures)) (c .before .before .before .before .before .before .before .before .before .before .before .before .before .before .table-lent .ensures .0) (c .before .before .before .before .before .before .before .before .before .before .before .before .before .answer-lent .ensures .0) (c .before .before .before .before .vtoc-allocate .ensures)
 
 pub do-allocate-spec : {M : Type 1} → statement M
 do-allocate-spec =
@@ -91,11 +91,11 @@ do-allocate-spec =
     four-requires-4
     name-of-requires
     other-of-requires
-    slice-relend-prefix-allocate
-    slice-aggregate-allocate
-    slice-relend-prefix-allocate-2
-    slice-aggregate-allocate-2
-    allocate-requires
+    slice-relend-prefix-vtoc-allocate
+    slice-aggregate-vtoc-allocate
+    slice-relend-prefix-vtoc-allocate-2
+    slice-aggregate-vtoc-allocate-2
+    vtoc-allocate-requires
     same-length
     same-length-2
     returns)

@@ -6,7 +6,7 @@ use Rattle.replay_step.proofs.do_lspace.Statement.{statement}
 use Rattle.replay_step.proofs.do_lspace.Tie as tie
 use Rattle.replay_step.proofs.do_lspace.Reads as reads
 use Rattle.replay_step.proofs.do_lspace.Lts as lts
-use Rattle.call_lspace.proofs.lspace.Reads as lspace-reads
+use Rattle.vtoc.proofs.vtoc_lspace.Reads as vtoc-lspace-reads
 use Rattle.recorded.proofs.answer_lent.Reads as answer-lent-reads
 use Rattle.recorded.proofs.table_lent.Reads as table-lent-reads
 
@@ -19,20 +19,20 @@ answer-lent-requires : tie.Need-answer-lent-requires
 answer-lent-requires c κs = search needs
 
 -- src/lib.rt:51:25
-slice-aggregate-lspace : tie.Need-slice-aggregate-lspace
-slice-aggregate-lspace c = lent-long _ 65536 (c .before .before .before .before .before .before .args .table .now) (c .before .before .before .before .before .before .pre .1) (let h = c .before .before .table-lent .ensures .1 in omega arith)
+slice-aggregate-vtoc-lspace : tie.Need-slice-aggregate-vtoc-lspace
+slice-aggregate-vtoc-lspace c = lent-long _ 65536 (c .before .before .before .before .before .before .args .table .now) (c .before .before .before .before .before .before .pre .1) (let h = c .before .before .table-lent .ensures .1 in omega arith)
 
 -- src/lib.rt:51:38
-slice-relend-prefix-lspace : tie.Need-slice-relend-prefix-lspace
-slice-relend-prefix-lspace c = search needs
+slice-relend-prefix-vtoc-lspace : tie.Need-slice-relend-prefix-vtoc-lspace
+slice-relend-prefix-vtoc-lspace c = search needs
 
 -- src/lib.rt:51:38
-slice-aggregate-lspace-2 : tie.Need-slice-aggregate-lspace-2
-slice-aggregate-lspace-2 c = lent-long _ 32 (c .before .before .before .before .before .before .before .args .answer .now) (c .before .before .before .before .before .before .before .pre .2) (c .before .before .answer-lent .ensures .1)
+slice-aggregate-vtoc-lspace-2 : tie.Need-slice-aggregate-vtoc-lspace-2
+slice-aggregate-vtoc-lspace-2 c = lent-long _ 32 (c .before .before .before .before .before .before .before .args .answer .now) (c .before .before .before .before .before .before .before .pre .2) (c .before .before .answer-lent .ensures .1)
 
 -- src/lib.rt:51:5
-lspace-requires : tie.Need-lspace-requires
-lspace-requires c κs = search needs
+vtoc-lspace-requires : tie.Need-vtoc-lspace-requires
+vtoc-lspace-requires c κs = search needs
 
 -- src/lib.rt:45:1
 same-length : tie.Need-same-length
@@ -40,7 +40,7 @@ same-length c = search needs
 
 -- src/lib.rt:45:1
 returns : tie.Need-returns
-returns c = reads-call lspace (c .before .before .before .before .before .before .before .before .before .before .args .asked .now) (c .before .before .before .before .before .before .before .before .before .before .args .table .now) (c .before .before .before .before .before .before .before .before .before .before .args .answer .now) _ _ (c .before .before .before .before .before .before .table-lent .ensures .0) (c .before .before .before .before .before .answer-lent .ensures .0) (c .before .before .lspace .ensures)
+returns c = reads-call lspace (c .before .before .before .before .before .before .before .before .before .before .args .asked .now) (c .before .before .before .before .before .before .before .before .before .before .args .table .now) (c .before .before .before .before .before .before .before .before .before .before .args .answer .now) _ _ (c .before .before .before .before .before .before .table-lent .ensures .0) (c .before .before .before .before .before .answer-lent .ensures .0) (c .before .before .vtoc-lspace .ensures)
 
 pub do-lspace-spec : {M : Type 1} → statement M
 do-lspace-spec =
@@ -48,9 +48,9 @@ do-lspace-spec =
     (tie.spec
     table-lent-requires
     answer-lent-requires
-    slice-aggregate-lspace
-    slice-relend-prefix-lspace
-    slice-aggregate-lspace-2
-    lspace-requires
+    slice-aggregate-vtoc-lspace
+    slice-relend-prefix-vtoc-lspace
+    slice-aggregate-vtoc-lspace-2
+    vtoc-lspace-requires
     same-length
     returns)

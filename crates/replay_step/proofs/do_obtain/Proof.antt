@@ -5,7 +5,7 @@ use Rattle.replay_step.proofs.do_obtain.Statement.{statement}
 use Rattle.replay_step.proofs.do_obtain.Tie as tie
 use Rattle.replay_step.proofs.do_obtain.Reads as reads
 use Rattle.replay_step.proofs.do_obtain.Lts as lts
-use Rattle.call_obtain.proofs.obtain.Reads as obtain-reads
+use Rattle.vtoc.proofs.vtoc_obtain.Reads as vtoc-obtain-reads
 use Rattle.recorded.proofs.answer_lent.Reads as answer-lent-reads
 use Rattle.recorded.proofs.labels_lent.Reads as labels-lent-reads
 use Rattle.recorded.proofs.name_of.Reads as name-of-reads
@@ -24,32 +24,32 @@ labels-lent-requires : tie.Need-labels-lent-requires
 labels-lent-requires c κs = search needs
 
 -- src/lib.rt:42:25
-slice-aggregate-obtain : tie.Need-slice-aggregate-obtain
-slice-aggregate-obtain c = lent-long _ 65536 (c .before .before .before .before .before .before .before .before .args .table .now) (c .before .before .before .before .before .before .before .before .pre .1) (let h = c .before .before .before .table-lent .ensures .1 in omega arith)
+slice-aggregate-vtoc-obtain : tie.Need-slice-aggregate-vtoc-obtain
+slice-aggregate-vtoc-obtain c = lent-long _ 65536 (c .before .before .before .before .before .before .before .before .args .table .now) (c .before .before .before .before .before .before .before .before .pre .1) (let h = c .before .before .before .table-lent .ensures .1 in omega arith)
 
 -- src/lib.rt:42:38
 name-of-requires : tie.Need-name-of-requires
 name-of-requires c κs = search needs
 
 -- src/lib.rt:42:64
-slice-relend-prefix-obtain : tie.Need-slice-relend-prefix-obtain
-slice-relend-prefix-obtain c = search needs
+slice-relend-prefix-vtoc-obtain : tie.Need-slice-relend-prefix-vtoc-obtain
+slice-relend-prefix-vtoc-obtain c = search needs
 
 -- src/lib.rt:42:64
-slice-aggregate-obtain-2 : tie.Need-slice-aggregate-obtain-2
-slice-aggregate-obtain-2 c = lent-long _ 288 (c .before .before .before .before .before .before .before .before .before .before .args .labels .now) (c .before .before .before .before .before .before .before .before .before .before .pre .3) (c .before .before .before .labels-lent .ensures .1)
+slice-aggregate-vtoc-obtain-2 : tie.Need-slice-aggregate-vtoc-obtain-2
+slice-aggregate-vtoc-obtain-2 c = lent-long _ 288 (c .before .before .before .before .before .before .before .before .before .before .args .labels .now) (c .before .before .before .before .before .before .before .before .before .before .pre .3) (c .before .before .before .labels-lent .ensures .1)
 
 -- src/lib.rt:42:82
-slice-relend-prefix-obtain-2 : tie.Need-slice-relend-prefix-obtain-2
-slice-relend-prefix-obtain-2 c = search needs
+slice-relend-prefix-vtoc-obtain-2 : tie.Need-slice-relend-prefix-vtoc-obtain-2
+slice-relend-prefix-vtoc-obtain-2 c = search needs
 
 -- src/lib.rt:42:82
-slice-aggregate-obtain-3 : tie.Need-slice-aggregate-obtain-3
-slice-aggregate-obtain-3 c = lent-long _ 32 (c .before .before .before .before .before .before .before .before .before .before .before .args .answer .now) (c .before .before .before .before .before .before .before .before .before .before .before .pre .2) (c .before .before .before .before .before .answer-lent .ensures .1)
+slice-aggregate-vtoc-obtain-3 : tie.Need-slice-aggregate-vtoc-obtain-3
+slice-aggregate-vtoc-obtain-3 c = lent-long _ 32 (c .before .before .before .before .before .before .before .before .before .before .before .args .answer .now) (c .before .before .before .before .before .before .before .before .before .before .before .pre .2) (c .before .before .before .before .before .answer-lent .ensures .1)
 
 -- src/lib.rt:42:5
-obtain-requires : tie.Need-obtain-requires
-obtain-requires c κs = search needs
+vtoc-obtain-requires : tie.Need-vtoc-obtain-requires
+vtoc-obtain-requires c κs = search needs
 
 -- src/lib.rt:35:1
 same-length : tie.Need-same-length
@@ -61,7 +61,7 @@ same-length-2 c = search needs
 
 -- src/lib.rt:35:1
 returns : tie.Need-returns
-returns c = obtains _ (c .before .before .before .before .before .before .before .before .before .before .before .before .before .before .before .before .args .asked .now) (c .before .before .before .before .before .before .before .before .before .before .before .before .before .before .before .before .args .table .now) (c .before .before .before .before .before .before .before .before .before .before .before .before .before .before .before .before .args .answer .now) (c .before .before .before .before .before .before .before .before .before .before .before .before .before .before .before .before .args .labels .now) _ _ _ (c .before .before .before .before .before .before .before .before .before .before .before .table-lent .ensures .0) (c .before .before .before .before .before .before .before .before .before .before .answer-lent .ensures .0) (c .before .before .before .before .before .before .before .before .before .labels-lent .ensures .0) (c .before .before .before .before .before .before .before .name-of .ensures) (c .before .before .before .before .obtain .ensures)
+returns c = obtains _ (c .before .before .before .before .before .before .before .before .before .before .before .before .before .before .before .before .args .asked .now) (c .before .before .before .before .before .before .before .before .before .before .before .before .before .before .before .before .args .table .now) (c .before .before .before .before .before .before .before .before .before .before .before .before .before .before .before .before .args .answer .now) (c .before .before .before .before .before .before .before .before .before .before .before .before .before .before .before .before .args .labels .now) _ _ _ (c .before .before .before .before .before .before .before .before .before .before .before .table-lent .ensures .0) (c .before .before .before .before .before .before .before .before .before .before .answer-lent .ensures .0) (c .before .before .before .before .before .before .before .before .before .labels-lent .ensures .0) (c .before .before .before .before .before .before .before .name-of .ensures) (c .before .before .before .before .vtoc-obtain .ensures)
 
 pub do-obtain-spec : {M : Type 1} → statement M
 do-obtain-spec =
@@ -70,13 +70,13 @@ do-obtain-spec =
     table-lent-requires
     answer-lent-requires
     labels-lent-requires
-    slice-aggregate-obtain
+    slice-aggregate-vtoc-obtain
     name-of-requires
-    slice-relend-prefix-obtain
-    slice-aggregate-obtain-2
-    slice-relend-prefix-obtain-2
-    slice-aggregate-obtain-3
-    obtain-requires
+    slice-relend-prefix-vtoc-obtain
+    slice-aggregate-vtoc-obtain-2
+    slice-relend-prefix-vtoc-obtain-2
+    slice-aggregate-vtoc-obtain-3
+    vtoc-obtain-requires
     same-length
     same-length-2
     returns)
