@@ -4,20 +4,20 @@ use mathlib.Core.Bool.{Bool, true, false, cond}
 use mathlib.Core.Option.{Option, none, some}
 use mathlib.Core.List.{List, _∷_, _++_, append-nil}
 use Prim.Native.Nat.{ℕ, zero, suc, _+_, _-_, _≤_, _<_}
+use native.Mathlib.Nat.{le-trans}
 use native.Mathlib.Omega.{arith}
-use lib.ListN.{length, take, length-append, length-take}
+use lib.ListN.{length, length-append, length-take}
 use lib.Dec.{leb, ltb, eqb}
 use borrow.Author.Tests.{leb-true, leb-false, le-leb, lt-leb, ltb-true}
 use Rattle.model.specs.Basics.{bit, flat, sumOf}
 use Rattle.model.specs.Model.{Extent, Geometry, Label, Run, Volume, fivesFor, format0s, free, held, oneSlot, slots, slotsOf, tally, times, unused, used}
 use Rattle.model.proofs.Lists.{All, by, find-All, sum-take}
 use Rattle.rules.specs.Full.{NoneExactly, fivesNeeded, format1s, format3s, freed, full, members, needed}
-use Rattle.rules.specs.Slots.{askedBy, asks, fewExtents, found, insertLabel, kept3, placed, settle, settleWith, withExtents, without}
+use Rattle.rules.specs.Slots.{askedBy, asks, fewExtents, found, insertLabel, kept3, keptFives, placed, settle, settleWith, stillUsed, withExtents, without}
 use Rattle.rules.specs.Table.{named}
 use Rattle.rules.proofs.Counted.{slotsIn, unused-length, used-length}
 use Rattle.rules.proofs.Labels.{without-sum}
 use Rattle.rules.proofs.Placed.{kept-le}
-use Rattle.rules.proofs.ScratchFits.{scratch-fits}
 use Rattle.rules.proofs.Settle.{free-same, used-tally}
 use Rattle.rules.proofs.Valid.{GoodLabel, Valid, held-times, slots-tally}
 
@@ -33,10 +33,10 @@ pub settle-none : (g : Geometry) (chain : List ℕ) (draft : List Label) (asked 
 unfolding settle
 settle-none g chain draft asked finish once inside =
     let need : ℕ = fivesFor (length (free g draft)) in
-    let kept : List ℕ = take (fivesFor (length (free g draft))) chain in
-    let empty : List ℕ = unused (slots g) (used draft (take (fivesFor (length (free g draft))) chain)) in
-    let a = unused-length (slots g) (used draft kept) (λ k. less k (once k)) (λ k u. gone k (inside k u)) in
-    let b = used-length draft kept in
+    let kept : List ℕ = keptFives g chain draft in
+    let empty : List ℕ = unused (slots g) (stillUsed g chain draft) in
+    let a = unused-length (slots g) (stillUsed g chain draft) (λ k. less k (once k)) (λ k u. gone k (inside k u)) in
+    let b = used-length draft (keptFives g chain draft) in
     let c = length-take (fivesFor (length (free g draft))) chain in
     by (leb (asked + (need - length kept)) (length empty))
     (λ h.
@@ -48,19 +48,18 @@ settle-none g chain draft asked finish once inside =
     let u : length empty < asked + (need - length kept) = leb-false _ _ h in
     (λ e. le-leb (suc (slots g)) (records g draft asked) (omega arith), λ e. rw h))
   where
-    less : (k : ℕ) → tally k (used draft chain) ≤ 1 → tally k (used draft (take (fivesFor (length (free g draft))) chain)) ≤ 1
-    less k h =
-        let x = used-tally draft (take (fivesFor (length (free g draft))) chain) k in
+    still : (k : ℕ) → tally k (stillUsed g chain draft) ≤ tally k (used draft chain)
+    still k =
+        let x = used-tally draft (keptFives g chain draft) k in
         let y = used-tally draft chain k in
         let s = sum-take (λ x. bit (eqb x k)) (fivesFor (length (free g draft))) chain in
         omega arith
 
-    gone : (k : ℕ) → tally k (used draft chain) ≡ 0 → tally k (used draft (take (fivesFor (length (free g draft))) chain)) ≡ 0
-    gone k h =
-        let x = used-tally draft (take (fivesFor (length (free g draft))) chain) k in
-        let y = used-tally draft chain k in
-        let s = sum-take (λ x. bit (eqb x k)) (fivesFor (length (free g draft))) chain in
-        omega arith
+    less : (k : ℕ) → tally k (used draft chain) ≤ 1 → tally k (stillUsed g chain draft) ≤ 1
+    less k h = le-trans (still k) h
+
+    gone : (k : ℕ) → tally k (used draft chain) ≡ 0 → tally k (stillUsed g chain draft) ≡ 0
+    gone k h = let x = still k in omega arith
 
 -- ---- how many slots a label has, and asks for
 
@@ -220,8 +219,8 @@ module _ (v : Volume) (h : Valid v) (n : List ℕ) (l : Label) (f : found v n �
       → NoneExactly (settleWith v rest (withExtents es ttr l)) (full v rest (some l) (some (withExtents es ttr l)))
   changed-full es ttr = full-exactly v h rest (some l) found-parts (withExtents es ttr l) (sym (append-nil (slotsOf l)))
 
-  -- scratch: the label found goes
-  scratch-full : NoneExactly (settle (v .geometry) (v .chain) rest 0 (λ ks. rest)) (full v rest (some l) none)
+  -- scratch: the label found goes. It never is full: ScratchFits
+  pub scratch-full : NoneExactly (settle (v .geometry) (v .chain) rest 0 (λ ks. rest)) (full v rest (some l) none)
   scratch-full =
       settle-full v h rest (some l) none found-parts rest 0 (λ ks. rest) (λ t. refl)
       (λ k.
@@ -230,7 +229,3 @@ module _ (v : Volume) (h : Valid v) (n : List ℕ) (l : Label) (f : found v n �
       let c = without-sum (λ m. tally k (slotsOf m)) n (v .labels) l (h .differ) f in
       omega arith)
       (omega arith)
-
-  -- and it never is full
-  pub scratch-not-full : full v rest (some l) none ≡ false
-  scratch-not-full = by (full v rest (some l) none) (λ e. absurd (scratch-fits v h n l f (scratch-full .1 e))) (λ e. e)
