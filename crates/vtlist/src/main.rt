@@ -22,7 +22,8 @@ fn read_rest() {
     }
 }
 
-// No table is longer than 65,520 bytes: of a longer input the first 65,536 bytes are refused as the whole would be.
+// No table is longer than 65,520 bytes: of a longer input the first 65,536 bytes are listed as the whole would be (rules'
+// `listing-cut`).
 fn main() {
     let mut table = io::large_buffer();
     let n = io::read_full(STDIN_FILENO, &mut table);

@@ -1,0 +1,126 @@
+-- No call answers a refusal that document 01 does not give it (specs/Refusals), on any buffers. Assumes nothing.
+use mathlib.Core.Path.{_≡_, refl, subst}
+use mathlib.Core.Bool.{Bool, true, false, _&&_}
+use mathlib.Core.Option.{Option, none, some}
+use mathlib.Core.List.{List, _∷_, _++_}
+use Prim.Native.Nat.{ℕ, _+_, _-_, _*_, _/_}
+use lib.ListN.{length}
+use lib.Dec.{eqb, leb}
+use Rattle.model.specs.Model.{Geometry, Label, Volume, overs, runsOf, slots, total}
+use Rattle.model.proofs.Lists.{by, clash, true-is}
+use Rattle.rules.specs.Calls.{Call, Outcome, Reply, accept, allocate, allocateAmount, allocatePieces, amountOf, extend, extendPieces, extendSet, given, givenBack, goodTtr, grant, granted, inRange, keep, lspace, newSet, obtain, obtainSet, refuse, release, releaseSet, removeSet, rename, renameSet, rule, scratch, secondaryOf, settled, unless}
+use Rattle.rules.specs.Entries.{Lent, goodLengths, initialise, perform, written}
+use Rattle.rules.specs.Reading.{read}
+use Rattle.rules.specs.Refusals.{OneOf, ZeroOr, refusals, refusalsOfInitialise}
+use Rattle.rules.specs.Slots.{added, changed, found, isNew, removed, withExtents}
+use Rattle.rules.specs.Table.{goodName, limits, taken}
+use Rattle.rules.proofs.ScratchFits.{scratch-fits}
+use Rattle.rules.proofs.Taken.{taken-is}
+use Rattle.rules.proofs.Valid.{Valid}
+
+-- ---- step by step: an outcome is accepted, or refused with a number of the list
+
+abbrev Within : Call → Outcome → Type 0
+Within c (refuse n) = OneOf (refusals c) n
+Within c (accept r w) = Unit {0}
+
+record Listed (c : Call) (o : Outcome) : Type 0 where
+  within : Within c o
+
+module _ {c : Call} where
+  refused : {n : ℕ} → OneOf (refusals c) n → Listed c (refuse n)
+  refused m = record { within = m }
+
+  accepted : {r : Reply} {w : Volume} → Listed c (accept r w)
+  accepted = record { within = tt }
+
+  listed-unless : (b : Bool) (n : ℕ) (o : Outcome) → OneOf (refusals c) n → Listed c o → Listed c (unless b n o)
+  listed-unless true n o m h = h
+  listed-unless false n o m h = refused m
+
+  listed-given : {A : Type 0} (o : Option A) (n : ℕ) (k : A → Outcome) → (o ≡ none → OneOf (refusals c) n)
+      → ((a : A) → o ≡ some a → Listed c (k a)) → Listed c (given o n k)
+  listed-given none n k m h = refused (m refl)
+  listed-given (some a) n k m h = h a refl
+
+  listed-settled : (r : Reply) (o : Option Volume) → (o ≡ none → OneOf (refusals c) 11) → Listed c (settled r o)
+  listed-settled r o m = listed-given o 11 (accept r) m (λ w e. accepted)
+
+-- ---- the rules, step by step as Calls has them: `refl` says that the refusal there is one of the call's
+
+-- a call on the data set of a name
+listed-named : (v : Volume) (c : Call) (n : List ℕ) (k : Label → Outcome) → OneOf (refusals c) 4 → OneOf (refusals c) 5
+    → ((l : Label) → found v n ≡ some l → Listed c (k l)) → Listed c (unless (goodName n) 4 (given (found v n) 5 k))
+listed-named v c n k four five h = listed-unless (goodName n) _ _ four (listed-given (found v n) _ k (λ _. five) h)
+
+rule-listed : (v : Volume) → Valid v → (c : Call) → Listed c (rule v c)
+unfolding rule
+rule-listed v h (allocate q) =
+    listed-unless (goodName (q .name)) _ _ refl
+    (listed-given (amountOf (q .kind) (q .start) (q .amount)) _ (allocateAmount v q) (λ _. refl)
+    (λ a e.
+    listed-unless (inRange (v .geometry) (q .secondary) a) _ _ refl
+    (listed-unless (isNew v (q .name)) _ _ refl
+    (listed-given (grant (v .geometry) (v .labels) a) _ (allocatePieces v q a) (λ _. refl)
+    (λ es e. listed-settled (granted (overs es)) (added v (newSet q a es)) (λ _. refl))))))
+rule-listed v h (extend n) =
+    listed-named v (extend n) n (extendSet v n) refl refl
+    (λ l e.
+    listed-unless (leb 1 (l .secondary)) _ _ refl
+    (listed-given (grant (v .geometry) (v .labels) (secondaryOf l)) _ (extendPieces v n l) (λ _. refl)
+    (λ es e.
+    listed-unless (leb (length (l .extents) + length es) 16) _ _ refl
+    (listed-settled (granted (overs es)) (changed v n (withExtents (l .extents ++ es) (l .ttr) l)) (λ _. refl)))))
+rule-listed v h (release n ttr) =
+    listed-named v (release n ttr) n (releaseSet v n ttr) refl refl
+    (λ l e.
+    listed-unless (goodTtr ttr (total (runsOf l))) _ _ refl
+    (listed-settled (givenBack (total (runsOf l) - (ttr / 256 + 1))) (changed v n (withExtents (keep (ttr / 256 + 1) (l .extents)) ttr l)) (λ _. refl)))
+rule-listed v h (scratch n) =
+    listed-named v (scratch n) n (removeSet v n) refl refl
+    (λ l e. listed-settled (givenBack (total (runsOf l))) (removed v n) (λ full. absurd (scratch-fits v h n l e full)))
+rule-listed v h (rename old new) =
+    listed-unless (goodName old && goodName new) _ _ refl
+    (listed-given (found v old) _ (renameSet v old new) (λ _. refl) (λ l e. listed-unless (isNew v new) _ _ refl accepted))
+rule-listed v h (obtain n) = listed-named v (obtain n) n (obtainSet v) refl refl (λ l e. accepted)
+rule-listed v h lspace = accepted
+
+-- ---- the entry points
+
+-- every call checks lengths and the table first
+begins : (c : Call) → (own : List ℕ) × (refusals c ≡ 2 ∷ 3 ∷ own)
+begins (allocate q) = (_, refl)
+begins (extend n) = (_, refl)
+begins (release n ttr) = (_, refl)
+begins (scratch n) = (_, refl)
+begins (rename old new) = (_, refl)
+begins (obtain n) = (_, refl)
+begins lspace = (_, refl)
+
+written-listed : (c : Call) (b : Lent) (o : Outcome) → Listed c o → ZeroOr (refusals c) (written b o .number)
+written-listed c b (refuse n) h = by (eqb n 0) (λ e. rw e) (λ e. rw e (h .within))
+written-listed c b (accept r w) h = refl
+
+-- A CALL ANSWERS 0 OR ONE OF ITS REFUSALS, ON ANY BUFFERS
+pub refusals-listed : (b : Lent) (c : Call) → ZeroOr (refusals c) (perform b c .number)
+unfolding perform
+refusals-listed b c =
+    by (goodLengths b c)
+    (λ u.
+    by (taken (b .table))
+    (λ t.
+    let good : Valid (read (b .table)) = taken-is (b .table) (true-is t) .0 in
+    rw (u, t) (written-listed c b (rule (read (b .table)) c) (rule-listed (read (b .table)) good c)))
+    (λ t. rw (u, t, begins c .1)))
+    (λ u. rw (u, begins c .1))
+
+pub initialise-listed : (g : Geometry) (b : Lent) → ZeroOr refusalsOfInitialise (initialise g b .number)
+unfolding initialise
+initialise-listed g b =
+    by (limits g)
+    (λ l. by (eqb (length (b .table)) (slots g * 140) && eqb (length (b .answer)) 24) (λ u. rw (l, u)) (λ u. rw (l, u)))
+    (λ l. rw l)
+
+-- so a scratch is never refused for a full VTOC
+pub scratch-answers : (b : Lent) (n : List ℕ) → perform b (scratch n) .number ≡ 11 → ⊥
+scratch-answers b n e = clash (subst (ZeroOr (refusals (scratch n))) e (refusals-listed b (scratch n))) refl

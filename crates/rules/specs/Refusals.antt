@@ -1,0 +1,30 @@
+-- Which refusals each call may answer, in the order in which document 01 checks them: proofs/Refusals. Assumes nothing.
+use mathlib.Core.Path.{_≡_}
+use Prim.Native.Nat.{ℕ}
+use mathlib.Core.Bool.{true}
+use mathlib.Core.List.{List, [], _∷_}
+use lib.Dec.{eqb}
+use Rattle.model.specs.Basics.{any}
+use Rattle.rules.specs.Calls.{Call, allocate, extend, lspace, obtain, release, rename, scratch}
+
+-- "Checked in order: initialise 1, 2"
+abbrev pub refusalsOfInitialise : List ℕ
+refusalsOfInitialise = 1 ∷ 2 ∷ []
+
+-- "allocate 2, 3, 4, 7, 6, 9, 11; extend 2, 3, 4, 5, 8, 9, 10, 11; release 2, 3, 4, 5, 12, 11; scratch and obtain 2, 3, 4, 5;
+-- rename 2, 3, 4 (either name), 5, 6; LSPACE 2, 3"
+abbrev pub refusals : Call → List ℕ
+refusals (allocate q) = 2 ∷ 3 ∷ 4 ∷ 7 ∷ 6 ∷ 9 ∷ 11 ∷ []
+refusals (extend n) = 2 ∷ 3 ∷ 4 ∷ 5 ∷ 8 ∷ 9 ∷ 10 ∷ 11 ∷ []
+refusals (release n ttr) = 2 ∷ 3 ∷ 4 ∷ 5 ∷ 12 ∷ 11 ∷ []
+refusals (scratch n) = 2 ∷ 3 ∷ 4 ∷ 5 ∷ []
+refusals (rename old new) = 2 ∷ 3 ∷ 4 ∷ 5 ∷ 6 ∷ []
+refusals (obtain n) = 2 ∷ 3 ∷ 4 ∷ 5 ∷ []
+refusals lspace = 2 ∷ 3 ∷ []
+
+abbrev pub OneOf : List ℕ → ℕ → Type 0
+OneOf ns n = any (eqb n) ns ≡ true
+
+-- "the result is 0 or the refusal"
+abbrev pub ZeroOr : List ℕ → ℕ → Type 0
+ZeroOr ns n = OneOf (0 ∷ ns) n
