@@ -6,10 +6,11 @@ use Rattle.model.specs.Model.{format0s, free, gaps, held, unused, used}
 use Rattle.rules.specs.Calls.{allocate, extend, grant, lspace, obtain, release, rename, rule, scratch}
 use Rattle.rules.specs.Entries.{goodLengths, initialise, perform}
 use Rattle.rules.specs.Layout.{encode, extentPart, format1, format3, format4, format5, records}
+use Rattle.rules.specs.Listing.{listing, printable}
 use Rattle.rules.specs.Reading.{read, readExtents, readGeometry, readLabel, readRecords}
 use Rattle.rules.specs.Slots.{settle}
 use Rattle.rules.specs.Table.{goodLabel, goodLength, goodName, limits, taken, valid}
-use Rattle.cases.specs.Check.{Row, attr, attrN, begin, build, hurt, nm, no, ok, okLabels, raw, right, sized}
+use Rattle.cases.specs.Check.{Row, attr, attrN, begin, beginSized, build, hurt, listed, nm, no, ok, okLabels, parts, raw, right, sized}
 
 -- Volume A, step by step; after step 3, damaged copies of it
 
@@ -72,7 +73,7 @@ sequence1 =
     ∷ []
 
 pub case1 : T (right [] sequence1)
-unfolding held gaps free used unused format0s choose extentPart format4 format5 format1 format3 records encode readGeometry readExtents readLabel readRecords read goodName limits goodLabel valid taken goodLength settle grant rule goodLengths perform initialise
+unfolding held gaps free used unused format0s choose extentPart format4 format5 format1 format3 records encode readGeometry readExtents readLabel readRecords read goodName limits goodLabel valid taken goodLength settle grant rule goodLengths perform initialise printable listing
 case1 = tt
 
 -- Geometries refused, and a table that is not there
@@ -95,7 +96,7 @@ sequence2 =
     ∷ []
 
 pub case2 : T (right [] sequence2)
-unfolding held gaps free used unused format0s choose extentPart format4 format5 format1 format3 records encode readGeometry readExtents readLabel readRecords read goodName limits goodLabel valid taken goodLength settle grant rule goodLengths perform initialise
+unfolding held gaps free used unused format0s choose extentPart format4 format5 format1 format3 records encode readGeometry readExtents readLabel readRecords read goodName limits goodLabel valid taken goodLength settle grant rule goodLengths perform initialise printable listing
 case2 = tt
 
 -- H = 1, D = 1, the VTOC from track 2
@@ -118,7 +119,7 @@ sequence3 =
     ∷ []
 
 pub case3 : T (right [] sequence3)
-unfolding held gaps free used unused format0s choose extentPart format4 format5 format1 format3 records encode readGeometry readExtents readLabel readRecords read goodName limits goodLabel valid taken goodLength settle grant rule goodLengths perform initialise
+unfolding held gaps free used unused format0s choose extentPart format4 format5 format1 format3 records encode readGeometry readExtents readLabel readRecords read goodName limits goodLabel valid taken goodLength settle grant rule goodLengths perform initialise printable listing
 case3 = tt
 
 -- The VTOC in the middle of the volume, from inside a cylinder
@@ -140,7 +141,7 @@ sequence4 =
     ∷ []
 
 pub case4 : T (right [] sequence4)
-unfolding held gaps free used unused format0s choose extentPart format4 format5 format1 format3 records encode readGeometry readExtents readLabel readRecords read goodName limits goodLabel valid taken goodLength settle grant rule goodLengths perform initialise
+unfolding held gaps free used unused format0s choose extentPart format4 format5 format1 format3 records encode readGeometry readExtents readLabel readRecords read goodName limits goodLabel valid taken goodLength settle grant rule goodLengths perform initialise printable listing
 case4 = tt
 
 -- Nothing free at all
@@ -159,7 +160,7 @@ sequence5 =
     ∷ []
 
 pub case5 : T (right [] sequence5)
-unfolding held gaps free used unused format0s choose extentPart format4 format5 format1 format3 records encode readGeometry readExtents readLabel readRecords read goodName limits goodLabel valid taken goodLength settle grant rule goodLengths perform initialise
+unfolding held gaps free used unused format0s choose extentPart format4 format5 format1 format3 records encode readGeometry readExtents readLabel readRecords read goodName limits goodLabel valid taken goodLength settle grant rule goodLengths perform initialise printable listing
 case5 = tt
 
 -- Three records: one set, and the VTOC is full
@@ -180,7 +181,7 @@ sequence6 =
     ∷ []
 
 pub case6 : T (right [] sequence6)
-unfolding held gaps free used unused format0s choose extentPart format4 format5 format1 format3 records encode readGeometry readExtents readLabel readRecords read goodName limits goodLabel valid taken goodLength settle grant rule goodLengths perform initialise
+unfolding held gaps free used unused format0s choose extentPart format4 format5 format1 format3 records encode readGeometry readExtents readLabel readRecords read goodName limits goodLabel valid taken goodLength settle grant rule goodLengths perform initialise printable listing
 case6 = tt
 
 -- Slots on several tracks; the lowest free one is taken
@@ -200,7 +201,7 @@ sequence7 =
     ∷ []
 
 pub case7 : T (right [] sequence7)
-unfolding held gaps free used unused format0s choose extentPart format4 format5 format1 format3 records encode readGeometry readExtents readLabel readRecords read goodName limits goodLabel valid taken goodLength settle grant rule goodLengths perform initialise
+unfolding held gaps free used unused format0s choose extentPart format4 format5 format1 format3 records encode readGeometry readExtents readLabel readRecords read goodName limits goodLabel valid taken goodLength settle grant rule goodLengths perform initialise printable listing
 case7 = tt
 
 -- The shortest that fits, the lowest on ties, its first part
@@ -222,7 +223,7 @@ sequence8 =
     ∷ []
 
 pub case8 : T (right [] sequence8)
-unfolding held gaps free used unused format0s choose extentPart format4 format5 format1 format3 records encode readGeometry readExtents readLabel readRecords read goodName limits goodLabel valid taken goodLength settle grant rule goodLengths perform initialise
+unfolding held gaps free used unused format0s choose extentPart format4 format5 format1 format3 records encode readGeometry readExtents readLabel readRecords read goodName limits goodLabel valid taken goodLength settle grant rule goodLengths perform initialise printable listing
 case8 = tt
 
 -- Two to five pieces, the longest first; six holes are too many
@@ -247,7 +248,7 @@ sequence9 =
     ∷ []
 
 pub case9 : T (right [] sequence9)
-unfolding held gaps free used unused format0s choose extentPart format4 format5 format1 format3 records encode readGeometry readExtents readLabel readRecords read goodName limits goodLabel valid taken goodLength settle grant rule goodLengths perform initialise
+unfolding held gaps free used unused format0s choose extentPart format4 format5 format1 format3 records encode readGeometry readExtents readLabel readRecords read goodName limits goodLabel valid taken goodLength settle grant rule goodLengths perform initialise printable listing
 case9 = tt
 
 -- Extend in two to five pieces
@@ -277,7 +278,7 @@ sequence10 =
     ∷ []
 
 pub case10 : T (right [] sequence10)
-unfolding held gaps free used unused format0s choose extentPart format4 format5 format1 format3 records encode readGeometry readExtents readLabel readRecords read goodName limits goodLabel valid taken goodLength settle grant rule goodLengths perform initialise
+unfolding held gaps free used unused format0s choose extentPart format4 format5 format1 format3 records encode readGeometry readExtents readLabel readRecords read goodName limits goodLabel valid taken goodLength settle grant rule goodLengths perform initialise printable listing
 case10 = tt
 
 -- Sixteen extents and no more
@@ -307,7 +308,7 @@ sequence11 =
     ∷ []
 
 pub case11 : T (right [] sequence11)
-unfolding held gaps free used unused format0s choose extentPart format4 format5 format1 format3 records encode readGeometry readExtents readLabel readRecords read goodName limits goodLabel valid taken goodLength settle grant rule goodLengths perform initialise
+unfolding held gaps free used unused format0s choose extentPart format4 format5 format1 format3 records encode readGeometry readExtents readLabel readRecords read goodName limits goodLabel valid taken goodLength settle grant rule goodLengths perform initialise printable listing
 case11 = tt
 
 -- Cylinders are whole ones, compared in cylinders
@@ -332,7 +333,7 @@ sequence12 =
     ∷ []
 
 pub case12 : T (right [] sequence12)
-unfolding held gaps free used unused format0s choose extentPart format4 format5 format1 format3 records encode readGeometry readExtents readLabel readRecords read goodName limits goodLabel valid taken goodLength settle grant rule goodLengths perform initialise
+unfolding held gaps free used unused format0s choose extentPart format4 format5 format1 format3 records encode readGeometry readExtents readLabel readRecords read goodName limits goodLabel valid taken goodLength settle grant rule goodLengths perform initialise printable listing
 case12 = tt
 
 -- Absolute tracks in every place of a free extent
@@ -354,7 +355,7 @@ sequence13 =
     ∷ []
 
 pub case13 : T (right [] sequence13)
-unfolding held gaps free used unused format0s choose extentPart format4 format5 format1 format3 records encode readGeometry readExtents readLabel readRecords read goodName limits goodLabel valid taken goodLength settle grant rule goodLengths perform initialise
+unfolding held gaps free used unused format0s choose extentPart format4 format5 format1 format3 records encode readGeometry readExtents readLabel readRecords read goodName limits goodLabel valid taken goodLength settle grant rule goodLengths perform initialise printable listing
 case13 = tt
 
 -- Release inside and at the end of an extent, with and without its format 3
@@ -380,7 +381,7 @@ sequence14 =
     ∷ []
 
 pub case14 : T (right [] sequence14)
-unfolding held gaps free used unused format0s choose extentPart format4 format5 format1 format3 records encode readGeometry readExtents readLabel readRecords read goodName limits goodLabel valid taken goodLength settle grant rule goodLengths perform initialise
+unfolding held gaps free used unused format0s choose extentPart format4 format5 format1 format3 records encode readGeometry readExtents readLabel readRecords read goodName limits goodLabel valid taken goodLength settle grant rule goodLengths perform initialise printable listing
 case14 = tt
 
 -- Lengths of every buffer
@@ -414,7 +415,7 @@ sequence15 =
     ∷ []
 
 pub case15 : T (right [] sequence15)
-unfolding held gaps free used unused format0s choose extentPart format4 format5 format1 format3 records encode readGeometry readExtents readLabel readRecords read goodName limits goodLabel valid taken goodLength settle grant rule goodLengths perform initialise
+unfolding held gaps free used unused format0s choose extentPart format4 format5 format1 format3 records encode readGeometry readExtents readLabel readRecords read goodName limits goodLabel valid taken goodLength settle grant rule goodLengths perform initialise printable listing
 case15 = tt
 
 -- Names against the rule
@@ -445,7 +446,7 @@ sequence16 =
     ∷ []
 
 pub case16 : T (right [] sequence16)
-unfolding held gaps free used unused format0s choose extentPart format4 format5 format1 format3 records encode readGeometry readExtents readLabel readRecords read goodName limits goodLabel valid taken goodLength settle grant rule goodLengths perform initialise
+unfolding held gaps free used unused format0s choose extentPart format4 format5 format1 format3 records encode readGeometry readExtents readLabel readRecords read goodName limits goodLabel valid taken goodLength settle grant rule goodLengths perform initialise printable listing
 case16 = tt
 
 -- Kinds, amounts and TTRs out of their ranges
@@ -475,7 +476,7 @@ sequence17 =
     ∷ []
 
 pub case17 : T (right [] sequence17)
-unfolding held gaps free used unused format0s choose extentPart format4 format5 format1 format3 records encode readGeometry readExtents readLabel readRecords read goodName limits goodLabel valid taken goodLength settle grant rule goodLengths perform initialise
+unfolding held gaps free used unused format0s choose extentPart format4 format5 format1 format3 records encode readGeometry readExtents readLabel readRecords read goodName limits goodLabel valid taken goodLength settle grant rule goodLengths perform initialise printable listing
 case17 = tt
 
 -- Where several refusals apply, the first of them
@@ -507,7 +508,7 @@ sequence18 =
     ∷ []
 
 pub case18 : T (right [] sequence18)
-unfolding held gaps free used unused format0s choose extentPart format4 format5 format1 format3 records encode readGeometry readExtents readLabel readRecords read goodName limits goodLabel valid taken goodLength settle grant rule goodLengths perform initialise
+unfolding held gaps free used unused format0s choose extentPart format4 format5 format1 format3 records encode readGeometry readExtents readLabel readRecords read goodName limits goodLabel valid taken goodLength settle grant rule goodLengths perform initialise printable listing
 case18 = tt
 
 -- Damaged tables with a format 3
@@ -544,7 +545,7 @@ sequence19 =
     ∷ []
 
 pub case19 : T (right [] sequence19)
-unfolding held gaps free used unused format0s choose extentPart format4 format5 format1 format3 records encode readGeometry readExtents readLabel readRecords read goodName limits goodLabel valid taken goodLength settle grant rule goodLengths perform initialise
+unfolding held gaps free used unused format0s choose extentPart format4 format5 format1 format3 records encode readGeometry readExtents readLabel readRecords read goodName limits goodLabel valid taken goodLength settle grant rule goodLengths perform initialise printable listing
 case19 = tt
 
 -- 26 free extents and more, and a full VTOC
@@ -611,7 +612,7 @@ sequence20 =
     ∷ []
 
 pub case20 : T (right [] sequence20)
-unfolding held gaps free used unused format0s choose extentPart format4 format5 format1 format3 records encode readGeometry readExtents readLabel readRecords read goodName limits goodLabel valid taken goodLength settle grant rule goodLengths perform initialise
+unfolding held gaps free used unused format0s choose extentPart format4 format5 format1 format3 records encode readGeometry readExtents readLabel readRecords read goodName limits goodLabel valid taken goodLength settle grant rule goodLengths perform initialise printable listing
 case20 = tt
 
 -- Random calls, H = 3
@@ -634,7 +635,7 @@ sequence21 =
     ∷ []
 
 pub case21 : T (right [] sequence21)
-unfolding held gaps free used unused format0s choose extentPart format4 format5 format1 format3 records encode readGeometry readExtents readLabel readRecords read goodName limits goodLabel valid taken goodLength settle grant rule goodLengths perform initialise
+unfolding held gaps free used unused format0s choose extentPart format4 format5 format1 format3 records encode readGeometry readExtents readLabel readRecords read goodName limits goodLabel valid taken goodLength settle grant rule goodLengths perform initialise printable listing
 case21 = tt
 
 -- Random calls, H = 5
@@ -657,5 +658,190 @@ sequence22 =
     ∷ []
 
 pub case22 : T (right [] sequence22)
-unfolding held gaps free used unused format0s choose extentPart format4 format5 format1 format3 records encode readGeometry readExtents readLabel readRecords read goodName limits goodLabel valid taken goodLength settle grant rule goodLengths perform initialise
+unfolding held gaps free used unused format0s choose extentPart format4 format5 format1 format3 records encode readGeometry readExtents readLabel readRecords read goodName limits goodLabel valid taken goodLength settle grant rule goodLengths perform initialise printable listing
 case22 = tt
+
+-- X'81' starts a cylinder and ends one
+
+abbrev pub sequence23 : List Row
+sequence23 =
+    begin 6 4 3 1 2 0 0x7A8069976F8FAB0
+    ∷ ok (allocate (nm (0xE2 ∷ 0xE3 ∷ 0xC1 ∷ 0xD9 ∷ 0xE3 ∷ [])) (attr 1) 2 4 3 0) 0x301000400030000000000000000000000000000000000 0x461BB6BFBDD385D
+    ∷ ok (allocate (nm (0xC5 ∷ 0xD5 ∷ 0xC4 ∷ [])) (attr 2) 2 9 3 0) 0x301000900030000000000000000000000000000000000 0x166BEA77AC8227D
+    ∷ ok (allocate (nm (0xE2 ∷ 0xD3 ∷ 0xC1 ∷ 0xD5 ∷ 0xE3 ∷ [])) (attr 3) 2 13 4 0) 0x401000D00040000000000000000000000000000000000 0xD14E4C007BBD959
+    ∷ ok (allocate (nm (0xE6 ∷ 0xC8 ∷ 0xD6 ∷ 0xD3 ∷ 0xC5 ∷ [])) (attr 4) 2 20 4 0) 0x401001400040000000000000000000000000000000000 0x19FD9DC0401C57C5
+    ∷ hurt ((385, 0x81) ∷ []) lspace 3
+    ∷ hurt ((525, 0x81) ∷ []) lspace 3
+    ∷ hurt ((665, 0x81) ∷ []) lspace 3
+    ∷ hurt ((805, 0x81) ∷ []) lspace 0
+    ∷ []
+
+pub case23 : T (right [] sequence23)
+unfolding held gaps free used unused format0s choose extentPart format4 format5 format1 format3 records encode readGeometry readExtents readLabel readRecords read goodName limits goodLabel valid taken goodLength settle grant rule goodLengths perform initialise printable listing
+case23 = tt
+
+-- First characters, and those beside them
+
+abbrev pub sequence24 : List Row
+sequence24 =
+    begin 2 2 3 1 1 0 0xF39EF9611A36B55
+    ∷ no (scratch (nm (0xC1 ∷ []))) 5
+    ∷ no (scratch (nm (0xC9 ∷ []))) 5
+    ∷ no (scratch (nm (0xD1 ∷ []))) 5
+    ∷ no (scratch (nm (0xD9 ∷ []))) 5
+    ∷ no (scratch (nm (0xE2 ∷ []))) 5
+    ∷ no (scratch (nm (0xE9 ∷ []))) 5
+    ∷ no (scratch (nm (0x5B ∷ []))) 5
+    ∷ no (scratch (nm (0x7B ∷ []))) 5
+    ∷ no (scratch (nm (0x7C ∷ []))) 5
+    ∷ no (scratch (nm (0xC0 ∷ []))) 4
+    ∷ no (scratch (nm (0xCA ∷ []))) 4
+    ∷ no (scratch (nm (0xD0 ∷ []))) 4
+    ∷ no (scratch (nm (0xDA ∷ []))) 4
+    ∷ no (scratch (nm (0xE1 ∷ []))) 4
+    ∷ no (scratch (nm (0xEA ∷ []))) 4
+    ∷ no (scratch (nm (0x5A ∷ []))) 4
+    ∷ no (scratch (nm (0x5C ∷ []))) 4
+    ∷ no (scratch (nm (0x7A ∷ []))) 4
+    ∷ no (scratch (nm (0x7D ∷ []))) 4
+    ∷ no (scratch (nm (0x60 ∷ []))) 4
+    ∷ no (scratch (nm (0x4B ∷ []))) 4
+    ∷ no (scratch (nm [])) 4
+    ∷ no (scratch (nm (0xEF ∷ []))) 4
+    ∷ no (scratch (nm (0xF0 ∷ []))) 4
+    ∷ no (scratch (nm (0xF9 ∷ []))) 4
+    ∷ no (scratch (nm (0xFA ∷ []))) 4
+    ∷ []
+
+pub case24 : T (right [] sequence24)
+unfolding held gaps free used unused format0s choose extentPart format4 format5 format1 format3 records encode readGeometry readExtents readLabel readRecords read goodName limits goodLabel valid taken goodLength settle grant rule goodLengths perform initialise printable listing
+case24 = tt
+
+-- Later characters, and those beside them; a period that ends 44 bytes
+
+abbrev pub sequence25 : List Row
+sequence25 =
+    begin 2 2 3 1 1 0 0xF39EF9611A36B55
+    ∷ no (scratch (nm (0xC1 ∷ 0xC9 ∷ []))) 5
+    ∷ no (scratch (nm (0xC1 ∷ 0xD1 ∷ []))) 5
+    ∷ no (scratch (nm (0xC1 ∷ 0xE9 ∷ []))) 5
+    ∷ no (scratch (nm (0xC1 ∷ 0x7C ∷ []))) 5
+    ∷ no (scratch (nm (0xC1 ∷ 0xF0 ∷ []))) 5
+    ∷ no (scratch (nm (0xC1 ∷ 0xF9 ∷ []))) 5
+    ∷ no (scratch (nm (0xC1 ∷ 0x60 ∷ []))) 5
+    ∷ no (scratch (nm (0xC1 ∷ 0xC0 ∷ []))) 4
+    ∷ no (scratch (nm (0xC1 ∷ 0xCA ∷ []))) 4
+    ∷ no (scratch (nm (0xC1 ∷ 0xD0 ∷ []))) 4
+    ∷ no (scratch (nm (0xC1 ∷ 0xDA ∷ []))) 4
+    ∷ no (scratch (nm (0xC1 ∷ 0xE1 ∷ []))) 4
+    ∷ no (scratch (nm (0xC1 ∷ 0xEA ∷ []))) 4
+    ∷ no (scratch (nm (0xC1 ∷ 0xEF ∷ []))) 4
+    ∷ no (scratch (nm (0xC1 ∷ 0xFA ∷ []))) 4
+    ∷ no (scratch (nm (0xC1 ∷ 0x5F ∷ []))) 4
+    ∷ no (scratch (nm (0xC1 ∷ 0x61 ∷ []))) 4
+    ∷ no (scratch (nm (0xC1 ∷ 0x4B ∷ []))) 4
+    ∷ no (scratch (nm (0xC1 ∷ 0x4A ∷ []))) 4
+    ∷ no (scratch (nm (0xC1 ∷ 0xC1 ∷ 0xC1 ∷ 0xC1 ∷ 0xC1 ∷ 0xC1 ∷ 0xC1 ∷ 0xC1 ∷ 0x4B ∷ 0xC1 ∷ 0xC1 ∷ 0xC1 ∷ 0xC1 ∷ 0xC1 ∷ 0xC1 ∷ 0xC1 ∷ 0xC1 ∷ 0x4B ∷ 0xC1 ∷ 0xC1 ∷ 0xC1 ∷ 0xC1 ∷ 0xC1 ∷ 0xC1 ∷ 0xC1 ∷ 0xC1 ∷ 0x4B ∷ 0xC1 ∷ 0xC1 ∷ 0xC1 ∷ 0xC1 ∷ 0xC1 ∷ 0xC1 ∷ 0xC1 ∷ 0xC1 ∷ 0x4B ∷ 0xC1 ∷ 0xC1 ∷ 0xC1 ∷ 0xC1 ∷ 0xC1 ∷ 0xC1 ∷ 0xC1 ∷ 0xC1 ∷ []))) 5
+    ∷ no (scratch (nm (0xC1 ∷ 0xC1 ∷ 0xC1 ∷ 0xC1 ∷ 0xC1 ∷ 0xC1 ∷ 0xC1 ∷ 0xC1 ∷ 0x4B ∷ 0xC1 ∷ 0xC1 ∷ 0xC1 ∷ 0xC1 ∷ 0xC1 ∷ 0xC1 ∷ 0xC1 ∷ 0xC1 ∷ 0x4B ∷ 0xC1 ∷ 0xC1 ∷ 0xC1 ∷ 0xC1 ∷ 0xC1 ∷ 0xC1 ∷ 0xC1 ∷ 0xC1 ∷ 0x4B ∷ 0xC1 ∷ 0xC1 ∷ 0xC1 ∷ 0xC1 ∷ 0xC1 ∷ 0xC1 ∷ 0xC1 ∷ 0xC1 ∷ 0x4B ∷ 0xC1 ∷ 0xC1 ∷ 0xC1 ∷ 0xC1 ∷ 0xC1 ∷ 0xC1 ∷ 0xC1 ∷ 0x4B ∷ []))) 4
+    ∷ no (scratch (nm (0xC1 ∷ 0xC1 ∷ 0xC1 ∷ 0xC1 ∷ 0xC1 ∷ 0xC1 ∷ 0xC1 ∷ 0xC1 ∷ 0x4B ∷ 0xC1 ∷ 0xC1 ∷ 0xC1 ∷ 0xC1 ∷ 0xC1 ∷ 0xC1 ∷ 0xC1 ∷ 0xC1 ∷ 0x4B ∷ 0xC1 ∷ 0xC1 ∷ 0xC1 ∷ 0xC1 ∷ 0xC1 ∷ 0xC1 ∷ 0xC1 ∷ 0xC1 ∷ 0x4B ∷ 0xC1 ∷ 0xC1 ∷ 0xC1 ∷ 0xC1 ∷ 0xC1 ∷ 0xC1 ∷ 0xC1 ∷ 0xC1 ∷ 0x4B ∷ 0xC1 ∷ 0xC1 ∷ 0xC1 ∷ 0xC1 ∷ 0xC1 ∷ 0xC1 ∷ 0xC1 ∷ []))) 5
+    ∷ []
+
+pub case25 : T (right [] sequence25)
+unfolding held gaps free used unused format0s choose extentPart format4 format5 format1 format3 records encode readGeometry readExtents readLabel readRecords read goodName limits goodLabel valid taken goodLength settle grant rule goodLengths perform initialise printable listing
+case25 = tt
+
+-- Amounts and secondary amounts at their limits
+
+abbrev pub sequence26 : List Row
+sequence26 =
+    begin 4 2 4 1 1 0 0x1B369E71EBD16E27
+    ∷ no (allocate (nm (0xC1 ∷ [])) (attr 1) 1 0 1001 0) 9
+    ∷ no (allocate (nm (0xC1 ∷ [])) (attr 2) 0 0 1001 0) 9
+    ∷ no (allocate (nm (0xC1 ∷ [])) (attr 3) 1 0 65535 0) 9
+    ∷ no (allocate (nm (0xC1 ∷ [])) (attr 4) 0 0 65535 0) 9
+    ∷ no (allocate (nm (0xC1 ∷ [])) (attr 5) 1 0 0 0) 7
+    ∷ no (allocate (nm (0xC1 ∷ [])) (attr 6) 0 0 0 0) 7
+    ∷ no (allocate (nm (0xC1 ∷ [])) (attr 7) 1 0 65536 0) 7
+    ∷ no (allocate (nm (0xC1 ∷ [])) (attr 8) 0 0 65536 0) 7
+    ∷ no (allocate (nm (0xC1 ∷ [])) (attr 9) 1 0 1 16777216) 7
+    ∷ no (allocate (nm (0xC1 ∷ [])) (attr 10) 0 0 1 16777216) 7
+    ∷ ok (allocate (nm (0xC1 ∷ [])) (attr 11) 1 0 1 16777215) 0x201000200020000000000000000000000000000000000 0xA5160EC2A19BC80
+    ∷ ok (allocate (nm (0xC2 ∷ [])) (attr 12) 0 0 1 16777215) 0x101000400010000000000000000000000000000000000 0x1118A8333355ED68
+    ∷ no (extend (nm (0xC1 ∷ []))) 9
+    ∷ []
+
+pub case26 : T (right [] sequence26)
+unfolding held gaps free used unused format0s choose extentPart format4 format5 format1 format3 records encode readGeometry readExtents readLabel readRecords read goodName limits goodLabel valid taken goodLength settle grant rule goodLengths perform initialise printable listing
+case26 = tt
+
+-- Initialise with buffers of other lengths; tables of 2, 468 and 469 records
+
+abbrev pub sequence27 : List Row
+sequence27 =
+    beginSized 4 5 4 1 2 1119 24 2
+    ∷ beginSized 4 5 4 1 2 1121 24 2
+    ∷ beginSized 4 5 4 1 2 0 24 2
+    ∷ beginSized 4 5 4 1 2 1120 23 2
+    ∷ beginSized 4 5 4 1 2 1120 25 2
+    ∷ beginSized 4 5 4 1 2 1120 0 2
+    ∷ begin 2 2 3 1 1 0 0xF39EF9611A36B55
+    ∷ sized 280 24 0 lspace 2
+    ∷ sized 560 24 0 lspace 3
+    ∷ sized 65520 24 0 lspace 3
+    ∷ sized 65660 24 0 lspace 2
+    ∷ []
+
+pub case27 : T (right [] sequence27)
+unfolding held gaps free used unused format0s choose extentPart format4 format5 format1 format3 records encode readGeometry readExtents readLabel readRecords read goodName limits goodLabel valid taken goodLength settle grant rule goodLengths perform initialise printable listing
+case27 = tt
+
+-- Listings: all 41 characters of names; tables that are refused
+
+abbrev pub sequence28 : List Row
+sequence28 =
+    begin 4 3 4 1 2 0 0x12B74DDC0C209218
+    ∷ ok (allocate (nm (0xC1 ∷ 0xC2 ∷ 0xC3 ∷ 0xC4 ∷ 0xC5 ∷ 0xC6 ∷ 0xC7 ∷ 0xC8 ∷ 0x4B ∷ 0xC9 ∷ 0xD1 ∷ 0xD2 ∷ 0xD3 ∷ 0xD4 ∷ 0xD5 ∷ 0xD6 ∷ 0xD7 ∷ 0x4B ∷ 0xD8 ∷ 0xD9 ∷ 0xE2 ∷ 0xE3 ∷ 0xE4 ∷ 0xE5 ∷ 0xE6 ∷ 0xE7 ∷ 0x4B ∷ 0xE8 ∷ 0xE9 ∷ 0xF0 ∷ 0xF1 ∷ 0xF2 ∷ 0xF3 ∷ 0xF4 ∷ 0xF5 ∷ 0x4B ∷ 0x7B ∷ 0xF6 ∷ 0xF7 ∷ 0xF8 ∷ 0xF9 ∷ 0x60 ∷ 0x5B ∷ 0x7C ∷ [])) (attr 1) 0 0 4 0) 0x401000300040000000000000000000000000000000000 0x1E4A0C439C81AE9F
+    ∷ ok (allocate (nm (0x5B ∷ [])) (attr 2) 2 8 1 0) 0x101000800010000000000000000000000000000000000 0x1E3B2ECA2202FD6F
+    ∷ ok (allocate (nm (0x7C ∷ [])) (attr 3) 2 10 1 0) 0x101000A00010000000000000000000000000000000000 0xFAAE32605CAA54A
+    ∷ listed [] 1120 0x19E71294436AE79A
+    ∷ listed ((51, 0x00) ∷ []) 1120 0x46F448A6
+    ∷ listed [] 1260 0x46F448A6
+    ∷ listed [] 1119 0x46F447A5
+    ∷ listed ((51, 0x00) ∷ []) 280 0x46F447A5
+    ∷ listed [] 0 0x46F447A5
+    ∷ []
+
+pub case28 : T (right [] sequence28)
+unfolding held gaps free used unused format0s choose extentPart format4 format5 format1 format3 records encode readGeometry readExtents readLabel readRecords read goodName limits goodLabel valid taken goodLength settle grant rule goodLengths perform initialise printable listing
+case28 = tt
+
+-- A listing with numbers of four and of five digits
+
+abbrev pub sequence29 : List Row
+sequence29 =
+    begin 2469 5 3 1234 2 0 0xE78D96D190556F3
+    ∷ ok (allocate (nm (0xD3 ∷ 0xD6 ∷ 0xD5 ∷ 0xC7 ∷ [])) (attr 1) 0 0 9000 0) 0x23280104D423280000000000000000000000000000000000 0x106851C44B446C47
+    ∷ listed [] 840 0xB4CED4D607B4013
+    ∷ []
+
+pub case29 : T (right [] sequence29)
+unfolding held gaps free used unused format0s choose extentPart format4 format5 format1 format3 records encode readGeometry readExtents readLabel readRecords read goodName limits goodLabel valid taken goodLength settle grant rule goodLengths perform initialise printable listing
+case29 = tt
+
+-- The ten bytes of an extent, or none
+
+abbrev pub sequence30 : List Row
+sequence30 =
+    parts 140 140 0x98E1F3858409312
+    ∷ parts 139 140 0xC79538BFF0E4274
+    ∷ parts 140 139 0xC79538BFF0E4274
+    ∷ parts 141 140 0xC79538BFF0E4274
+    ∷ parts 140 141 0xC79538BFF0E4274
+    ∷ parts 0 140 0xC79538BFF0E4274
+    ∷ parts 140 0 0xC79538BFF0E4274
+    ∷ parts 139 139 0xC79538BFF0E4274
+    ∷ []
+
+pub case30 : T (right [] sequence30)
+unfolding held gaps free used unused format0s choose extentPart format4 format5 format1 format3 records encode readGeometry readExtents readLabel readRecords read goodName limits goodLabel valid taken goodLength settle grant rule goodLengths perform initialise printable listing
+case30 = tt

@@ -2,6 +2,7 @@
 
 mod chains;
 mod damages;
+mod edges;
 mod grants;
 pub mod print;
 mod random;
@@ -33,6 +34,7 @@ pub fn sequences() -> Vec<Sequence> {
     all.extend(damages::sequences());
     all.extend(chains::sequences());
     all.extend(random::sequences());
+    all.extend(edges::sequences());
     all
 }
 
@@ -49,6 +51,7 @@ pub fn coverage(sequences: &[Sequence]) -> Coverage {
             }
             Row::Hurt { call, result, .. } => coverage.count_changed(call, *result),
             Row::Sized { call, result, .. } => coverage.count(call, *result),
+            Row::Listed { .. } | Row::Parts { .. } => {}
         }
     }
     coverage
