@@ -819,9 +819,8 @@ case28 = tt
 
 abbrev pub sequence29 : List Row
 sequence29 =
-    begin 2469 5 3 1234 2 0 0xE78D96D190556F3
-    ∷ ok (allocate (nm (0xD3 ∷ 0xD6 ∷ 0xD5 ∷ 0xC7 ∷ [])) (attr 1) 0 0 9000 0) 0x23280104D423280000000000000000000000000000000000 0x106851C44B446C47
-    ∷ listed [] 840 0xB4CED4D607B4013
+    begin 2053 5 3 1234 2 0 0x182881641D66FF20
+    ∷ listed [] 840 0x16CFC4F91D0A3FD3
     ∷ []
 
 pub case29 : T (right [] sequence29)
