@@ -28,13 +28,19 @@ fn sequence(title: &'static str, play: impl FnOnce(&mut Desk)) -> Sequence {
 
 /// All sequences, always the same.
 pub fn sequences() -> Vec<Sequence> {
+    let mut all = stories();
+    all.extend(edges::sequences());
+    all
+}
+
+/// Those in which volumes live, which the stored recording has too.
+pub fn stories() -> Vec<Sequence> {
     let mut all = volumes::sequences();
     all.extend(grants::sequences());
     all.extend(refusals::sequences());
     all.extend(damages::sequences());
     all.extend(chains::sequences());
     all.extend(random::sequences());
-    all.extend(edges::sequences());
     all
 }
 
