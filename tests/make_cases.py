@@ -9,16 +9,17 @@ IMPORTS = """use mathlib.Core.List.{List, [], _∷_}
 use lib.Dec.{T}
 use Rattle.model.specs.Choice.{choose}
 use Rattle.model.specs.Model.{format0s, free, gaps, held, unused, used}
-use Rattle.rules.specs.Calls.{allocate, extend, grant, lspace, obtain, release, rename, rule, scratch}
+use Rattle.rules.specs.Calls.{allocate, extend, grant, lspace, obtain, release, rename, request, rule, scratch}
 use Rattle.rules.specs.Entries.{goodLengths, initialise, perform}
 use Rattle.rules.specs.Layout.{encode, extentPart, format1, format3, format4, format5, records}
+use Rattle.rules.specs.Listing.{listing, printable}
 use Rattle.rules.specs.Reading.{read, readExtents, readGeometry, readLabel, readRecords}
 use Rattle.rules.specs.Slots.{settle}
 use Rattle.rules.specs.Table.{goodLabel, goodLength, goodName, limits, taken, valid}
-use Rattle.cases.specs.Check.{Row, attr, attrN, begin, build, hurt, nm, no, ok, okLabels, raw, right, sized}"""
+use Rattle.cases.specs.Check.{Row, attr, attrN, begin, beginSized, build, hurt, listed, nm, no, ok, okLabels, parts, raw, right, sized}"""
 UNFOLDED = """held gaps free used unused format0s choose extentPart format4 format5 format1 format3 records encode
 readGeometry readExtents readLabel readRecords read goodName limits goodLabel valid taken goodLength settle grant rule
-goodLengths perform initialise""".replace("\n", " ")
+goodLengths perform initialise printable listing""".replace("\n", " ")
 LONG = 45  # rows: more would pass the checker's limit of steps, so the first calls of such a sequence become one row
 TARGET = "crates/cases/specs/Sample.antt"
 

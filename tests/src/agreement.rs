@@ -3,6 +3,7 @@
 use std::process::ExitCode;
 
 use crate::generate::tables::{every_table, Shown};
+use crate::reference::layout::extent_part;
 use crate::reference::lspace;
 use crate::volumes::ANSWER;
 
@@ -39,6 +40,32 @@ pub fn beside_reference(check: impl Fn(&[u8]) -> u32) -> ExitCode {
     } else {
         ExitCode::FAILURE
     }
+}
+
+/// Asks both for the bytes of extents that there are and that there are not, in records of the right
+/// length and of others.
+pub fn extents_beside_reference(
+    extent: impl Fn(&[u8], &[u8], u32) -> Vec<u8>,
+) -> Result<(), String> {
+    const LENGTHS: [usize; 4] = [0, 139, 140, 141];
+    let bytes: Vec<u8> = (0..=255).chain(0..=25).collect();
+    let mut parts = 0;
+    for (one, three) in LENGTHS.into_iter().flat_map(|one| LENGTHS.map(|three| (one, three))) {
+        // The two differ in every place.
+        let (format_1, format_3) = (&bytes[..one], &bytes[141..141 + three]);
+        for e in (0..=17).chain([255, 256, 65_536, u32::MAX]) {
+            let (given, wanted) =
+                (extent(format_1, format_3, e), extent_part(format_1, format_3, e as usize));
+            if given != wanted {
+                return Err(format!(
+                    "extent {e} of {one} and {three} bytes: {given:?}, not {wanted:?}"
+                ));
+            }
+            parts += usize::from(!given.is_empty());
+        }
+    }
+    println!("extents agree, {parts} with their ten bytes");
+    (parts == 16).then_some(()).ok_or(format!("{parts} extents, not 16"))
 }
 
 impl Counts {

@@ -2,6 +2,8 @@
 //! a row, and each is watched: a refused one must not write a byte.
 
 use crate::call::{Buffers, Call, Reference};
+use crate::reference::layout::extent_part;
+use crate::reference::listing;
 use crate::volumes::name;
 
 /// What came of a call.
@@ -21,6 +23,11 @@ pub enum Row {
     Hurt { patches: Vec<(usize, u8)>, call: Call, result: u32 },
     /// On a copy cut or zero-padded to a length, with output buffers of given lengths.
     Sized { table: usize, answer: usize, labels: usize, call: Call, result: u32 },
+    /// The listing of a copy with these bytes changed, cut or zero-padded to a length.
+    Listed { patches: Vec<(usize, u8)>, table: usize, text: Vec<u8> },
+    /// The ten bytes of each extent number from 0 to 17 in records of these lengths, the number of
+    /// bytes before each.
+    Parts { format_1: usize, format_3: usize, parts: Vec<u8> },
 }
 
 #[derive(Clone, Debug, Default)]
@@ -78,8 +85,7 @@ impl Desk {
 
     /// Makes a call on a damaged copy of the table.
     pub fn hurt(&mut self, damaged: &[u8], call: Call) -> u32 {
-        let pairs = self.table.iter().zip(damaged).enumerate();
-        let patches = pairs.filter(|(_, (a, b))| a != b).map(|(at, (_, &b))| (at, b)).collect();
+        let patches = self.patches(damaged);
         let result = call.run(&Reference, &mut Buffers::new(damaged.to_vec(), 24, 280));
         self.rows.push(Row::Hurt { patches, call, result });
         result
@@ -92,6 +98,30 @@ impl Desk {
         let result = call.run(&Reference, &mut Buffers::new(bytes, answer, labels));
         self.rows.push(Row::Sized { table, answer, labels, call, result });
         result
+    }
+
+    /// Lists a changed copy of the table, cut or zero-padded to a length.
+    pub fn listed(&mut self, changed: &[u8], table: usize) -> String {
+        let patches = self.patches(changed);
+        let mut bytes = changed.to_vec();
+        bytes.resize(table, 0);
+        let text = listing(&bytes);
+        self.rows.push(Row::Listed { patches, table, text: text.clone() });
+        String::from_utf8(text).expect("a listing is ASCII")
+    }
+
+    /// Asks for all extents of two records of these lengths, made as attributes are.
+    pub fn parts(&mut self, format_1: usize, format_3: usize) {
+        let (one, three) = (attributes_of(format_1, 1), attributes_of(format_3, 3));
+        let part = |e| extent_part(&one, &three, e);
+        let parts = (0..18).flat_map(|e| [&[part(e).len() as u8], part(e)].concat()).collect();
+        self.rows.push(Row::Parts { format_1, format_3, parts });
+    }
+
+    /// The places where the table is changed, with their new bytes.
+    fn patches(&self, changed: &[u8]) -> Vec<(usize, u8)> {
+        let pairs = self.table.iter().zip(changed).enumerate();
+        pairs.filter(|(_, (a, b))| a != b).map(|(at, (_, &b))| (at, b)).collect()
     }
 
     #[track_caller]

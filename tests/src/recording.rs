@@ -2,7 +2,7 @@
 //! damaged tables.
 
 use crate::call::{Call, Reference};
-use crate::cases::sequences;
+use crate::cases::stories;
 use crate::coverage::Coverage;
 use crate::desk::Row;
 use crate::generate::rng::Rng;
@@ -96,7 +96,7 @@ impl Recording {
 
     /// The scripted sequences: Volume A, grants, refusals, chains, damaged tables.
     fn scripted(&mut self) {
-        for row in sequences().iter().flat_map(|sequence| &sequence.desk.rows) {
+        for row in stories().iter().flat_map(|sequence| &sequence.desk.rows) {
             match row {
                 Row::Made { call, before, .. } => {
                     self.table_len = before.len();
@@ -113,9 +113,10 @@ impl Recording {
                         self.call(call, &record, Origin::Probe);
                     }
                 }
+                Row::Listed { .. } | Row::Parts { .. } => {}
             }
         }
-        // Initialise with a wrong length, which no sequence has.
+        // Initialise with a wrong length, which none of these has.
         let call = Call::Initialise { c: 4, h: 5, d: 4, s: 1, v: 2 };
         for (table, answer) in [(1119, 24), (1121, 24), (0, 24), (1120, 23), (1120, 25), (1120, 0)]
         {

@@ -19,10 +19,10 @@ fn digests() {
 #[test]
 fn all_is_covered() {
     let sequences = sequences();
-    assert_eq!(coverage(&sequences).missing(&[(0, 2)]), [""; 0]);
-    assert!((20..=25).contains(&sequences.len()));
+    assert_eq!(coverage(&sequences).missing(&[]), [""; 0]);
+    assert!((20..=32).contains(&sequences.len()));
     let rows: usize = sequences.iter().map(|sequence| sequence.desk.rows.len()).sum();
-    assert!((300..=450).contains(&rows), "{rows} rows");
+    assert!((300..=550).contains(&rows), "{rows} rows");
     let small = sequences.iter().filter(|s| size(s).0 <= 60 && size(s).1 <= 16).count();
     assert!(small + 2 >= sequences.len(), "more than two sequences on large volumes");
 }
@@ -48,6 +48,10 @@ fn rows_as_agreed() {
     damaged[280] = 0x41;
     desk.hurt(&damaged, Call::Obtain { name: name("AB").to_vec() });
     desk.sized(1119, 24, 280, Call::Rename { old: vec![0xC1; 3], new: vec![0xC2; 44] });
+    desk.sized(1120, 23, 0, Call::Initialise { c: 4, h: 5, d: 4, s: 1, v: 2 });
+    assert_eq!(desk.listed(&damaged, 1120), "E 3\n");
+    assert_eq!(desk.listed(&desk.table.clone(), 0), "E 2\n");
+    desk.parts(140, 139);
     let text = print::sequence("sequence9", "Title", &desk);
     let lines: Vec<&str> = text.lines().collect();
     assert_eq!(lines[..4], ["", "-- Title", "abbrev pub sequence9 : List Row", "sequence9 ="]);
@@ -64,5 +68,10 @@ fn rows_as_agreed() {
     assert_eq!(lines[10], format!("    ∷ hurt {patches} {obtain} 3"));
     let old = "(raw 3 (0xC1 ∷ 0xC1 ∷ 0xC1 ∷ []))";
     assert!(lines[11].starts_with(&format!("    ∷ sized 1119 24 280 (rename {old} (nm (0xC2")));
-    assert_eq!(lines[12], "    ∷ []");
+    assert_eq!(lines[12], "    ∷ beginSized 4 5 4 1 2 1120 23 2");
+    let (unsound, length) = (print::digest(b"E 3\n"), print::digest(b"E 2\n"));
+    assert_eq!(lines[13], format!("    ∷ listed {patches} 1120 {unsound:#X}"));
+    assert_eq!(lines[14], format!("    ∷ listed [] 0 {length:#X}"));
+    assert_eq!(lines[15], format!("    ∷ parts 140 139 {:#X}", print::digest(&[0; 18])));
+    assert_eq!(lines[16], "    ∷ []");
 }

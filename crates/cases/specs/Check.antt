@@ -4,24 +4,30 @@ use mathlib.Core.Bool.{Bool, true, _&&_}
 use mathlib.Core.List.{List, [], _∷_, _++_, map}
 use lib.ListN.{length, take, set, replicate}
 use lib.Dec.{eqb}
-use Rattle.model.specs.Basics.{fill, same, upFrom}
+use Rattle.model.specs.Basics.{fill, flat, same, upFrom}
 use Rattle.model.specs.Model.{Volume, slots}
 use Rattle.rules.specs.Calls.{Call, Outcome, accept, allocate, extend, lspace, obtain, refuse, release, rename, rule, scratch}
 use Rattle.rules.specs.Contracts.{geometry}
 use Rattle.rules.specs.Entries.{Lent, Result, fresh, initialise, lent, perform}
-use Rattle.rules.specs.Layout.{encode}
+use Rattle.rules.specs.Layout.{encode, extentPart}
+use Rattle.rules.specs.Listing.{listing}
 
--- initialise; initialise and calls that are all accepted, of which only the table at the end is compared; a call that is accepted, with its answer and the digest of the table after it; obtain, with the digest of
--- its labels besides; a refused call, which changes nothing; a call on a damaged copy of the table; a call on a copy of
--- another length, with buffers of these lengths. The copies are thrown away.
+-- initialise; a refused initialise with a table and an answer of these lengths; initialise and calls that are all accepted, of which
+-- only the table at the end is compared; a call that is accepted, with its answer and the digest of the table after it; obtain, with
+-- the digest of its labels besides; a refused call, which changes nothing; a call on a damaged copy of the table; a call on a copy of
+-- another length, with buffers of these lengths; the digest of the listing of a copy that is damaged and has this length; the digest
+-- of all that `extentPart` gives for records of these lengths. The copies are thrown away.
 pub data Row : Type 0 where
   begin : (c h d s v number digest : ℕ) → Row
+  beginSized : (c h d s v tableLength answerLength number : ℕ) → Row
   build : (c h d s v : ℕ) → List Call → (digest : ℕ) → Row
   ok : Call → (answer digest : ℕ) → Row
   okLabels : Call → (answer digest labels : ℕ) → Row
   no : Call → (number : ℕ) → Row
   hurt : List (ℕ × ℕ) → Call → (number : ℕ) → Row
   sized : (tableLength answerLength labelsLength : ℕ) → Call → (number : ℕ) → Row
+  listed : List (ℕ × ℕ) → (tableLength digest : ℕ) → Row
+  parts : (length1 length3 digest : ℕ) → Row
 
 -- ---- names, attributes, bytes as numbers
 
@@ -94,6 +100,10 @@ abbrev pub tableFor : ℕ → ℕ → List ℕ
 tableFor zero slots = buffer (slots * 140)
 tableFor (suc n) slots = []
 
+-- extents 0 to 17 of two records, the number of bytes before each
+abbrev pub partsOf : List ℕ → List ℕ → List ℕ
+partsOf f1 f3 = flat (λ e. length (extentPart f1 f3 e) ∷ extentPart f1 f3 e) (upFrom 0 18)
+
 -- the rows from table t on
 abbrev pub right : List ℕ → List Row → Bool
 right t [] = true
@@ -101,6 +111,10 @@ right t (begin c h d s v n after ∷ rows) =
     let b : Lent = lent (tableFor n (v * d)) (buffer 24) [] in
     let r : Result = initialise (geometry c h d s v) b in
     started n after b r && right (tableAfter n t r) rows
+right t (beginSized c h d s v tl al n ∷ rows) =
+    let b : Lent = lent (buffer tl) (buffer al) [] in
+    let r : Result = initialise (geometry c h d s v) b in
+    eqb (r .number) n && sameLent (r .after) b && right t rows
 right t (build c h d s v cs after ∷ rows) =
     let u : List ℕ = encode (built (fresh (geometry c h d s v)) cs) in
     eqb (digest u) after && right u rows
@@ -116,3 +130,5 @@ right t (no c n ∷ rows) =
     eqb (r .number) n && sameLent (r .after) b && right t rows
 right t (hurt ps c n ∷ rows) = eqb (perform (lent (damaged ps t) (buffer 24) (labelsFor c)) c .number) n && right t rows
 right t (sized tl al ll c n ∷ rows) = eqb (perform (lent (fill tl t) (buffer al) (buffer ll)) c .number) n && right t rows
+right t (listed ps tl text ∷ rows) = eqb (digest (listing (fill tl (damaged ps t)))) text && right t rows
+right t (parts l1 l3 text ∷ rows) = eqb (digest (partsOf (attrN l1 1) (attrN l3 3))) text && right t rows

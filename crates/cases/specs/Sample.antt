@@ -3,22 +3,23 @@ use mathlib.Core.List.{List, [], _∷_}
 use lib.Dec.{T}
 use Rattle.model.specs.Choice.{choose}
 use Rattle.model.specs.Model.{format0s, free, gaps, held, unused, used}
-use Rattle.rules.specs.Calls.{allocate, extend, grant, lspace, obtain, release, rename, rule, scratch}
+use Rattle.rules.specs.Calls.{allocate, extend, grant, lspace, obtain, release, rename, request, rule, scratch}
 use Rattle.rules.specs.Entries.{goodLengths, initialise, perform}
 use Rattle.rules.specs.Layout.{encode, extentPart, format1, format3, format4, format5, records}
+use Rattle.rules.specs.Listing.{listing, printable}
 use Rattle.rules.specs.Reading.{read, readExtents, readGeometry, readLabel, readRecords}
 use Rattle.rules.specs.Slots.{settle}
 use Rattle.rules.specs.Table.{goodLabel, goodLength, goodName, limits, taken, valid}
-use Rattle.cases.specs.Check.{Row, attr, attrN, begin, build, hurt, nm, no, ok, okLabels, raw, right, sized}
+use Rattle.cases.specs.Check.{Row, attr, attrN, begin, beginSized, build, hurt, listed, nm, no, ok, okLabels, parts, raw, right, sized}
 
 -- Volume A, step by step; after step 3, damaged copies of it
 
 abbrev pub sequence1 : List Row
 sequence1 =
     build 4 5 4 1 2
-    (allocate (nm (0xC6 ∷ 0xD3 ∷ 0xE3 ∷ 0x4B ∷ 0xC1 ∷ [])) (attr 1) 0 0 4 0
-    ∷ allocate (nm (0xC6 ∷ 0xD3 ∷ 0xE3 ∷ 0x4B ∷ 0xC2 ∷ [])) (attr 2) 1 0 1 0
-    ∷ allocate (nm (0xC6 ∷ 0xD3 ∷ 0xE3 ∷ 0x4B ∷ 0xC3 ∷ [])) (attr 3) 0 0 7 0
+    (allocate (request (nm (0xC6 ∷ 0xD3 ∷ 0xE3 ∷ 0x4B ∷ 0xC1 ∷ [])) (attr 1) 0 0 4 0)
+    ∷ allocate (request (nm (0xC6 ∷ 0xD3 ∷ 0xE3 ∷ 0x4B ∷ 0xC2 ∷ [])) (attr 2) 1 0 1 0)
+    ∷ allocate (request (nm (0xC6 ∷ 0xD3 ∷ 0xE3 ∷ 0x4B ∷ 0xC3 ∷ [])) (attr 3) 0 0 7 0)
     ∷ [])
     0x19298C6040078FA3
     ∷ hurt ((43, 0x05) ∷ []) lspace 3
@@ -54,9 +55,9 @@ sequence1 =
     ∷ hurt ((375, 0xFF) ∷ (377, 0x01) ∷ []) lspace 0
     ∷ hurt ((374, 0xC0) ∷ []) lspace 0
     ∷ hurt ((525, 0x01) ∷ []) lspace 0
-    ∷ no (allocate (nm (0xC6 ∷ 0xD3 ∷ 0xE3 ∷ 0x4B ∷ 0xC4 ∷ [])) (attr 37) 0 0 2 0) 9
-    ∷ no (allocate (nm (0xC6 ∷ 0xD3 ∷ 0xE3 ∷ 0x4B ∷ 0xC4 ∷ [])) (attr 38) 2 19 2 0) 7
-    ∷ no (allocate (nm (0xC6 ∷ 0xD3 ∷ 0xE3 ∷ 0x4B ∷ 0xC4 ∷ [])) (attr 39) 2 6 1 0) 9
+    ∷ no (allocate (request (nm (0xC6 ∷ 0xD3 ∷ 0xE3 ∷ 0x4B ∷ 0xC4 ∷ [])) (attr 37) 0 0 2 0)) 9
+    ∷ no (allocate (request (nm (0xC6 ∷ 0xD3 ∷ 0xE3 ∷ 0x4B ∷ 0xC4 ∷ [])) (attr 38) 2 19 2 0)) 7
+    ∷ no (allocate (request (nm (0xC6 ∷ 0xD3 ∷ 0xE3 ∷ 0x4B ∷ 0xC4 ∷ [])) (attr 39) 2 6 1 0)) 9
     ∷ ok (scratch (nm (0xC6 ∷ 0xD3 ∷ 0xE3 ∷ 0x4B ∷ 0xC2 ∷ []))) 0x500000000000000000000000000000000000000000000 0x1242A656AF42A0A7
     ∷ no (release (nm (0xC6 ∷ 0xD3 ∷ 0xE3 ∷ 0x4B ∷ 0xC3 ∷ [])) 0x701) 12
     ∷ ok (release (nm (0xC6 ∷ 0xD3 ∷ 0xE3 ∷ 0x4B ∷ 0xC3 ∷ [])) 0x401) 0x200000000000000000000000000000000000000000000 0x10F7536FDA0F849D
@@ -64,7 +65,7 @@ sequence1 =
     ∷ no (rename (nm (0xC6 ∷ 0xD3 ∷ 0xE3 ∷ 0x4B ∷ 0xC3 ∷ [])) (nm (0xC6 ∷ 0xD3 ∷ 0xE3 ∷ 0x4B ∷ 0xC1 ∷ []))) 6
     ∷ okLabels (obtain (nm (0xC6 ∷ 0xD3 ∷ 0xE3 ∷ 0x4B ∷ 0xC3 ∷ []))) 0x0 0x10F7536FDA0F849D 0x134B0F41A3F82539
     ∷ ok lspace 0x100030001000100030004000000000000000000000000 0x10F7536FDA0F849D
-    ∷ ok (allocate (nm (0xC6 ∷ 0xD3 ∷ 0xE3 ∷ 0x4B ∷ 0xC5 ∷ [])) (attr 47) 0 0 3 5) 0x301000700030000000000000000000000000000000000 0x3648B5994763F8E
+    ∷ ok (allocate (request (nm (0xC6 ∷ 0xD3 ∷ 0xE3 ∷ 0x4B ∷ 0xC5 ∷ [])) (attr 47) 0 0 3 5)) 0x301000700030000000000000000000000000000000000 0x3648B5994763F8E
     ∷ ok (extend (nm (0xC6 ∷ 0xD3 ∷ 0xE3 ∷ 0x4B ∷ 0xC5 ∷ []))) 0x501000A00050000000000000000000000000000000000 0xAC04E0031B0FC5B
     ∷ ok (scratch (nm (0xC6 ∷ 0xD3 ∷ 0xE3 ∷ 0x4B ∷ 0xC1 ∷ []))) 0x400000000000000000000000000000000000000000000 0x1CCACE1660631FCF
     ∷ ok (scratch (nm (0xC6 ∷ 0xD3 ∷ 0xE3 ∷ 0x4B ∷ 0xC5 ∷ []))) 0x800000000000000000000000000000000000000000000 0x1C3F5DE7FF2DB2FA
@@ -72,7 +73,7 @@ sequence1 =
     ∷ []
 
 pub case1 : T (right [] sequence1)
-unfolding held gaps free used unused format0s choose extentPart format4 format5 format1 format3 records encode readGeometry readExtents readLabel readRecords read goodName limits goodLabel valid taken goodLength settle grant rule goodLengths perform initialise
+unfolding held gaps free used unused format0s choose extentPart format4 format5 format1 format3 records encode readGeometry readExtents readLabel readRecords read goodName limits goodLabel valid taken goodLength settle grant rule goodLengths perform initialise printable listing
 case1 = tt
 
 -- Geometries refused, and a table that is not there
@@ -91,11 +92,11 @@ sequence2 =
     ∷ begin 4294967295 4294967295 4294967295 4294967295 4294967295 1 0x0
     ∷ no lspace 2
     ∷ begin 4 5 4 18 2 0 0x1110215C91CC736A
-    ∷ ok (allocate (nm (0xC1 ∷ [])) (attr 12) 0 0 17 0) 0x1101000100110000000000000000000000000000000000 0x8EDE555981A2DC8
+    ∷ ok (allocate (request (nm (0xC1 ∷ [])) (attr 12) 0 0 17 0)) 0x1101000100110000000000000000000000000000000000 0x8EDE555981A2DC8
     ∷ []
 
 pub case2 : T (right [] sequence2)
-unfolding held gaps free used unused format0s choose extentPart format4 format5 format1 format3 records encode readGeometry readExtents readLabel readRecords read goodName limits goodLabel valid taken goodLength settle grant rule goodLengths perform initialise
+unfolding held gaps free used unused format0s choose extentPart format4 format5 format1 format3 records encode readGeometry readExtents readLabel readRecords read goodName limits goodLabel valid taken goodLength settle grant rule goodLengths perform initialise printable listing
 case2 = tt
 
 -- H = 1, D = 1, the VTOC from track 2
@@ -104,21 +105,21 @@ abbrev pub sequence3 : List Row
 sequence3 =
     begin 12 1 1 2 5 0 0x1AF84EA7ACBBEE5F
     ∷ ok lspace 0x600000002000500000003000000000000000000000000 0x1AF84EA7ACBBEE5F
-    ∷ ok (allocate (nm (0xC1 ∷ [])) (attr 2) 0 0 2 1) 0x201000700020000000000000000000000000000000000 0x13A270C38820BA86
-    ∷ ok (allocate (nm (0xC2 ∷ [])) (attr 3) 1 0 4 1) 0x402000900030001000100000000000000000000000000 0x10252DF0E2A22661
+    ∷ ok (allocate (request (nm (0xC1 ∷ [])) (attr 2) 0 0 2 1)) 0x201000700020000000000000000000000000000000000 0x13A270C38820BA86
+    ∷ ok (allocate (request (nm (0xC2 ∷ [])) (attr 3) 1 0 4 1)) 0x402000900030001000100000000000000000000000000 0x10252DF0E2A22661
     ∷ ok lspace 0x1000000000000000000000000 0x10252DF0E2A22661
     ∷ no (extend (nm (0xC1 ∷ []))) 9
-    ∷ no (allocate (nm (0xC3 ∷ [])) (attr 6) 0 0 1 0) 9
+    ∷ no (allocate (request (nm (0xC3 ∷ [])) (attr 6) 0 0 1 0)) 9
     ∷ ok (release (nm (0xC2 ∷ [])) 0x101) 0x200000000000000000000000000000000000000000000 0xC493139870401B
     ∷ ok (extend (nm (0xC2 ∷ []))) 0x101000100010000000000000000000000000000000000 0xCD0A30A45DDFC9A
     ∷ ok (extend (nm (0xC1 ∷ []))) 0x101000B00010000000000000000000000000000000000 0xA5050682FC298EF
     ∷ ok (scratch (nm (0xC2 ∷ []))) 0x300000000000000000000000000000000000000000000 0x9EAB03AF702EF1C
     ∷ okLabels (obtain (nm (0xC1 ∷ []))) 0x0 0x9EAB03AF702EF1C 0xAE6476E55C8EAE3
-    ∷ ok (allocate (nm (0xE9 ∷ [])) (attr 12) 0 0 3 0) 0x302000900020001000100000000000000000000000000 0xD30EF36DA8A5B9F
+    ∷ ok (allocate (request (nm (0xE9 ∷ [])) (attr 12) 0 0 3 0)) 0x302000900020001000100000000000000000000000000 0xD30EF36DA8A5B9F
     ∷ []
 
 pub case3 : T (right [] sequence3)
-unfolding held gaps free used unused format0s choose extentPart format4 format5 format1 format3 records encode readGeometry readExtents readLabel readRecords read goodName limits goodLabel valid taken goodLength settle grant rule goodLengths perform initialise
+unfolding held gaps free used unused format0s choose extentPart format4 format5 format1 format3 records encode readGeometry readExtents readLabel readRecords read goodName limits goodLabel valid taken goodLength settle grant rule goodLengths perform initialise printable listing
 case3 = tt
 
 -- The VTOC in the middle of the volume, from inside a cylinder
@@ -127,11 +128,11 @@ abbrev pub sequence4 : List Row
 sequence4 =
     begin 6 4 3 10 2 0 0x19690CAC96DDAEB7
     ∷ ok lspace 0x500010002000300000004000000000000000000000000 0x19690CAC96DDAEB7
-    ∷ ok (allocate (nm (0xC3 ∷ 0xE8 ∷ 0xD3 ∷ [])) (attr 2) 1 0 1 1) 0x401000400040000000000000000000000000000000000 0xC8F3FF997441516
-    ∷ no (allocate (nm (0xC1 ∷ 0xC2 ∷ 0xE2 ∷ [])) (attr 3) 2 9 2 0) 9
-    ∷ ok (allocate (nm (0xC1 ∷ 0xC2 ∷ 0xE2 ∷ [])) (attr 4) 2 9 1 0) 0x101000900010000000000000000000000000000000000 0x6FA8A7D940CE03C
-    ∷ ok (allocate (nm (0xC1 ∷ [])) (attr 5) 0 0 3 0) 0x301000100030000000000000000000000000000000000 0x1C0C4A04CAF6C361
-    ∷ ok (allocate (nm (0xC2 ∷ [])) (attr 6) 2 12 1 0) 0x101000C00010000000000000000000000000000000000 0x188F62F8BC2F4E25
+    ∷ ok (allocate (request (nm (0xC3 ∷ 0xE8 ∷ 0xD3 ∷ [])) (attr 2) 1 0 1 1)) 0x401000400040000000000000000000000000000000000 0xC8F3FF997441516
+    ∷ no (allocate (request (nm (0xC1 ∷ 0xC2 ∷ 0xE2 ∷ [])) (attr 3) 2 9 2 0)) 9
+    ∷ ok (allocate (request (nm (0xC1 ∷ 0xC2 ∷ 0xE2 ∷ [])) (attr 4) 2 9 1 0)) 0x101000900010000000000000000000000000000000000 0x6FA8A7D940CE03C
+    ∷ ok (allocate (request (nm (0xC1 ∷ [])) (attr 5) 0 0 3 0)) 0x301000100030000000000000000000000000000000000 0x1C0C4A04CAF6C361
+    ∷ ok (allocate (request (nm (0xC2 ∷ [])) (attr 6) 2 12 1 0)) 0x101000C00010000000000000000000000000000000000 0x188F62F8BC2F4E25
     ∷ ok (scratch (nm (0xC1 ∷ []))) 0x300000000000000000000000000000000000000000000 0xB0DC3A421973562
     ∷ ok (extend (nm (0xC3 ∷ 0xE8 ∷ 0xD3 ∷ []))) 0x401001000040000000000000000000000000000000000 0x15DB5C1C6BBA4B56
     ∷ ok (scratch (nm (0xC3 ∷ 0xE8 ∷ 0xD3 ∷ []))) 0x800000000000000000000000000000000000000000000 0x1321E4577B8FA6BF
@@ -140,7 +141,7 @@ sequence4 =
     ∷ []
 
 pub case4 : T (right [] sequence4)
-unfolding held gaps free used unused format0s choose extentPart format4 format5 format1 format3 records encode readGeometry readExtents readLabel readRecords read goodName limits goodLabel valid taken goodLength settle grant rule goodLengths perform initialise
+unfolding held gaps free used unused format0s choose extentPart format4 format5 format1 format3 records encode readGeometry readExtents readLabel readRecords read goodName limits goodLabel valid taken goodLength settle grant rule goodLengths perform initialise printable listing
 case4 = tt
 
 -- Nothing free at all
@@ -149,17 +150,17 @@ abbrev pub sequence5 : List Row
 sequence5 =
     begin 4 1 1 1 3 0 0x4F420B836C000B7
     ∷ ok lspace 0x1000000000000000000000000 0x4F420B836C000B7
-    ∷ no (allocate (nm (0xC1 ∷ [])) (attr 2) 0 0 1 0) 9
-    ∷ no (allocate (nm (0xC1 ∷ [])) (attr 3) 2 0 1 0) 9
+    ∷ no (allocate (request (nm (0xC1 ∷ [])) (attr 2) 0 0 1 0)) 9
+    ∷ no (allocate (request (nm (0xC1 ∷ [])) (attr 3) 2 0 1 0)) 9
     ∷ begin 2 3 4 1 1 0 0x7BB452939692662
-    ∷ ok (allocate (nm (0xC1 ∷ [])) (attr 5) 0 0 4 0) 0x401000200040000000000000000000000000000000000 0x1DF433A569FE1C35
+    ∷ ok (allocate (request (nm (0xC1 ∷ [])) (attr 5) 0 0 4 0)) 0x401000200040000000000000000000000000000000000 0x1DF433A569FE1C35
     ∷ ok lspace 0x1000000000000000000000000 0x1DF433A569FE1C35
     ∷ ok (release (nm (0xC1 ∷ [])) 0x301) 0x0 0x2E48D8778667BD8
     ∷ ok (release (nm (0xC1 ∷ [])) 0x0) 0x300000000000000000000000000000000000000000000 0x13151C45312B599C
     ∷ []
 
 pub case5 : T (right [] sequence5)
-unfolding held gaps free used unused format0s choose extentPart format4 format5 format1 format3 records encode readGeometry readExtents readLabel readRecords read goodName limits goodLabel valid taken goodLength settle grant rule goodLengths perform initialise
+unfolding held gaps free used unused format0s choose extentPart format4 format5 format1 format3 records encode readGeometry readExtents readLabel readRecords read goodName limits goodLabel valid taken goodLength settle grant rule goodLengths perform initialise printable listing
 case5 = tt
 
 -- Three records: one set, and the VTOC is full
@@ -167,8 +168,8 @@ case5 = tt
 abbrev pub sequence6 : List Row
 sequence6 =
     begin 5 4 3 1 1 0 0x81D3C6547556D5E
-    ∷ ok (allocate (nm (0xC1 ∷ [])) (attr 1) 0 0 1 1) 0x101000200010000000000000000000000000000000000 0xBBA6FE782B3B8D5
-    ∷ no (allocate (nm (0xC2 ∷ [])) (attr 2) 0 0 1 0) 11
+    ∷ ok (allocate (request (nm (0xC1 ∷ [])) (attr 1) 0 0 1 1)) 0x101000200010000000000000000000000000000000000 0xBBA6FE782B3B8D5
+    ∷ no (allocate (request (nm (0xC2 ∷ [])) (attr 2) 0 0 1 0)) 11
     ∷ ok (extend (nm (0xC1 ∷ []))) 0x101000300010000000000000000000000000000000000 0x17B2B0A23C5B6D8E
     ∷ ok (extend (nm (0xC1 ∷ []))) 0x101000400010000000000000000000000000000000000 0x751B4F73B47406F
     ∷ no (extend (nm (0xC1 ∷ []))) 11
@@ -176,11 +177,11 @@ sequence6 =
     ∷ ok (extend (nm (0xC1 ∷ []))) 0x101000400010000000000000000000000000000000000 0xE8F4414E9F7F611
     ∷ ok (rename (nm (0xC1 ∷ [])) (nm (0xC2 ∷ []))) 0x0 0x520755D900E70BF
     ∷ ok (scratch (nm (0xC2 ∷ []))) 0x300000000000000000000000000000000000000000000 0x81D3C6547556D5E
-    ∷ ok (allocate (nm (0xC2 ∷ [])) (attr 10) 1 0 4 0) 0x1001000400100000000000000000000000000000000000 0x94A331FA03D2ED9
+    ∷ ok (allocate (request (nm (0xC2 ∷ [])) (attr 10) 1 0 4 0)) 0x1001000400100000000000000000000000000000000000 0x94A331FA03D2ED9
     ∷ []
 
 pub case6 : T (right [] sequence6)
-unfolding held gaps free used unused format0s choose extentPart format4 format5 format1 format3 records encode readGeometry readExtents readLabel readRecords read goodName limits goodLabel valid taken goodLength settle grant rule goodLengths perform initialise
+unfolding held gaps free used unused format0s choose extentPart format4 format5 format1 format3 records encode readGeometry readExtents readLabel readRecords read goodName limits goodLabel valid taken goodLength settle grant rule goodLengths perform initialise printable listing
 case6 = tt
 
 -- Slots on several tracks; the lowest free one is taken
@@ -188,19 +189,19 @@ case6 = tt
 abbrev pub sequence7 : List Row
 sequence7 =
     begin 10 3 2 5 4 0 0x8C69A6541764AA6
-    ∷ ok (allocate (nm (0xC1 ∷ [])) (attr 1) 0 0 1 0) 0x101000100010000000000000000000000000000000000 0x1A8123963EB6A73B
-    ∷ ok (allocate (nm (0xC2 ∷ [])) (attr 2) 0 0 1 0) 0x101000200010000000000000000000000000000000000 0x1C8F4EE237708EF4
-    ∷ ok (allocate (nm (0xC3 ∷ [])) (attr 3) 0 0 1 0) 0x101000300010000000000000000000000000000000000 0x1B610D11C8077852
-    ∷ ok (allocate (nm (0xC4 ∷ [])) (attr 4) 0 0 1 0) 0x101000400010000000000000000000000000000000000 0x2246E900A376A72
+    ∷ ok (allocate (request (nm (0xC1 ∷ [])) (attr 1) 0 0 1 0)) 0x101000100010000000000000000000000000000000000 0x1A8123963EB6A73B
+    ∷ ok (allocate (request (nm (0xC2 ∷ [])) (attr 2) 0 0 1 0)) 0x101000200010000000000000000000000000000000000 0x1C8F4EE237708EF4
+    ∷ ok (allocate (request (nm (0xC3 ∷ [])) (attr 3) 0 0 1 0)) 0x101000300010000000000000000000000000000000000 0x1B610D11C8077852
+    ∷ ok (allocate (request (nm (0xC4 ∷ [])) (attr 4) 0 0 1 0)) 0x101000400010000000000000000000000000000000000 0x2246E900A376A72
     ∷ ok (scratch (nm (0xC2 ∷ []))) 0x100000000000000000000000000000000000000000000 0x565679874837B0A
     ∷ ok (scratch (nm (0xC4 ∷ []))) 0x100000000000000000000000000000000000000000000 0x2E4CC5C5724B5E3
-    ∷ ok (allocate (nm (0xC5 ∷ [])) (attr 7) 0 0 2 0) 0x201000900020000000000000000000000000000000000 0x151979EB478193CB
-    ∷ ok (allocate (nm (0xC6 ∷ [])) (attr 8) 0 0 1 0) 0x101000200010000000000000000000000000000000000 0x1801E9A9C7E5221
+    ∷ ok (allocate (request (nm (0xC5 ∷ [])) (attr 7) 0 0 2 0)) 0x201000900020000000000000000000000000000000000 0x151979EB478193CB
+    ∷ ok (allocate (request (nm (0xC6 ∷ [])) (attr 8) 0 0 1 0)) 0x101000200010000000000000000000000000000000000 0x1801E9A9C7E5221
     ∷ ok (scratch (nm (0xC6 ∷ []))) 0x100000000000000000000000000000000000000000000 0x151979EB478193CB
     ∷ []
 
 pub case7 : T (right [] sequence7)
-unfolding held gaps free used unused format0s choose extentPart format4 format5 format1 format3 records encode readGeometry readExtents readLabel readRecords read goodName limits goodLabel valid taken goodLength settle grant rule goodLengths perform initialise
+unfolding held gaps free used unused format0s choose extentPart format4 format5 format1 format3 records encode readGeometry readExtents readLabel readRecords read goodName limits goodLabel valid taken goodLength settle grant rule goodLengths perform initialise printable listing
 case7 = tt
 
 -- The shortest that fits, the lowest on ties, its first part
@@ -208,21 +209,21 @@ case7 = tt
 abbrev pub sequence8 : List Row
 sequence8 =
     begin 32 1 8 1 2 0 0x1DE31740506D0884
-    ∷ ok (allocate (nm (0xE6 ∷ 0xF0 ∷ [])) (attr 1) 2 8 1 0) 0x101000800010000000000000000000000000000000000 0xD055FD452E629C2
-    ∷ ok (allocate (nm (0xE6 ∷ 0xF1 ∷ [])) (attr 2) 2 12 1 0) 0x101000C00010000000000000000000000000000000000 0x3DC93444893AB54
-    ∷ ok (allocate (nm (0xE6 ∷ 0xF2 ∷ [])) (attr 3) 2 17 1 0) 0x101001100010000000000000000000000000000000000 0xD3340DC327AD61F
-    ∷ ok (allocate (nm (0xE6 ∷ 0xF3 ∷ [])) (attr 4) 2 21 1 0) 0x101001500010000000000000000000000000000000000 0xD7AD3C743267959
-    ∷ ok (allocate (nm (0xE6 ∷ 0xF4 ∷ [])) (attr 5) 2 31 1 0) 0x101001F00010000000000000000000000000000000000 0x12E0C607EFCB17E8
-    ∷ ok (allocate (nm (0xC1 ∷ [])) (attr 6) 0 0 2 0) 0x201000900020000000000000000000000000000000000 0x14E080E597AA19DF
-    ∷ ok (allocate (nm (0xC2 ∷ [])) (attr 7) 0 0 1 0) 0x101000B00010000000000000000000000000000000000 0x10591384E2165EE4
-    ∷ ok (allocate (nm (0xC3 ∷ [])) (attr 8) 0 0 3 0) 0x301001200030000000000000000000000000000000000 0xCB0E86950CD0290
-    ∷ ok (allocate (nm (0xC4 ∷ [])) (attr 9) 0 0 5 0) 0x501000300050000000000000000000000000000000000 0xF72A7751C9639DF
-    ∷ ok (allocate (nm (0xC5 ∷ [])) (attr 10) 0 0 6 0) 0x601001600060000000000000000000000000000000000 0x1E1C6F07800BF08A
-    ∷ ok (allocate (nm (0xC6 ∷ [])) (attr 11) 0 0 7 0) 0x702000D0004001C000300000000000000000000000000 0x747E8E810B649E4
+    ∷ ok (allocate (request (nm (0xE6 ∷ 0xF0 ∷ [])) (attr 1) 2 8 1 0)) 0x101000800010000000000000000000000000000000000 0xD055FD452E629C2
+    ∷ ok (allocate (request (nm (0xE6 ∷ 0xF1 ∷ [])) (attr 2) 2 12 1 0)) 0x101000C00010000000000000000000000000000000000 0x3DC93444893AB54
+    ∷ ok (allocate (request (nm (0xE6 ∷ 0xF2 ∷ [])) (attr 3) 2 17 1 0)) 0x101001100010000000000000000000000000000000000 0xD3340DC327AD61F
+    ∷ ok (allocate (request (nm (0xE6 ∷ 0xF3 ∷ [])) (attr 4) 2 21 1 0)) 0x101001500010000000000000000000000000000000000 0xD7AD3C743267959
+    ∷ ok (allocate (request (nm (0xE6 ∷ 0xF4 ∷ [])) (attr 5) 2 31 1 0)) 0x101001F00010000000000000000000000000000000000 0x12E0C607EFCB17E8
+    ∷ ok (allocate (request (nm (0xC1 ∷ [])) (attr 6) 0 0 2 0)) 0x201000900020000000000000000000000000000000000 0x14E080E597AA19DF
+    ∷ ok (allocate (request (nm (0xC2 ∷ [])) (attr 7) 0 0 1 0)) 0x101000B00010000000000000000000000000000000000 0x10591384E2165EE4
+    ∷ ok (allocate (request (nm (0xC3 ∷ [])) (attr 8) 0 0 3 0)) 0x301001200030000000000000000000000000000000000 0xCB0E86950CD0290
+    ∷ ok (allocate (request (nm (0xC4 ∷ [])) (attr 9) 0 0 5 0)) 0x501000300050000000000000000000000000000000000 0xF72A7751C9639DF
+    ∷ ok (allocate (request (nm (0xC5 ∷ [])) (attr 10) 0 0 6 0)) 0x601001600060000000000000000000000000000000000 0x1E1C6F07800BF08A
+    ∷ ok (allocate (request (nm (0xC6 ∷ [])) (attr 11) 0 0 7 0)) 0x702000D0004001C000300000000000000000000000000 0x747E8E810B649E4
     ∷ []
 
 pub case8 : T (right [] sequence8)
-unfolding held gaps free used unused format0s choose extentPart format4 format5 format1 format3 records encode readGeometry readExtents readLabel readRecords read goodName limits goodLabel valid taken goodLength settle grant rule goodLengths perform initialise
+unfolding held gaps free used unused format0s choose extentPart format4 format5 format1 format3 records encode readGeometry readExtents readLabel readRecords read goodName limits goodLabel valid taken goodLength settle grant rule goodLengths perform initialise printable listing
 case8 = tt
 
 -- Two to five pieces, the longest first; six holes are too many
@@ -230,24 +231,24 @@ case8 = tt
 abbrev pub sequence9 : List Row
 sequence9 =
     begin 28 1 6 1 2 0 0x5492E63E7AAEC6D
-    ∷ ok (allocate (nm (0xE6 ∷ 0xF0 ∷ [])) (attr 1) 2 5 1 0) 0x101000500010000000000000000000000000000000000 0x1F06F40E89E65A3F
-    ∷ ok (allocate (nm (0xE6 ∷ 0xF1 ∷ [])) (attr 2) 2 11 1 0) 0x101000B00010000000000000000000000000000000000 0x1FD6589457679208
-    ∷ ok (allocate (nm (0xE6 ∷ 0xF2 ∷ [])) (attr 3) 2 15 1 0) 0x101000F00010000000000000000000000000000000000 0x8662C02B3D2559C
-    ∷ ok (allocate (nm (0xE6 ∷ 0xF3 ∷ [])) (attr 4) 2 21 1 0) 0x101001500010000000000000000000000000000000000 0x1E98C3D0277FB8BE
-    ∷ ok (allocate (nm (0xE6 ∷ 0xF4 ∷ [])) (attr 5) 2 25 1 0) 0x101001900010000000000000000000000000000000000 0x1F2819E39ED95B80
-    ∷ ok (allocate (nm (0xE6 ∷ 0xF5 ∷ [])) (attr 6) 2 27 1 0) 0x101001B00010000000000000000000000000000000000 0x20C9EE8207F736
-    ∷ ok (allocate (nm (0xD7 ∷ 0xC9 ∷ 0xC5 ∷ 0xC3 ∷ 0xC5 ∷ 0xE2 ∷ [])) (attr 7) 0 0 11 0) 0xB030006000500100005000C0001000000000000000000 0x2D15A6471CCD721
+    ∷ ok (allocate (request (nm (0xE6 ∷ 0xF0 ∷ [])) (attr 1) 2 5 1 0)) 0x101000500010000000000000000000000000000000000 0x1F06F40E89E65A3F
+    ∷ ok (allocate (request (nm (0xE6 ∷ 0xF1 ∷ [])) (attr 2) 2 11 1 0)) 0x101000B00010000000000000000000000000000000000 0x1FD6589457679208
+    ∷ ok (allocate (request (nm (0xE6 ∷ 0xF2 ∷ [])) (attr 3) 2 15 1 0)) 0x101000F00010000000000000000000000000000000000 0x8662C02B3D2559C
+    ∷ ok (allocate (request (nm (0xE6 ∷ 0xF3 ∷ [])) (attr 4) 2 21 1 0)) 0x101001500010000000000000000000000000000000000 0x1E98C3D0277FB8BE
+    ∷ ok (allocate (request (nm (0xE6 ∷ 0xF4 ∷ [])) (attr 5) 2 25 1 0)) 0x101001900010000000000000000000000000000000000 0x1F2819E39ED95B80
+    ∷ ok (allocate (request (nm (0xE6 ∷ 0xF5 ∷ [])) (attr 6) 2 27 1 0)) 0x101001B00010000000000000000000000000000000000 0x20C9EE8207F736
+    ∷ ok (allocate (request (nm (0xD7 ∷ 0xC9 ∷ 0xC5 ∷ 0xC3 ∷ 0xC5 ∷ 0xE2 ∷ [])) (attr 7) 0 0 11 0)) 0xB030006000500100005000C0001000000000000000000 0x2D15A6471CCD721
     ∷ ok (scratch (nm (0xD7 ∷ 0xC9 ∷ 0xC5 ∷ 0xC3 ∷ 0xC5 ∷ 0xE2 ∷ []))) 0xB00000000000000000000000000000000000000000000 0x20C9EE8207F736
-    ∷ ok (allocate (nm (0xD7 ∷ 0xC9 ∷ 0xC5 ∷ 0xC3 ∷ 0xC5 ∷ 0xE2 ∷ [])) (attr 9) 0 0 16 0) 0x10040006000500100005000C0003001600030000000000 0xD90AA87E52B65E4
+    ∷ ok (allocate (request (nm (0xD7 ∷ 0xC9 ∷ 0xC5 ∷ 0xC3 ∷ 0xC5 ∷ 0xE2 ∷ [])) (attr 9) 0 0 16 0)) 0x10040006000500100005000C0003001600030000000000 0xD90AA87E52B65E4
     ∷ ok (scratch (nm (0xD7 ∷ 0xC9 ∷ 0xC5 ∷ 0xC3 ∷ 0xC5 ∷ 0xE2 ∷ []))) 0x1000000000000000000000000000000000000000000000 0x20C9EE8207F736
-    ∷ no (allocate (nm (0xD7 ∷ 0xC9 ∷ 0xC5 ∷ 0xC3 ∷ 0xC5 ∷ 0xE2 ∷ [])) (attr 11) 0 0 19 0) 9
-    ∷ ok (allocate (nm (0xD7 ∷ 0xC9 ∷ 0xC5 ∷ 0xC3 ∷ 0xC5 ∷ 0xE2 ∷ [])) (attr 12) 0 0 18 0) 0x12050006000500100005000C0003001600030003000200 0x4DEA0F9EC123077
+    ∷ no (allocate (request (nm (0xD7 ∷ 0xC9 ∷ 0xC5 ∷ 0xC3 ∷ 0xC5 ∷ 0xE2 ∷ [])) (attr 11) 0 0 19 0)) 9
+    ∷ ok (allocate (request (nm (0xD7 ∷ 0xC9 ∷ 0xC5 ∷ 0xC3 ∷ 0xC5 ∷ 0xE2 ∷ [])) (attr 12) 0 0 18 0)) 0x12050006000500100005000C0003001600030003000200 0x4DEA0F9EC123077
     ∷ okLabels (obtain (nm (0xD7 ∷ 0xC9 ∷ 0xC5 ∷ 0xC3 ∷ 0xC5 ∷ 0xE2 ∷ []))) 0x0 0x4DEA0F9EC123077 0xCC5EBFAD5C070B6
     ∷ ok (release (nm (0xD7 ∷ 0xC9 ∷ 0xC5 ∷ 0xC3 ∷ 0xC5 ∷ 0xE2 ∷ [])) 0xC01) 0x500000000000000000000000000000000000000000000 0x16E615E16202AE98
     ∷ []
 
 pub case9 : T (right [] sequence9)
-unfolding held gaps free used unused format0s choose extentPart format4 format5 format1 format3 records encode readGeometry readExtents readLabel readRecords read goodName limits goodLabel valid taken goodLength settle grant rule goodLengths perform initialise
+unfolding held gaps free used unused format0s choose extentPart format4 format5 format1 format3 records encode readGeometry readExtents readLabel readRecords read goodName limits goodLabel valid taken goodLength settle grant rule goodLengths perform initialise printable listing
 case9 = tt
 
 -- Extend in two to five pieces
@@ -255,15 +256,15 @@ case9 = tt
 abbrev pub sequence10 : List Row
 sequence10 =
     begin 27 1 7 1 2 0 0x102D80480DAB4657
-    ∷ ok (allocate (nm (0xE2 ∷ 0xC5 ∷ 0xE3 ∷ 0xF0 ∷ [])) (attr 1) 0 0 1 9) 0x101000300010000000000000000000000000000000000 0x141910A49FD429BB
-    ∷ ok (allocate (nm (0xE2 ∷ 0xC5 ∷ 0xE3 ∷ 0xF1 ∷ [])) (attr 2) 0 0 1 12) 0x101000400010000000000000000000000000000000000 0x15C9C7BFEA9DE8E7
-    ∷ ok (allocate (nm (0xE2 ∷ 0xC5 ∷ 0xE3 ∷ 0xF2 ∷ [])) (attr 3) 0 0 1 14) 0x101000500010000000000000000000000000000000000 0x1D052DD53969F4A0
-    ∷ ok (allocate (nm (0xE2 ∷ 0xC5 ∷ 0xE3 ∷ 0xF3 ∷ [])) (attr 4) 0 0 1 15) 0x101000600010000000000000000000000000000000000 0x7ACD939BA79A5BE
-    ∷ ok (allocate (nm (0xE6 ∷ 0xF0 ∷ [])) (attr 5) 2 8 1 0) 0x101000800010000000000000000000000000000000000 0x105148ED91C2467A
-    ∷ ok (allocate (nm (0xE6 ∷ 0xF1 ∷ [])) (attr 6) 2 11 1 0) 0x101000B00010000000000000000000000000000000000 0xDF5330F3BF3FA4
-    ∷ ok (allocate (nm (0xE6 ∷ 0xF2 ∷ [])) (attr 7) 2 15 1 0) 0x101000F00010000000000000000000000000000000000 0x30C23A857C58921
-    ∷ ok (allocate (nm (0xE6 ∷ 0xF3 ∷ [])) (attr 8) 2 20 1 0) 0x101001400010000000000000000000000000000000000 0x37B2A2F88F058A2
-    ∷ ok (allocate (nm (0xE6 ∷ 0xF4 ∷ [])) (attr 9) 2 26 1 0) 0x101001A00010000000000000000000000000000000000 0xA4E93D285003D9F
+    ∷ ok (allocate (request (nm (0xE2 ∷ 0xC5 ∷ 0xE3 ∷ 0xF0 ∷ [])) (attr 1) 0 0 1 9)) 0x101000300010000000000000000000000000000000000 0x141910A49FD429BB
+    ∷ ok (allocate (request (nm (0xE2 ∷ 0xC5 ∷ 0xE3 ∷ 0xF1 ∷ [])) (attr 2) 0 0 1 12)) 0x101000400010000000000000000000000000000000000 0x15C9C7BFEA9DE8E7
+    ∷ ok (allocate (request (nm (0xE2 ∷ 0xC5 ∷ 0xE3 ∷ 0xF2 ∷ [])) (attr 3) 0 0 1 14)) 0x101000500010000000000000000000000000000000000 0x1D052DD53969F4A0
+    ∷ ok (allocate (request (nm (0xE2 ∷ 0xC5 ∷ 0xE3 ∷ 0xF3 ∷ [])) (attr 4) 0 0 1 15)) 0x101000600010000000000000000000000000000000000 0x7ACD939BA79A5BE
+    ∷ ok (allocate (request (nm (0xE6 ∷ 0xF0 ∷ [])) (attr 5) 2 8 1 0)) 0x101000800010000000000000000000000000000000000 0x105148ED91C2467A
+    ∷ ok (allocate (request (nm (0xE6 ∷ 0xF1 ∷ [])) (attr 6) 2 11 1 0)) 0x101000B00010000000000000000000000000000000000 0xDF5330F3BF3FA4
+    ∷ ok (allocate (request (nm (0xE6 ∷ 0xF2 ∷ [])) (attr 7) 2 15 1 0)) 0x101000F00010000000000000000000000000000000000 0x30C23A857C58921
+    ∷ ok (allocate (request (nm (0xE6 ∷ 0xF3 ∷ [])) (attr 8) 2 20 1 0)) 0x101001400010000000000000000000000000000000000 0x37B2A2F88F058A2
+    ∷ ok (allocate (request (nm (0xE6 ∷ 0xF4 ∷ [])) (attr 9) 2 26 1 0)) 0x101001A00010000000000000000000000000000000000 0xA4E93D285003D9F
     ∷ ok (extend (nm (0xE2 ∷ 0xC5 ∷ 0xE3 ∷ 0xF0 ∷ []))) 0x902001500050010000400000000000000000000000000 0x703E566E579D8DF
     ∷ no (extend (nm (0xE2 ∷ 0xC5 ∷ 0xE3 ∷ 0xF0 ∷ []))) 9
     ∷ ok (release (nm (0xE2 ∷ 0xC5 ∷ 0xE3 ∷ 0xF0 ∷ [])) 0x1) 0x900000000000000000000000000000000000000000000 0xCACED7CF292561A
@@ -277,7 +278,7 @@ sequence10 =
     ∷ []
 
 pub case10 : T (right [] sequence10)
-unfolding held gaps free used unused format0s choose extentPart format4 format5 format1 format3 records encode readGeometry readExtents readLabel readRecords read goodName limits goodLabel valid taken goodLength settle grant rule goodLengths perform initialise
+unfolding held gaps free used unused format0s choose extentPart format4 format5 format1 format3 records encode readGeometry readExtents readLabel readRecords read goodName limits goodLabel valid taken goodLength settle grant rule goodLengths perform initialise printable listing
 case10 = tt
 
 -- Sixteen extents and no more
@@ -285,7 +286,7 @@ case10 = tt
 abbrev pub sequence11 : List Row
 sequence11 =
     begin 20 1 4 1 1 0 0x156C66EDB8C54725
-    ∷ ok (allocate (nm (0xC1 ∷ [])) (attr 1) 0 0 1 1) 0x101000200010000000000000000000000000000000000 0x92307D0785E4D0A
+    ∷ ok (allocate (request (nm (0xC1 ∷ [])) (attr 1) 0 0 1 1)) 0x101000200010000000000000000000000000000000000 0x92307D0785E4D0A
     ∷ ok (extend (nm (0xC1 ∷ []))) 0x101000300010000000000000000000000000000000000 0xDC4BCD22089A3DE
     ∷ ok (extend (nm (0xC1 ∷ []))) 0x101000400010000000000000000000000000000000000 0x1926EDC399771DE1
     ∷ ok (extend (nm (0xC1 ∷ []))) 0x101000500010000000000000000000000000000000000 0x1E76677625ABFCFB
@@ -307,7 +308,7 @@ sequence11 =
     ∷ []
 
 pub case11 : T (right [] sequence11)
-unfolding held gaps free used unused format0s choose extentPart format4 format5 format1 format3 records encode readGeometry readExtents readLabel readRecords read goodName limits goodLabel valid taken goodLength settle grant rule goodLengths perform initialise
+unfolding held gaps free used unused format0s choose extentPart format4 format5 format1 format3 records encode readGeometry readExtents readLabel readRecords read goodName limits goodLabel valid taken goodLength settle grant rule goodLengths perform initialise printable listing
 case11 = tt
 
 -- Cylinders are whole ones, compared in cylinders
@@ -315,24 +316,24 @@ case11 = tt
 abbrev pub sequence12 : List Row
 sequence12 =
     begin 15 4 7 1 2 0 0xA84BC0082D31F81
-    ∷ ok (allocate (nm (0xE6 ∷ 0xF0 ∷ [])) (attr 1) 2 3 2 0) 0x201000300020000000000000000000000000000000000 0x2DAD70A999698E5
-    ∷ ok (allocate (nm (0xE6 ∷ 0xF1 ∷ [])) (attr 2) 2 12 4 0) 0x401000C00040000000000000000000000000000000000 0x136D208E969D6DFF
-    ∷ ok (allocate (nm (0xE6 ∷ 0xF2 ∷ [])) (attr 3) 2 20 5 0) 0x501001400050000000000000000000000000000000000 0x1BF4C840965F553D
-    ∷ ok (allocate (nm (0xE6 ∷ 0xF3 ∷ [])) (attr 4) 2 36 4 0) 0x401002400040000000000000000000000000000000000 0x10DBCAF42CB8D2F7
-    ∷ ok (allocate (nm (0xE6 ∷ 0xF4 ∷ [])) (attr 5) 2 48 2 0) 0x201003000020000000000000000000000000000000000 0x6B4A3FEAF7F1208
-    ∷ ok (allocate (nm (0xE6 ∷ 0xF5 ∷ [])) (attr 6) 2 55 5 0) 0x501003700050000000000000000000000000000000000 0x44A942CE8688B90
-    ∷ no (allocate (nm (0xC1 ∷ [])) (attr 7) 1 0 7 0) 9
-    ∷ ok (allocate (nm (0xC1 ∷ [])) (attr 8) 1 0 6 1) 0x1804001C00080028000800080004001000040000000000 0x1B47650F1B19DCEC
+    ∷ ok (allocate (request (nm (0xE6 ∷ 0xF0 ∷ [])) (attr 1) 2 3 2 0)) 0x201000300020000000000000000000000000000000000 0x2DAD70A999698E5
+    ∷ ok (allocate (request (nm (0xE6 ∷ 0xF1 ∷ [])) (attr 2) 2 12 4 0)) 0x401000C00040000000000000000000000000000000000 0x136D208E969D6DFF
+    ∷ ok (allocate (request (nm (0xE6 ∷ 0xF2 ∷ [])) (attr 3) 2 20 5 0)) 0x501001400050000000000000000000000000000000000 0x1BF4C840965F553D
+    ∷ ok (allocate (request (nm (0xE6 ∷ 0xF3 ∷ [])) (attr 4) 2 36 4 0)) 0x401002400040000000000000000000000000000000000 0x10DBCAF42CB8D2F7
+    ∷ ok (allocate (request (nm (0xE6 ∷ 0xF4 ∷ [])) (attr 5) 2 48 2 0)) 0x201003000020000000000000000000000000000000000 0x6B4A3FEAF7F1208
+    ∷ ok (allocate (request (nm (0xE6 ∷ 0xF5 ∷ [])) (attr 6) 2 55 5 0)) 0x501003700050000000000000000000000000000000000 0x44A942CE8688B90
+    ∷ no (allocate (request (nm (0xC1 ∷ [])) (attr 7) 1 0 7 0)) 9
+    ∷ ok (allocate (request (nm (0xC1 ∷ [])) (attr 8) 1 0 6 1)) 0x1804001C00080028000800080004001000040000000000 0x1B47650F1B19DCEC
     ∷ no (extend (nm (0xC1 ∷ []))) 9
     ∷ ok (release (nm (0xC1 ∷ [])) 0x1301) 0x400000000000000000000000000000000000000000000 0x73C4F2BB80E5B72
     ∷ ok (extend (nm (0xC1 ∷ []))) 0x401001000040000000000000000000000000000000000 0x1EBB427AA992C495
     ∷ ok (release (nm (0xC1 ∷ [])) 0x901) 0xE00000000000000000000000000000000000000000000 0x16C041A02215235C
-    ∷ ok (allocate (nm (0xC2 ∷ [])) (attr 13) 1 0 1 0) 0x401000800040000000000000000000000000000000000 0x17DEA606DC1AC140
-    ∷ ok (allocate (nm (0xC3 ∷ [])) (attr 14) 1 0 2 0) 0x80200100004002C000400000000000000000000000000 0x1914D57B2151FE89
+    ∷ ok (allocate (request (nm (0xC2 ∷ [])) (attr 13) 1 0 1 0)) 0x401000800040000000000000000000000000000000000 0x17DEA606DC1AC140
+    ∷ ok (allocate (request (nm (0xC3 ∷ [])) (attr 14) 1 0 2 0)) 0x80200100004002C000400000000000000000000000000 0x1914D57B2151FE89
     ∷ []
 
 pub case12 : T (right [] sequence12)
-unfolding held gaps free used unused format0s choose extentPart format4 format5 format1 format3 records encode readGeometry readExtents readLabel readRecords read goodName limits goodLabel valid taken goodLength settle grant rule goodLengths perform initialise
+unfolding held gaps free used unused format0s choose extentPart format4 format5 format1 format3 records encode readGeometry readExtents readLabel readRecords read goodName limits goodLabel valid taken goodLength settle grant rule goodLengths perform initialise printable listing
 case12 = tt
 
 -- Absolute tracks in every place of a free extent
@@ -340,21 +341,21 @@ case12 = tt
 abbrev pub sequence13 : List Row
 sequence13 =
     begin 4 5 5 1 2 0 0x1A5E83DFF644553
-    ∷ ok (allocate (nm (0xD4 ∷ 0xC9 ∷ 0xC4 ∷ 0xC4 ∷ 0xD3 ∷ 0xC5 ∷ [])) (attr 1) 2 8 3 0) 0x301000800030000000000000000000000000000000000 0x1DC2109796AFE179
-    ∷ ok (allocate (nm (0xC6 ∷ 0xD9 ∷ 0xD6 ∷ 0xD5 ∷ 0xE3 ∷ [])) (attr 2) 2 3 2 0) 0x201000300020000000000000000000000000000000000 0x123C6314CE332051
-    ∷ ok (allocate (nm (0xE3 ∷ 0xC1 ∷ 0xC9 ∷ 0xD3 ∷ [])) (attr 3) 2 18 2 0) 0x201001200020000000000000000000000000000000000 0x14FA2EA87DF7529F
-    ∷ ok (allocate (nm (0xE6 ∷ 0xC8 ∷ 0xD6 ∷ 0xD3 ∷ 0xC5 ∷ [])) (attr 4) 2 5 3 0) 0x301000500030000000000000000000000000000000000 0x3494C3A0B9C6234
-    ∷ no (allocate (nm (0xE7 ∷ [])) (attr 5) 2 10 2 0) 9
-    ∷ no (allocate (nm (0xE7 ∷ [])) (attr 6) 2 17 2 0) 9
-    ∷ no (allocate (nm (0xE7 ∷ [])) (attr 7) 2 0 20 0) 9
+    ∷ ok (allocate (request (nm (0xD4 ∷ 0xC9 ∷ 0xC4 ∷ 0xC4 ∷ 0xD3 ∷ 0xC5 ∷ [])) (attr 1) 2 8 3 0)) 0x301000800030000000000000000000000000000000000 0x1DC2109796AFE179
+    ∷ ok (allocate (request (nm (0xC6 ∷ 0xD9 ∷ 0xD6 ∷ 0xD5 ∷ 0xE3 ∷ [])) (attr 2) 2 3 2 0)) 0x201000300020000000000000000000000000000000000 0x123C6314CE332051
+    ∷ ok (allocate (request (nm (0xE3 ∷ 0xC1 ∷ 0xC9 ∷ 0xD3 ∷ [])) (attr 3) 2 18 2 0)) 0x201001200020000000000000000000000000000000000 0x14FA2EA87DF7529F
+    ∷ ok (allocate (request (nm (0xE6 ∷ 0xC8 ∷ 0xD6 ∷ 0xD3 ∷ 0xC5 ∷ [])) (attr 4) 2 5 3 0)) 0x301000500030000000000000000000000000000000000 0x3494C3A0B9C6234
+    ∷ no (allocate (request (nm (0xE7 ∷ [])) (attr 5) 2 10 2 0)) 9
+    ∷ no (allocate (request (nm (0xE7 ∷ [])) (attr 6) 2 17 2 0)) 9
+    ∷ no (allocate (request (nm (0xE7 ∷ [])) (attr 7) 2 0 20 0)) 9
     ∷ no (extend (nm (0xE6 ∷ 0xC8 ∷ 0xD6 ∷ 0xD3 ∷ 0xC5 ∷ []))) 8
     ∷ ok (scratch (nm (0xD4 ∷ 0xC9 ∷ 0xC4 ∷ 0xC4 ∷ 0xD3 ∷ 0xC5 ∷ []))) 0x300000000000000000000000000000000000000000000 0x7BBDF579CC96A4E
     ∷ ok (release (nm (0xE6 ∷ 0xC8 ∷ 0xD6 ∷ 0xD3 ∷ 0xC5 ∷ [])) 0x101) 0x100000000000000000000000000000000000000000000 0xD3FBF9E0E3FE178
-    ∷ ok (allocate (nm (0xE7 ∷ [])) (attr 11) 2 7 11 0) 0xB010007000B0000000000000000000000000000000000 0x18F170E7F135AEB0
+    ∷ ok (allocate (request (nm (0xE7 ∷ [])) (attr 11) 2 7 11 0)) 0xB010007000B0000000000000000000000000000000000 0x18F170E7F135AEB0
     ∷ []
 
 pub case13 : T (right [] sequence13)
-unfolding held gaps free used unused format0s choose extentPart format4 format5 format1 format3 records encode readGeometry readExtents readLabel readRecords read goodName limits goodLabel valid taken goodLength settle grant rule goodLengths perform initialise
+unfolding held gaps free used unused format0s choose extentPart format4 format5 format1 format3 records encode readGeometry readExtents readLabel readRecords read goodName limits goodLabel valid taken goodLength settle grant rule goodLengths perform initialise printable listing
 case13 = tt
 
 -- Release inside and at the end of an extent, with and without its format 3
@@ -362,7 +363,7 @@ case13 = tt
 abbrev pub sequence14 : List Row
 sequence14 =
     begin 10 5 7 1 1 0 0x42DD2CC37093B3E
-    ∷ ok (allocate (nm (0xC1 ∷ [])) (attr 1) 1 0 2 1) 0xA010005000A0000000000000000000000000000000000 0x1EAB8ADF15DAB898
+    ∷ ok (allocate (request (nm (0xC1 ∷ [])) (attr 1) 1 0 2 1)) 0xA010005000A0000000000000000000000000000000000 0x1EAB8ADF15DAB898
     ∷ ok (extend (nm (0xC1 ∷ []))) 0x501000F00050000000000000000000000000000000000 0x1EA24A606AB8FEE6
     ∷ ok (extend (nm (0xC1 ∷ []))) 0x501001400050000000000000000000000000000000000 0x184875596B1BB1D2
     ∷ ok (extend (nm (0xC1 ∷ []))) 0x501001900050000000000000000000000000000000000 0x113C81ED84A3DD70
@@ -380,7 +381,7 @@ sequence14 =
     ∷ []
 
 pub case14 : T (right [] sequence14)
-unfolding held gaps free used unused format0s choose extentPart format4 format5 format1 format3 records encode readGeometry readExtents readLabel readRecords read goodName limits goodLabel valid taken goodLength settle grant rule goodLengths perform initialise
+unfolding held gaps free used unused format0s choose extentPart format4 format5 format1 format3 records encode readGeometry readExtents readLabel readRecords read goodName limits goodLabel valid taken goodLength settle grant rule goodLengths perform initialise printable listing
 case14 = tt
 
 -- Lengths of every buffer
@@ -388,9 +389,9 @@ case14 = tt
 abbrev pub sequence15 : List Row
 sequence15 =
     begin 4 5 2 1 2 0 0x1D56B5422AF11817
-    ∷ ok (allocate (nm (0xC1 ∷ [])) (attr 1) 0 0 4 0) 0x401000300040000000000000000000000000000000000 0xBEEBC1A27153530
-    ∷ ok (allocate (nm (0xC2 ∷ [])) (attr 2) 0 0 10 2) 0xA010007000A0000000000000000000000000000000000 0x11ADBB01FF443CD5
-    ∷ sized 560 23 280 (allocate (nm (0xC2 ∷ [])) (attr 9) 0 0 1 0) 2
+    ∷ ok (allocate (request (nm (0xC1 ∷ [])) (attr 1) 0 0 4 0)) 0x401000300040000000000000000000000000000000000 0xBEEBC1A27153530
+    ∷ ok (allocate (request (nm (0xC2 ∷ [])) (attr 2) 0 0 10 2)) 0xA010007000A0000000000000000000000000000000000 0x11ADBB01FF443CD5
+    ∷ sized 560 23 280 (allocate (request (nm (0xC2 ∷ [])) (attr 9) 0 0 1 0)) 2
     ∷ sized 561 24 280 (extend (nm (0xC2 ∷ []))) 2
     ∷ sized 560 25 280 (release (nm (0xC2 ∷ [])) 0x1) 2
     ∷ sized 559 24 280 (scratch (nm (0xC2 ∷ []))) 2
@@ -399,7 +400,7 @@ sequence15 =
     ∷ sized 560 25 280 lspace 2
     ∷ sized 420 24 280 lspace 3
     ∷ sized 700 24 280 (scratch (nm (0xC2 ∷ []))) 3
-    ∷ sized 560 24 280 (allocate (raw 43 (0xC2 ∷ [])) (attr 9) 0 0 1 0) 2
+    ∷ sized 560 24 280 (allocate (request (raw 43 (0xC2 ∷ [])) (attr 9) 0 0 1 0)) 2
     ∷ sized 560 24 280 (extend (raw 45 (0xC2 ∷ []))) 2
     ∷ sized 560 24 280 (release (raw 0 []) 0x1) 2
     ∷ sized 560 24 280 (scratch (raw 88 (0xC2 ∷ []))) 2
@@ -407,14 +408,14 @@ sequence15 =
     ∷ sized 560 24 280 (obtain (raw 45 (0xC2 ∷ []))) 2
     ∷ sized 560 24 140 (obtain (nm (0xC2 ∷ []))) 2
     ∷ sized 560 24 281 (obtain (nm (0xC2 ∷ []))) 2
-    ∷ sized 560 24 280 (allocate (nm (0xC3 ∷ [])) (attrN 51 5) 0 0 1 0) 2
-    ∷ sized 560 24 280 (allocate (nm (0xC3 ∷ [])) (attrN 53 5) 0 0 1 0) 2
+    ∷ sized 560 24 280 (allocate (request (nm (0xC3 ∷ [])) (attrN 51 5) 0 0 1 0)) 2
+    ∷ sized 560 24 280 (allocate (request (nm (0xC3 ∷ [])) (attrN 53 5) 0 0 1 0)) 2
     ∷ sized 560 24 280 (rename (nm (0xC2 ∷ [])) (raw 40 (0xC3 ∷ []))) 2
     ∷ sized 560 24 0 (scratch (nm (0xC2 ∷ []))) 0
     ∷ []
 
 pub case15 : T (right [] sequence15)
-unfolding held gaps free used unused format0s choose extentPart format4 format5 format1 format3 records encode readGeometry readExtents readLabel readRecords read goodName limits goodLabel valid taken goodLength settle grant rule goodLengths perform initialise
+unfolding held gaps free used unused format0s choose extentPart format4 format5 format1 format3 records encode readGeometry readExtents readLabel readRecords read goodName limits goodLabel valid taken goodLength settle grant rule goodLengths perform initialise printable listing
 case15 = tt
 
 -- Names against the rule
@@ -422,15 +423,15 @@ case15 = tt
 abbrev pub sequence16 : List Row
 sequence16 =
     begin 4 5 2 1 2 0 0x1D56B5422AF11817
-    ∷ ok (allocate (nm (0xC1 ∷ [])) (attr 1) 0 0 4 0) 0x401000300040000000000000000000000000000000000 0xBEEBC1A27153530
-    ∷ ok (allocate (nm (0xC2 ∷ [])) (attr 2) 0 0 10 2) 0xA010007000A0000000000000000000000000000000000 0x11ADBB01FF443CD5
-    ∷ no (allocate (nm []) (attr 9) 0 0 1 0) 4
+    ∷ ok (allocate (request (nm (0xC1 ∷ [])) (attr 1) 0 0 4 0)) 0x401000300040000000000000000000000000000000000 0xBEEBC1A27153530
+    ∷ ok (allocate (request (nm (0xC2 ∷ [])) (attr 2) 0 0 10 2)) 0xA010007000A0000000000000000000000000000000000 0x11ADBB01FF443CD5
+    ∷ no (allocate (request (nm []) (attr 9) 0 0 1 0)) 4
     ∷ no (extend (nm (0x40 ∷ 0xC1 ∷ []))) 4
     ∷ no (release (nm (0xF1 ∷ 0xC1 ∷ [])) 0x1) 4
     ∷ no (scratch (nm (0x60 ∷ 0xC1 ∷ []))) 4
     ∷ no (rename (nm (0x4B ∷ 0xC1 ∷ [])) (nm (0xD5 ∷ 0xC5 ∷ 0xE6 ∷ []))) 4
     ∷ no (obtain (nm (0xC1 ∷ 0x4B ∷ []))) 4
-    ∷ no (allocate (nm (0xC1 ∷ 0x4B ∷ 0x4B ∷ 0xC2 ∷ [])) (attr 9) 0 0 1 0) 4
+    ∷ no (allocate (request (nm (0xC1 ∷ 0x4B ∷ 0x4B ∷ 0xC2 ∷ [])) (attr 9) 0 0 1 0)) 4
     ∷ no (extend (nm (0xC1 ∷ 0x4B ∷ 0xF1 ∷ 0xC2 ∷ []))) 4
     ∷ no (release (nm (0xC1 ∷ 0xC2 ∷ 0xC3 ∷ 0xC4 ∷ 0xC5 ∷ 0xC6 ∷ 0xC7 ∷ 0xC8 ∷ 0xC9 ∷ [])) 0x1) 4
     ∷ no (scratch (nm (0xC1 ∷ 0x40 ∷ 0xC2 ∷ []))) 4
@@ -445,7 +446,7 @@ sequence16 =
     ∷ []
 
 pub case16 : T (right [] sequence16)
-unfolding held gaps free used unused format0s choose extentPart format4 format5 format1 format3 records encode readGeometry readExtents readLabel readRecords read goodName limits goodLabel valid taken goodLength settle grant rule goodLengths perform initialise
+unfolding held gaps free used unused format0s choose extentPart format4 format5 format1 format3 records encode readGeometry readExtents readLabel readRecords read goodName limits goodLabel valid taken goodLength settle grant rule goodLengths perform initialise printable listing
 case16 = tt
 
 -- Kinds, amounts and TTRs out of their ranges
@@ -453,29 +454,29 @@ case16 = tt
 abbrev pub sequence17 : List Row
 sequence17 =
     begin 4 5 2 1 2 0 0x1D56B5422AF11817
-    ∷ ok (allocate (nm (0xC1 ∷ [])) (attr 1) 0 0 4 0) 0x401000300040000000000000000000000000000000000 0xBEEBC1A27153530
-    ∷ ok (allocate (nm (0xC2 ∷ [])) (attr 2) 0 0 10 2) 0xA010007000A0000000000000000000000000000000000 0x11ADBB01FF443CD5
-    ∷ no (allocate (nm (0xC3 ∷ [])) (attr 3) 3 17 1 0) 7
-    ∷ no (allocate (nm (0xC3 ∷ [])) (attr 4) 0 0 0 0) 7
-    ∷ no (allocate (nm (0xC3 ∷ [])) (attr 5) 1 0 65536 0) 7
-    ∷ no (allocate (nm (0xC3 ∷ [])) (attr 6) 0 0 1 16777216) 7
-    ∷ no (allocate (nm (0xC3 ∷ [])) (attr 7) 0 0 65535 16777215) 9
-    ∷ no (allocate (nm (0xC3 ∷ [])) (attr 8) 2 17 0 0) 7
-    ∷ no (allocate (nm (0xC3 ∷ [])) (attr 9) 2 17 4 0) 7
-    ∷ no (allocate (nm (0xC3 ∷ [])) (attr 10) 2 4294967295 4294967295 0) 7
-    ∷ no (allocate (nm (0xC3 ∷ [])) (attr 11) 2 17 1 1) 7
+    ∷ ok (allocate (request (nm (0xC1 ∷ [])) (attr 1) 0 0 4 0)) 0x401000300040000000000000000000000000000000000 0xBEEBC1A27153530
+    ∷ ok (allocate (request (nm (0xC2 ∷ [])) (attr 2) 0 0 10 2)) 0xA010007000A0000000000000000000000000000000000 0x11ADBB01FF443CD5
+    ∷ no (allocate (request (nm (0xC3 ∷ [])) (attr 3) 3 17 1 0)) 7
+    ∷ no (allocate (request (nm (0xC3 ∷ [])) (attr 4) 0 0 0 0)) 7
+    ∷ no (allocate (request (nm (0xC3 ∷ [])) (attr 5) 1 0 65536 0)) 7
+    ∷ no (allocate (request (nm (0xC3 ∷ [])) (attr 6) 0 0 1 16777216)) 7
+    ∷ no (allocate (request (nm (0xC3 ∷ [])) (attr 7) 0 0 65535 16777215)) 9
+    ∷ no (allocate (request (nm (0xC3 ∷ [])) (attr 8) 2 17 0 0)) 7
+    ∷ no (allocate (request (nm (0xC3 ∷ [])) (attr 9) 2 17 4 0)) 7
+    ∷ no (allocate (request (nm (0xC3 ∷ [])) (attr 10) 2 4294967295 4294967295 0)) 7
+    ∷ no (allocate (request (nm (0xC3 ∷ [])) (attr 11) 2 17 1 1)) 7
     ∷ no (release (nm (0xC2 ∷ [])) 0x1000001) 12
     ∷ no (release (nm (0xC2 ∷ [])) 0xFFFFFFFF) 12
     ∷ no (release (nm (0xC2 ∷ [])) 0xA01) 12
     ∷ no (release (nm (0xC2 ∷ [])) 0x100) 12
     ∷ ok (release (nm (0xC2 ∷ [])) 0x9FF) 0x0 0xD5FC9716E3DDD1
     ∷ ok (scratch (nm (0xC1 ∷ []))) 0x400000000000000000000000000000000000000000000 0x13F99DC00DB1FBBC
-    ∷ ok (allocate (nm (0xC3 ∷ [])) (attr 18) 0 4294967295 1 16777215) 0x101001100010000000000000000000000000000000000 0x8E07E35CDCA334F
+    ∷ ok (allocate (request (nm (0xC3 ∷ [])) (attr 18) 0 4294967295 1 16777215)) 0x101001100010000000000000000000000000000000000 0x8E07E35CDCA334F
     ∷ no (extend (nm (0xC3 ∷ []))) 9
     ∷ []
 
 pub case17 : T (right [] sequence17)
-unfolding held gaps free used unused format0s choose extentPart format4 format5 format1 format3 records encode readGeometry readExtents readLabel readRecords read goodName limits goodLabel valid taken goodLength settle grant rule goodLengths perform initialise
+unfolding held gaps free used unused format0s choose extentPart format4 format5 format1 format3 records encode readGeometry readExtents readLabel readRecords read goodName limits goodLabel valid taken goodLength settle grant rule goodLengths perform initialise printable listing
 case17 = tt
 
 -- Where several refusals apply, the first of them
@@ -483,13 +484,13 @@ case17 = tt
 abbrev pub sequence18 : List Row
 sequence18 =
     begin 4 5 2 1 2 0 0x1D56B5422AF11817
-    ∷ ok (allocate (nm (0xC1 ∷ [])) (attr 1) 0 0 4 0) 0x401000300040000000000000000000000000000000000 0xBEEBC1A27153530
-    ∷ ok (allocate (nm (0xC2 ∷ [])) (attr 2) 0 0 10 2) 0xA010007000A0000000000000000000000000000000000 0x11ADBB01FF443CD5
-    ∷ no (allocate (nm []) (attr 3) 9 0 0 0) 4
-    ∷ no (allocate (nm (0xC1 ∷ [])) (attr 4) 0 0 0 0) 7
-    ∷ no (allocate (nm (0xC1 ∷ [])) (attr 5) 0 0 4 0) 6
-    ∷ no (allocate (nm (0xC3 ∷ [])) (attr 6) 0 0 4 0) 9
-    ∷ no (allocate (nm (0xC3 ∷ [])) (attr 7) 0 0 3 0) 11
+    ∷ ok (allocate (request (nm (0xC1 ∷ [])) (attr 1) 0 0 4 0)) 0x401000300040000000000000000000000000000000000 0xBEEBC1A27153530
+    ∷ ok (allocate (request (nm (0xC2 ∷ [])) (attr 2) 0 0 10 2)) 0xA010007000A0000000000000000000000000000000000 0x11ADBB01FF443CD5
+    ∷ no (allocate (request (nm []) (attr 3) 9 0 0 0)) 4
+    ∷ no (allocate (request (nm (0xC1 ∷ [])) (attr 4) 0 0 0 0)) 7
+    ∷ no (allocate (request (nm (0xC1 ∷ [])) (attr 5) 0 0 4 0)) 6
+    ∷ no (allocate (request (nm (0xC3 ∷ [])) (attr 6) 0 0 4 0)) 9
+    ∷ no (allocate (request (nm (0xC3 ∷ [])) (attr 7) 0 0 3 0)) 11
     ∷ no (extend (nm (0xC1 ∷ []))) 8
     ∷ no (extend (nm (0xC3 ∷ []))) 5
     ∷ no (release (nm (0xC3 ∷ [])) 0xFFFF00) 5
@@ -497,7 +498,7 @@ sequence18 =
     ∷ no (obtain (nm (0xC3 ∷ []))) 5
     ∷ no (rename (nm (0xC3 ∷ [])) (nm (0xC1 ∷ []))) 5
     ∷ no (rename (nm (0xC1 ∷ [])) (nm (0xC2 ∷ []))) 6
-    ∷ hurt ((60, 0x01) ∷ []) (allocate (nm (0x00 ∷ 0x00 ∷ 0x00 ∷ 0x00 ∷ 0x00 ∷ 0x00 ∷ 0x00 ∷ 0x00 ∷ 0x00 ∷ 0x00 ∷ 0x00 ∷ 0x00 ∷ 0x00 ∷ 0x00 ∷ 0x00 ∷ 0x00 ∷ 0x00 ∷ 0x00 ∷ 0x00 ∷ 0x00 ∷ 0x00 ∷ 0x00 ∷ 0x00 ∷ 0x00 ∷ 0x00 ∷ 0x00 ∷ 0x00 ∷ 0x00 ∷ 0x00 ∷ 0x00 ∷ 0x00 ∷ 0x00 ∷ 0x00 ∷ 0x00 ∷ 0x00 ∷ 0x00 ∷ 0x00 ∷ 0x00 ∷ 0x00 ∷ 0x00 ∷ 0x00 ∷ 0x00 ∷ 0x00 ∷ 0x00 ∷ [])) (attr 9) 0 0 1 0) 3
+    ∷ hurt ((60, 0x01) ∷ []) (allocate (request (nm (0x00 ∷ 0x00 ∷ 0x00 ∷ 0x00 ∷ 0x00 ∷ 0x00 ∷ 0x00 ∷ 0x00 ∷ 0x00 ∷ 0x00 ∷ 0x00 ∷ 0x00 ∷ 0x00 ∷ 0x00 ∷ 0x00 ∷ 0x00 ∷ 0x00 ∷ 0x00 ∷ 0x00 ∷ 0x00 ∷ 0x00 ∷ 0x00 ∷ 0x00 ∷ 0x00 ∷ 0x00 ∷ 0x00 ∷ 0x00 ∷ 0x00 ∷ 0x00 ∷ 0x00 ∷ 0x00 ∷ 0x00 ∷ 0x00 ∷ 0x00 ∷ 0x00 ∷ 0x00 ∷ 0x00 ∷ 0x00 ∷ 0x00 ∷ 0x00 ∷ 0x00 ∷ 0x00 ∷ 0x00 ∷ 0x00 ∷ [])) (attr 9) 0 0 1 0)) 3
     ∷ hurt ((60, 0x01) ∷ []) (extend (nm (0x00 ∷ 0x00 ∷ 0x00 ∷ 0x00 ∷ 0x00 ∷ 0x00 ∷ 0x00 ∷ 0x00 ∷ 0x00 ∷ 0x00 ∷ 0x00 ∷ 0x00 ∷ 0x00 ∷ 0x00 ∷ 0x00 ∷ 0x00 ∷ 0x00 ∷ 0x00 ∷ 0x00 ∷ 0x00 ∷ 0x00 ∷ 0x00 ∷ 0x00 ∷ 0x00 ∷ 0x00 ∷ 0x00 ∷ 0x00 ∷ 0x00 ∷ 0x00 ∷ 0x00 ∷ 0x00 ∷ 0x00 ∷ 0x00 ∷ 0x00 ∷ 0x00 ∷ 0x00 ∷ 0x00 ∷ 0x00 ∷ 0x00 ∷ 0x00 ∷ 0x00 ∷ 0x00 ∷ 0x00 ∷ 0x00 ∷ []))) 3
     ∷ hurt ((60, 0x01) ∷ []) (release (nm (0x00 ∷ 0x00 ∷ 0x00 ∷ 0x00 ∷ 0x00 ∷ 0x00 ∷ 0x00 ∷ 0x00 ∷ 0x00 ∷ 0x00 ∷ 0x00 ∷ 0x00 ∷ 0x00 ∷ 0x00 ∷ 0x00 ∷ 0x00 ∷ 0x00 ∷ 0x00 ∷ 0x00 ∷ 0x00 ∷ 0x00 ∷ 0x00 ∷ 0x00 ∷ 0x00 ∷ 0x00 ∷ 0x00 ∷ 0x00 ∷ 0x00 ∷ 0x00 ∷ 0x00 ∷ 0x00 ∷ 0x00 ∷ 0x00 ∷ 0x00 ∷ 0x00 ∷ 0x00 ∷ 0x00 ∷ 0x00 ∷ 0x00 ∷ 0x00 ∷ 0x00 ∷ 0x00 ∷ 0x00 ∷ 0x00 ∷ [])) 0x1) 3
     ∷ hurt ((60, 0x01) ∷ []) (scratch (nm (0x00 ∷ 0x00 ∷ 0x00 ∷ 0x00 ∷ 0x00 ∷ 0x00 ∷ 0x00 ∷ 0x00 ∷ 0x00 ∷ 0x00 ∷ 0x00 ∷ 0x00 ∷ 0x00 ∷ 0x00 ∷ 0x00 ∷ 0x00 ∷ 0x00 ∷ 0x00 ∷ 0x00 ∷ 0x00 ∷ 0x00 ∷ 0x00 ∷ 0x00 ∷ 0x00 ∷ 0x00 ∷ 0x00 ∷ 0x00 ∷ 0x00 ∷ 0x00 ∷ 0x00 ∷ 0x00 ∷ 0x00 ∷ 0x00 ∷ 0x00 ∷ 0x00 ∷ 0x00 ∷ 0x00 ∷ 0x00 ∷ 0x00 ∷ 0x00 ∷ 0x00 ∷ 0x00 ∷ 0x00 ∷ 0x00 ∷ []))) 3
@@ -507,7 +508,7 @@ sequence18 =
     ∷ []
 
 pub case18 : T (right [] sequence18)
-unfolding held gaps free used unused format0s choose extentPart format4 format5 format1 format3 records encode readGeometry readExtents readLabel readRecords read goodName limits goodLabel valid taken goodLength settle grant rule goodLengths perform initialise
+unfolding held gaps free used unused format0s choose extentPart format4 format5 format1 format3 records encode readGeometry readExtents readLabel readRecords read goodName limits goodLabel valid taken goodLength settle grant rule goodLengths perform initialise printable listing
 case18 = tt
 
 -- Damaged tables with a format 3
@@ -515,9 +516,9 @@ case18 = tt
 abbrev pub sequence19 : List Row
 sequence19 =
     begin 11 3 4 4 2 0 0xB433BC0EC5C5BCD
-    ∷ ok (allocate (nm (0xC7 ∷ 0xC1 ∷ 0xD7 ∷ [])) (attr 1) 2 9 1 0) 0x101000900010000000000000000000000000000000000 0x165A0968A7CA8336
-    ∷ ok (allocate (nm (0xC3 ∷ 0xE8 ∷ 0xD3 ∷ [])) (attr 2) 1 0 1 1) 0x301000600030000000000000000000000000000000000 0x199EE5ABFFE151E3
-    ∷ ok (allocate (nm (0xD3 ∷ 0xD6 ∷ 0xD5 ∷ 0xC7 ∷ [])) (attr 3) 0 0 2 2) 0x201000100020000000000000000000000000000000000 0xFFF2F7064401EB4
+    ∷ ok (allocate (request (nm (0xC7 ∷ 0xC1 ∷ 0xD7 ∷ [])) (attr 1) 2 9 1 0)) 0x101000900010000000000000000000000000000000000 0x165A0968A7CA8336
+    ∷ ok (allocate (request (nm (0xC3 ∷ 0xE8 ∷ 0xD3 ∷ [])) (attr 2) 1 0 1 1)) 0x301000600030000000000000000000000000000000000 0x199EE5ABFFE151E3
+    ∷ ok (allocate (request (nm (0xD3 ∷ 0xD6 ∷ 0xD5 ∷ 0xC7 ∷ [])) (attr 3) 0 0 2 2)) 0x201000100020000000000000000000000000000000000 0xFFF2F7064401EB4
     ∷ ok (extend (nm (0xD3 ∷ 0xD6 ∷ 0xD5 ∷ 0xC7 ∷ []))) 0x201000A00020000000000000000000000000000000000 0x1A851B726132BD72
     ∷ ok (extend (nm (0xD3 ∷ 0xD6 ∷ 0xD5 ∷ 0xC7 ∷ []))) 0x201000C00020000000000000000000000000000000000 0x15EBDFCF84F76EE7
     ∷ ok (extend (nm (0xD3 ∷ 0xD6 ∷ 0xD5 ∷ 0xC7 ∷ []))) 0x201000E00020000000000000000000000000000000000 0x82889056FFCB1B0
@@ -544,7 +545,7 @@ sequence19 =
     ∷ []
 
 pub case19 : T (right [] sequence19)
-unfolding held gaps free used unused format0s choose extentPart format4 format5 format1 format3 records encode readGeometry readExtents readLabel readRecords read goodName limits goodLabel valid taken goodLength settle grant rule goodLengths perform initialise
+unfolding held gaps free used unused format0s choose extentPart format4 format5 format1 format3 records encode readGeometry readExtents readLabel readRecords read goodName limits goodLabel valid taken goodLength settle grant rule goodLengths perform initialise printable listing
 case19 = tt
 
 -- 26 free extents and more, and a full VTOC
@@ -552,45 +553,45 @@ case19 = tt
 abbrev pub sequence20 : List Row
 sequence20 =
     build 38 2 31 1 1
-    (allocate (nm (0xC1 ∷ [])) (attr 1) 0 0 1 1
+    (allocate (request (nm (0xC1 ∷ [])) (attr 1) 0 0 1 1)
     ∷ extend (nm (0xC1 ∷ []))
     ∷ extend (nm (0xC1 ∷ []))
     ∷ extend (nm (0xC1 ∷ []))
     ∷ extend (nm (0xC1 ∷ []))
-    ∷ allocate (nm (0xC7 ∷ 0xE4 ∷ 0xC1 ∷ 0xD9 ∷ 0xC4 ∷ [])) (attr 6) 2 7 1 0
-    ∷ allocate (nm (0xE6 ∷ 0xF0 ∷ [])) (attr 7) 2 9 1 0
-    ∷ allocate (nm (0xE6 ∷ 0xF1 ∷ [])) (attr 8) 2 11 2 0
-    ∷ allocate (nm (0xE6 ∷ 0xF2 ∷ [])) (attr 9) 2 17 2 0
-    ∷ allocate (nm (0xE6 ∷ 0xF3 ∷ [])) (attr 10) 2 23 2 0
-    ∷ allocate (nm (0xE6 ∷ 0xF4 ∷ [])) (attr 11) 2 29 2 0
-    ∷ allocate (nm (0xE6 ∷ 0xF5 ∷ [])) (attr 12) 2 35 1 0
-    ∷ allocate (nm (0xE6 ∷ 0xF6 ∷ [])) (attr 13) 2 37 1 0
-    ∷ allocate (nm (0xE6 ∷ 0xF7 ∷ [])) (attr 14) 2 39 1 0
-    ∷ allocate (nm (0xE6 ∷ 0xF8 ∷ [])) (attr 15) 2 41 1 0
-    ∷ allocate (nm (0xE6 ∷ 0xF9 ∷ [])) (attr 16) 2 43 1 0
-    ∷ allocate (nm (0xE6 ∷ 0xF1 ∷ 0xF0 ∷ [])) (attr 17) 2 45 1 0
-    ∷ allocate (nm (0xE6 ∷ 0xF1 ∷ 0xF1 ∷ [])) (attr 18) 2 47 1 0
-    ∷ allocate (nm (0xE6 ∷ 0xF1 ∷ 0xF2 ∷ [])) (attr 19) 2 49 1 0
-    ∷ allocate (nm (0xE6 ∷ 0xF1 ∷ 0xF3 ∷ [])) (attr 20) 2 51 1 0
-    ∷ allocate (nm (0xE6 ∷ 0xF1 ∷ 0xF4 ∷ [])) (attr 21) 2 53 1 0
-    ∷ allocate (nm (0xE6 ∷ 0xF1 ∷ 0xF5 ∷ [])) (attr 22) 2 55 1 0
-    ∷ allocate (nm (0xE6 ∷ 0xF1 ∷ 0xF6 ∷ [])) (attr 23) 2 57 1 0
-    ∷ allocate (nm (0xE6 ∷ 0xF1 ∷ 0xF7 ∷ [])) (attr 24) 2 59 1 0
-    ∷ allocate (nm (0xE6 ∷ 0xF1 ∷ 0xF8 ∷ [])) (attr 25) 2 61 1 0
-    ∷ allocate (nm (0xE6 ∷ 0xF1 ∷ 0xF9 ∷ [])) (attr 26) 2 63 1 0
-    ∷ allocate (nm (0xE6 ∷ 0xF2 ∷ 0xF0 ∷ [])) (attr 27) 2 65 1 0
-    ∷ allocate (nm (0xE6 ∷ 0xF2 ∷ 0xF1 ∷ [])) (attr 28) 2 67 1 0
-    ∷ allocate (nm (0xE6 ∷ 0xF2 ∷ 0xF2 ∷ [])) (attr 29) 2 69 1 0
-    ∷ allocate (nm (0xE6 ∷ 0xF2 ∷ 0xF3 ∷ [])) (attr 30) 2 71 1 0
-    ∷ allocate (nm (0xE6 ∷ 0xF2 ∷ 0xF4 ∷ [])) (attr 31) 2 73 1 0
-    ∷ allocate (nm (0xE6 ∷ 0xF2 ∷ 0xF5 ∷ [])) (attr 32) 2 75 1 0
+    ∷ allocate (request (nm (0xC7 ∷ 0xE4 ∷ 0xC1 ∷ 0xD9 ∷ 0xC4 ∷ [])) (attr 6) 2 7 1 0)
+    ∷ allocate (request (nm (0xE6 ∷ 0xF0 ∷ [])) (attr 7) 2 9 1 0)
+    ∷ allocate (request (nm (0xE6 ∷ 0xF1 ∷ [])) (attr 8) 2 11 2 0)
+    ∷ allocate (request (nm (0xE6 ∷ 0xF2 ∷ [])) (attr 9) 2 17 2 0)
+    ∷ allocate (request (nm (0xE6 ∷ 0xF3 ∷ [])) (attr 10) 2 23 2 0)
+    ∷ allocate (request (nm (0xE6 ∷ 0xF4 ∷ [])) (attr 11) 2 29 2 0)
+    ∷ allocate (request (nm (0xE6 ∷ 0xF5 ∷ [])) (attr 12) 2 35 1 0)
+    ∷ allocate (request (nm (0xE6 ∷ 0xF6 ∷ [])) (attr 13) 2 37 1 0)
+    ∷ allocate (request (nm (0xE6 ∷ 0xF7 ∷ [])) (attr 14) 2 39 1 0)
+    ∷ allocate (request (nm (0xE6 ∷ 0xF8 ∷ [])) (attr 15) 2 41 1 0)
+    ∷ allocate (request (nm (0xE6 ∷ 0xF9 ∷ [])) (attr 16) 2 43 1 0)
+    ∷ allocate (request (nm (0xE6 ∷ 0xF1 ∷ 0xF0 ∷ [])) (attr 17) 2 45 1 0)
+    ∷ allocate (request (nm (0xE6 ∷ 0xF1 ∷ 0xF1 ∷ [])) (attr 18) 2 47 1 0)
+    ∷ allocate (request (nm (0xE6 ∷ 0xF1 ∷ 0xF2 ∷ [])) (attr 19) 2 49 1 0)
+    ∷ allocate (request (nm (0xE6 ∷ 0xF1 ∷ 0xF3 ∷ [])) (attr 20) 2 51 1 0)
+    ∷ allocate (request (nm (0xE6 ∷ 0xF1 ∷ 0xF4 ∷ [])) (attr 21) 2 53 1 0)
+    ∷ allocate (request (nm (0xE6 ∷ 0xF1 ∷ 0xF5 ∷ [])) (attr 22) 2 55 1 0)
+    ∷ allocate (request (nm (0xE6 ∷ 0xF1 ∷ 0xF6 ∷ [])) (attr 23) 2 57 1 0)
+    ∷ allocate (request (nm (0xE6 ∷ 0xF1 ∷ 0xF7 ∷ [])) (attr 24) 2 59 1 0)
+    ∷ allocate (request (nm (0xE6 ∷ 0xF1 ∷ 0xF8 ∷ [])) (attr 25) 2 61 1 0)
+    ∷ allocate (request (nm (0xE6 ∷ 0xF1 ∷ 0xF9 ∷ [])) (attr 26) 2 63 1 0)
+    ∷ allocate (request (nm (0xE6 ∷ 0xF2 ∷ 0xF0 ∷ [])) (attr 27) 2 65 1 0)
+    ∷ allocate (request (nm (0xE6 ∷ 0xF2 ∷ 0xF1 ∷ [])) (attr 28) 2 67 1 0)
+    ∷ allocate (request (nm (0xE6 ∷ 0xF2 ∷ 0xF2 ∷ [])) (attr 29) 2 69 1 0)
+    ∷ allocate (request (nm (0xE6 ∷ 0xF2 ∷ 0xF3 ∷ [])) (attr 30) 2 71 1 0)
+    ∷ allocate (request (nm (0xE6 ∷ 0xF2 ∷ 0xF4 ∷ [])) (attr 31) 2 73 1 0)
+    ∷ allocate (request (nm (0xE6 ∷ 0xF2 ∷ 0xF5 ∷ [])) (attr 32) 2 75 1 0)
     ∷ [])
     0x120D4276B4048AA8
     ∷ no (release (nm (0xC1 ∷ [])) 0x301) 11
     ∷ ok (release (nm (0xC1 ∷ [])) 0x201) 0x200000000000000000000000000000000000000000000 0xED3D9ED9D7E8C75
     ∷ ok lspace 0x90016001B000200000000000000000000000000000000 0xED3D9ED9D7E8C75
-    ∷ ok (allocate (nm (0xE7 ∷ [])) (attr 36) 0 0 1 0) 0x101000800010000000000000000000000000000000000 0xE37C86DF007EC84
-    ∷ no (allocate (nm (0xE8 ∷ [])) (attr 37) 0 0 1 0) 11
+    ∷ ok (allocate (request (nm (0xE7 ∷ [])) (attr 36) 0 0 1 0)) 0x101000800010000000000000000000000000000000000 0xE37C86DF007EC84
+    ∷ no (allocate (request (nm (0xE8 ∷ [])) (attr 37) 0 0 1 0)) 11
     ∷ ok (scratch (nm (0xE7 ∷ []))) 0x100000000000000000000000000000000000000000000 0xED3D9ED9D7E8C75
     ∷ hurt ((278, 0x00) ∷ (279, 0x00) ∷ []) lspace 3
     ∷ hurt ((279, 0x05) ∷ []) lspace 3
@@ -599,19 +600,19 @@ sequence20 =
     ∷ ok (extend (nm (0xC1 ∷ []))) 0x101000800010000000000000000000000000000000000 0xCAD386059F5ED10
     ∷ ok (scratch (nm (0xC7 ∷ 0xE4 ∷ 0xC1 ∷ 0xD9 ∷ 0xC4 ∷ []))) 0x100000000000000000000000000000000000000000000 0x1374970E27CA86B8
     ∷ ok (scratch (nm (0xE6 ∷ 0xF0 ∷ []))) 0x100000000000000000000000000000000000000000000 0x6938F49850A126D
-    ∷ ok (allocate (nm (0xC2 ∷ [])) (attr 46) 2 6 1 0) 0x101000600010000000000000000000000000000000000 0x1D49BC852507A4A6
+    ∷ ok (allocate (request (nm (0xC2 ∷ [])) (attr 46) 2 6 1 0)) 0x101000600010000000000000000000000000000000000 0x1D49BC852507A4A6
     ∷ ok (release (nm (0xC1 ∷ [])) 0x201) 0x100000000000000000000000000000000000000000000 0x55D587BC751EB64
-    ∷ no (allocate (nm (0xC3 ∷ [])) (attr 48) 1 0 4 0) 11
+    ∷ no (allocate (request (nm (0xC3 ∷ [])) (attr 48) 1 0 4 0)) 11
     ∷ ok (scratch (nm (0xE6 ∷ 0xF2 ∷ 0xF4 ∷ []))) 0x100000000000000000000000000000000000000000000 0xEF6F6751AAAC689
-    ∷ ok (allocate (nm (0xC3 ∷ [])) (attr 50) 1 0 4 0) 0x80400080002000E000200140002001A00020000000000 0x1449526AD211F470
+    ∷ ok (allocate (request (nm (0xC3 ∷ [])) (attr 50) 1 0 4 0)) 0x80400080002000E000200140002001A00020000000000 0x1449526AD211F470
     ∷ ok (scratch (nm (0xC3 ∷ []))) 0x800000000000000000000000000000000000000000000 0xEF6F6751AAAC689
-    ∷ ok (allocate (nm (0xC3 ∷ [])) (attr 52) 1 0 1 3) 0x201000800020000000000000000000000000000000000 0x3F5EC46297EF6CD
+    ∷ ok (allocate (request (nm (0xC3 ∷ [])) (attr 52) 1 0 1 3)) 0x201000800020000000000000000000000000000000000 0x3F5EC46297EF6CD
     ∷ ok (extend (nm (0xC3 ∷ []))) 0x603000E000200140002001A0002000000000000000000 0x773B24F7C08FA9
     ∷ okLabels (obtain (nm (0xC3 ∷ []))) 0x0 0x773B24F7C08FA9 0x1A66B823E1A4477E
     ∷ []
 
 pub case20 : T (right [] sequence20)
-unfolding held gaps free used unused format0s choose extentPart format4 format5 format1 format3 records encode readGeometry readExtents readLabel readRecords read goodName limits goodLabel valid taken goodLength settle grant rule goodLengths perform initialise
+unfolding held gaps free used unused format0s choose extentPart format4 format5 format1 format3 records encode readGeometry readExtents readLabel readRecords read goodName limits goodLabel valid taken goodLength settle grant rule goodLengths perform initialise printable listing
 case20 = tt
 
 -- Random calls, H = 3
@@ -619,22 +620,22 @@ case20 = tt
 abbrev pub sequence21 : List Row
 sequence21 =
     begin 9 3 3 1 3 0 0x192F20BA354C35C9
-    ∷ ok (allocate (nm (0xE9 ∷ 0xF0 ∷ 0x4B ∷ 0xE2 ∷ 0xF5 ∷ [])) (attr 118) 2 18 1 0) 0x101001200010000000000000000000000000000000000 0xEC53D7A49FD3C19
-    ∷ ok (allocate (nm (0xE2 ∷ 0xE9 ∷ 0xF5 ∷ 0xE2 ∷ 0xC9 ∷ 0x60 ∷ 0xE9 ∷ 0x60 ∷ 0x4B ∷ 0xE2 ∷ 0xF0 ∷ 0xF5 ∷ 0xF5 ∷ 0xF0 ∷ [])) (attr 229) 0 1399454072 7 17) 0x701001300070000000000000000000000000000000000 0x6515F7805E7A0AE
-    ∷ ok (allocate (nm (0x7C ∷ 0xF0 ∷ 0x7B ∷ 0xF5 ∷ 0xD1 ∷ 0xE2 ∷ 0x4B ∷ 0x7B ∷ [])) (attr 186) 1 0 2 14) 0x601000600060000000000000000000000000000000000 0x1EFA27231B8603F8
-    ∷ no (allocate (nm (0xC1 ∷ 0x7B ∷ 0xE2 ∷ 0xF9 ∷ 0xF9 ∷ 0xF0 ∷ 0xD1 ∷ 0x4B ∷ 0xC1 ∷ 0xD1 ∷ 0x4B ∷ 0x7B ∷ 0x5B ∷ 0xD9 ∷ 0xD1 ∷ [])) (attr 68) 1 0 3 0) 9
-    ∷ ok (allocate (nm (0xE2 ∷ 0xE9 ∷ 0xF9 ∷ 0x60 ∷ 0xF5 ∷ 0xE2 ∷ 0xD9 ∷ 0xE2 ∷ 0x4B ∷ 0xC1 ∷ 0x60 ∷ 0xD1 ∷ 0x60 ∷ 0xD1 ∷ 0x60 ∷ 0x4B ∷ 0xD9 ∷ 0x7B ∷ 0xD1 ∷ 0xC1 ∷ 0x5B ∷ 0x7C ∷ 0xC9 ∷ 0xE2 ∷ [])) (attr 50) 1 0 2 1) 0x601000C00060000000000000000000000000000000000 0x18AAC8E0200FD8C7
-    ∷ ok (allocate (nm (0xC9 ∷ 0xF0 ∷ 0xF0 ∷ 0xF5 ∷ 0xC1 ∷ 0xE9 ∷ [])) (attr 110) 0 3960809976 2 16777215) 0x201000400020000000000000000000000000000000000 0x1AB35FF5710A9CE7
-    ∷ ok (allocate (nm (0xE2 ∷ 0x7B ∷ 0xF0 ∷ 0xC1 ∷ 0xC9 ∷ 0x7B ∷ 0xF5 ∷ 0x4B ∷ 0xD1 ∷ 0xC9 ∷ 0xF5 ∷ 0x5B ∷ 0x60 ∷ 0xF0 ∷ [])) (attr 4) 0 1332741620 1 0) 0x101001A00010000000000000000000000000000000000 0x79F40D9D3E86BD7
-    ∷ sized 1259 24 280 (allocate (nm (0xE9 ∷ 0xF9 ∷ 0xD1 ∷ 0x5B ∷ 0xC1 ∷ 0xE2 ∷ 0xF0 ∷ 0xF9 ∷ 0x4B ∷ 0xD9 ∷ 0x5B ∷ 0xE9 ∷ 0xF5 ∷ [])) (attr 31) 0 1289748154 2 1) 2
-    ∷ no (allocate (nm (0xE2 ∷ 0x5B ∷ 0xC1 ∷ 0x4B ∷ 0xE9 ∷ 0xD1 ∷ 0xF9 ∷ [])) (attr 197) 1 0 1 0) 9
+    ∷ ok (allocate (request (nm (0xE9 ∷ 0xF0 ∷ 0x4B ∷ 0xE2 ∷ 0xF5 ∷ [])) (attr 118) 2 18 1 0)) 0x101001200010000000000000000000000000000000000 0xEC53D7A49FD3C19
+    ∷ ok (allocate (request (nm (0xE2 ∷ 0xE9 ∷ 0xF5 ∷ 0xE2 ∷ 0xC9 ∷ 0x60 ∷ 0xE9 ∷ 0x60 ∷ 0x4B ∷ 0xE2 ∷ 0xF0 ∷ 0xF5 ∷ 0xF5 ∷ 0xF0 ∷ [])) (attr 229) 0 1399454072 7 17)) 0x701001300070000000000000000000000000000000000 0x6515F7805E7A0AE
+    ∷ ok (allocate (request (nm (0x7C ∷ 0xF0 ∷ 0x7B ∷ 0xF5 ∷ 0xD1 ∷ 0xE2 ∷ 0x4B ∷ 0x7B ∷ [])) (attr 186) 1 0 2 14)) 0x601000600060000000000000000000000000000000000 0x1EFA27231B8603F8
+    ∷ no (allocate (request (nm (0xC1 ∷ 0x7B ∷ 0xE2 ∷ 0xF9 ∷ 0xF9 ∷ 0xF0 ∷ 0xD1 ∷ 0x4B ∷ 0xC1 ∷ 0xD1 ∷ 0x4B ∷ 0x7B ∷ 0x5B ∷ 0xD9 ∷ 0xD1 ∷ [])) (attr 68) 1 0 3 0)) 9
+    ∷ ok (allocate (request (nm (0xE2 ∷ 0xE9 ∷ 0xF9 ∷ 0x60 ∷ 0xF5 ∷ 0xE2 ∷ 0xD9 ∷ 0xE2 ∷ 0x4B ∷ 0xC1 ∷ 0x60 ∷ 0xD1 ∷ 0x60 ∷ 0xD1 ∷ 0x60 ∷ 0x4B ∷ 0xD9 ∷ 0x7B ∷ 0xD1 ∷ 0xC1 ∷ 0x5B ∷ 0x7C ∷ 0xC9 ∷ 0xE2 ∷ [])) (attr 50) 1 0 2 1)) 0x601000C00060000000000000000000000000000000000 0x18AAC8E0200FD8C7
+    ∷ ok (allocate (request (nm (0xC9 ∷ 0xF0 ∷ 0xF0 ∷ 0xF5 ∷ 0xC1 ∷ 0xE9 ∷ [])) (attr 110) 0 3960809976 2 16777215)) 0x201000400020000000000000000000000000000000000 0x1AB35FF5710A9CE7
+    ∷ ok (allocate (request (nm (0xE2 ∷ 0x7B ∷ 0xF0 ∷ 0xC1 ∷ 0xC9 ∷ 0x7B ∷ 0xF5 ∷ 0x4B ∷ 0xD1 ∷ 0xC9 ∷ 0xF5 ∷ 0x5B ∷ 0x60 ∷ 0xF0 ∷ [])) (attr 4) 0 1332741620 1 0)) 0x101001A00010000000000000000000000000000000000 0x79F40D9D3E86BD7
+    ∷ sized 1259 24 280 (allocate (request (nm (0xE9 ∷ 0xF9 ∷ 0xD1 ∷ 0x5B ∷ 0xC1 ∷ 0xE2 ∷ 0xF0 ∷ 0xF9 ∷ 0x4B ∷ 0xD9 ∷ 0x5B ∷ 0xE9 ∷ 0xF5 ∷ [])) (attr 31) 0 1289748154 2 1)) 2
+    ∷ no (allocate (request (nm (0xE2 ∷ 0x5B ∷ 0xC1 ∷ 0x4B ∷ 0xE9 ∷ 0xD1 ∷ 0xF9 ∷ [])) (attr 197) 1 0 1 0)) 9
     ∷ sized 1259 24 280 (release (nm (0xC9 ∷ 0xF0 ∷ 0xF0 ∷ 0xF5 ∷ 0xC1 ∷ 0xE9 ∷ [])) 0x100) 2
-    ∷ no (allocate (nm (0x5B ∷ 0x5B ∷ 0x7B ∷ 0xF5 ∷ 0x60 ∷ 0xE9 ∷ 0x60 ∷ [])) (attr 243) 0 1961271584 2 0) 9
-    ∷ no (allocate (nm (0x7B ∷ 0x4B ∷ 0xE2 ∷ 0x4B ∷ 0xD9 ∷ 0x4B ∷ 0xE9 ∷ 0x4B ∷ 0xD1 ∷ 0x4B ∷ 0xC1 ∷ 0x4B ∷ 0xD9 ∷ [])) (attr 10) 1 0 2 0) 9
+    ∷ no (allocate (request (nm (0x5B ∷ 0x5B ∷ 0x7B ∷ 0xF5 ∷ 0x60 ∷ 0xE9 ∷ 0x60 ∷ [])) (attr 243) 0 1961271584 2 0)) 9
+    ∷ no (allocate (request (nm (0x7B ∷ 0x4B ∷ 0xE2 ∷ 0x4B ∷ 0xD9 ∷ 0x4B ∷ 0xE9 ∷ 0x4B ∷ 0xD1 ∷ 0x4B ∷ 0xC1 ∷ 0x4B ∷ 0xD9 ∷ [])) (attr 10) 1 0 2 0)) 9
     ∷ []
 
 pub case21 : T (right [] sequence21)
-unfolding held gaps free used unused format0s choose extentPart format4 format5 format1 format3 records encode readGeometry readExtents readLabel readRecords read goodName limits goodLabel valid taken goodLength settle grant rule goodLengths perform initialise
+unfolding held gaps free used unused format0s choose extentPart format4 format5 format1 format3 records encode readGeometry readExtents readLabel readRecords read goodName limits goodLabel valid taken goodLength settle grant rule goodLengths perform initialise printable listing
 case21 = tt
 
 -- Random calls, H = 5
@@ -642,20 +643,204 @@ case21 = tt
 abbrev pub sequence22 : List Row
 sequence22 =
     begin 11 5 12 20 1 0 0x187888AF3FDB19AF
-    ∷ ok (allocate (nm (0xC9 ∷ 0xF0 ∷ 0x60 ∷ 0x60 ∷ 0x4B ∷ 0xC9 ∷ 0xC1 ∷ 0xF0 ∷ 0x4B ∷ 0x7C ∷ 0x7C ∷ [])) (attr 151) 2 22 1 0) 0x101001600010000000000000000000000000000000000 0x322C4D20A67A6FE
-    ∷ ok (allocate (nm (0x7B ∷ 0x7B ∷ 0xD1 ∷ 0x4B ∷ 0xD9 ∷ 0xF9 ∷ 0x7B ∷ 0xF9 ∷ 0xE2 ∷ 0x5B ∷ 0xD1 ∷ [])) (attr 157) 0 914082126 2 16777215) 0x201000100020000000000000000000000000000000000 0x4C2E0127F3FCEEB
+    ∷ ok (allocate (request (nm (0xC9 ∷ 0xF0 ∷ 0x60 ∷ 0x60 ∷ 0x4B ∷ 0xC9 ∷ 0xC1 ∷ 0xF0 ∷ 0x4B ∷ 0x7C ∷ 0x7C ∷ [])) (attr 151) 2 22 1 0)) 0x101001600010000000000000000000000000000000000 0x322C4D20A67A6FE
+    ∷ ok (allocate (request (nm (0x7B ∷ 0x7B ∷ 0xD1 ∷ 0x4B ∷ 0xD9 ∷ 0xF9 ∷ 0x7B ∷ 0xF9 ∷ 0xE2 ∷ 0x5B ∷ 0xD1 ∷ [])) (attr 157) 0 914082126 2 16777215)) 0x201000100020000000000000000000000000000000000 0x4C2E0127F3FCEEB
     ∷ ok (release (nm (0x7B ∷ 0x7B ∷ 0xD1 ∷ 0x4B ∷ 0xD9 ∷ 0xF9 ∷ 0x7B ∷ 0xF9 ∷ 0xE2 ∷ 0x5B ∷ 0xD1 ∷ [])) 0x1) 0x100000000000000000000000000000000000000000000 0x101B3E6620B91348
     ∷ ok (scratch (nm (0x7B ∷ 0x7B ∷ 0xD1 ∷ 0x4B ∷ 0xD9 ∷ 0xF9 ∷ 0x7B ∷ 0xF9 ∷ 0xE2 ∷ 0x5B ∷ 0xD1 ∷ []))) 0x100000000000000000000000000000000000000000000 0x322C4D20A67A6FE
-    ∷ ok (allocate (nm (0x5B ∷ 0x5B ∷ 0xD9 ∷ [])) (attr 142) 2 21 1 0) 0x101001500010000000000000000000000000000000000 0x16DE9D000EBE1492
-    ∷ ok (allocate (nm (0xD1 ∷ 0xC1 ∷ 0xF5 ∷ 0xD9 ∷ [])) (attr 130) 0 1159283786 12 41) 0xC010001000C0000000000000000000000000000000000 0x481366A7923A225
-    ∷ ok (allocate (nm (0x7C ∷ 0x7C ∷ 0xD9 ∷ 0xE2 ∷ 0xC9 ∷ 0xC1 ∷ 0x7C ∷ 0x4B ∷ 0xD9 ∷ 0xC1 ∷ 0x60 ∷ 0xC1 ∷ 0xF5 ∷ 0xF5 ∷ 0xE9 ∷ 0x4B ∷ 0x7B ∷ 0x60 ∷ 0xD1 ∷ 0x7B ∷ 0xF9 ∷ 0xF9 ∷ 0xD1 ∷ 0xF9 ∷ [])) (attr 99) 0 403246841 36 0) 0x240200170020000D000400000000000000000000000000 0x13B498AD3BED1A8A
+    ∷ ok (allocate (request (nm (0x5B ∷ 0x5B ∷ 0xD9 ∷ [])) (attr 142) 2 21 1 0)) 0x101001500010000000000000000000000000000000000 0x16DE9D000EBE1492
+    ∷ ok (allocate (request (nm (0xD1 ∷ 0xC1 ∷ 0xF5 ∷ 0xD9 ∷ [])) (attr 130) 0 1159283786 12 41)) 0xC010001000C0000000000000000000000000000000000 0x481366A7923A225
+    ∷ ok (allocate (request (nm (0x7C ∷ 0x7C ∷ 0xD9 ∷ 0xE2 ∷ 0xC9 ∷ 0xC1 ∷ 0x7C ∷ 0x4B ∷ 0xD9 ∷ 0xC1 ∷ 0x60 ∷ 0xC1 ∷ 0xF5 ∷ 0xF5 ∷ 0xE9 ∷ 0x4B ∷ 0x7B ∷ 0x60 ∷ 0xD1 ∷ 0x7B ∷ 0xF9 ∷ 0xF9 ∷ 0xD1 ∷ 0xF9 ∷ [])) (attr 99) 0 403246841 36 0)) 0x240200170020000D000400000000000000000000000000 0x13B498AD3BED1A8A
     ∷ hurt ((275, 0xC0) ∷ []) (extend (nm (0x5B ∷ 0x5B ∷ 0xD9 ∷ []))) 3
-    ∷ ok (allocate (nm (0xC1 ∷ 0xD9 ∷ 0x4B ∷ 0xC1 ∷ 0xC9 ∷ 0x5B ∷ 0xF9 ∷ 0x7B ∷ 0xC1 ∷ 0xD9 ∷ 0x4B ∷ 0xE2 ∷ 0xF5 ∷ 0xF5 ∷ [])) (attr 46) 2 18 1 0) 0x101001200010000000000000000000000000000000000 0xA14D1D78DD3DEC4
-    ∷ ok (allocate (nm (0xD9 ∷ 0x4B ∷ 0xD1 ∷ 0x4B ∷ 0xD1 ∷ 0x7C ∷ 0x60 ∷ 0xD9 ∷ 0x60 ∷ 0xC9 ∷ 0xE9 ∷ 0xC1 ∷ [])) (attr 39) 2 19 1 0) 0x101001300010000000000000000000000000000000000 0x6AED87C79CE4D56
+    ∷ ok (allocate (request (nm (0xC1 ∷ 0xD9 ∷ 0x4B ∷ 0xC1 ∷ 0xC9 ∷ 0x5B ∷ 0xF9 ∷ 0x7B ∷ 0xC1 ∷ 0xD9 ∷ 0x4B ∷ 0xE2 ∷ 0xF5 ∷ 0xF5 ∷ [])) (attr 46) 2 18 1 0)) 0x101001200010000000000000000000000000000000000 0xA14D1D78DD3DEC4
+    ∷ ok (allocate (request (nm (0xD9 ∷ 0x4B ∷ 0xD1 ∷ 0x4B ∷ 0xD1 ∷ 0x7C ∷ 0x60 ∷ 0xD9 ∷ 0x60 ∷ 0xC9 ∷ 0xE9 ∷ 0xC1 ∷ [])) (attr 39) 2 19 1 0)) 0x101001300010000000000000000000000000000000000 0x6AED87C79CE4D56
     ∷ no (extend (nm (0xD1 ∷ 0xC1 ∷ 0xF5 ∷ 0xD9 ∷ []))) 9
-    ∷ ok (allocate (nm (0xE2 ∷ 0xD1 ∷ 0x60 ∷ [])) (attr 226) 0 1408777556 1 2) 0x101001100010000000000000000000000000000000000 0x16085F8796B5F64F
+    ∷ ok (allocate (request (nm (0xE2 ∷ 0xD1 ∷ 0x60 ∷ [])) (attr 226) 0 1408777556 1 2)) 0x101001100010000000000000000000000000000000000 0x16085F8796B5F64F
     ∷ []
 
 pub case22 : T (right [] sequence22)
-unfolding held gaps free used unused format0s choose extentPart format4 format5 format1 format3 records encode readGeometry readExtents readLabel readRecords read goodName limits goodLabel valid taken goodLength settle grant rule goodLengths perform initialise
+unfolding held gaps free used unused format0s choose extentPart format4 format5 format1 format3 records encode readGeometry readExtents readLabel readRecords read goodName limits goodLabel valid taken goodLength settle grant rule goodLengths perform initialise printable listing
 case22 = tt
+
+-- X'81' starts a cylinder and ends one
+
+abbrev pub sequence23 : List Row
+sequence23 =
+    begin 6 4 3 1 2 0 0x7A8069976F8FAB0
+    ∷ ok (allocate (request (nm (0xE2 ∷ 0xE3 ∷ 0xC1 ∷ 0xD9 ∷ 0xE3 ∷ [])) (attr 1) 2 4 3 0)) 0x301000400030000000000000000000000000000000000 0x461BB6BFBDD385D
+    ∷ ok (allocate (request (nm (0xC5 ∷ 0xD5 ∷ 0xC4 ∷ [])) (attr 2) 2 9 3 0)) 0x301000900030000000000000000000000000000000000 0x166BEA77AC8227D
+    ∷ ok (allocate (request (nm (0xE2 ∷ 0xD3 ∷ 0xC1 ∷ 0xD5 ∷ 0xE3 ∷ [])) (attr 3) 2 13 4 0)) 0x401000D00040000000000000000000000000000000000 0xD14E4C007BBD959
+    ∷ ok (allocate (request (nm (0xE6 ∷ 0xC8 ∷ 0xD6 ∷ 0xD3 ∷ 0xC5 ∷ [])) (attr 4) 2 20 4 0)) 0x401001400040000000000000000000000000000000000 0x19FD9DC0401C57C5
+    ∷ hurt ((385, 0x81) ∷ []) lspace 3
+    ∷ hurt ((525, 0x81) ∷ []) lspace 3
+    ∷ hurt ((665, 0x81) ∷ []) lspace 3
+    ∷ hurt ((805, 0x81) ∷ []) lspace 0
+    ∷ []
+
+pub case23 : T (right [] sequence23)
+unfolding held gaps free used unused format0s choose extentPart format4 format5 format1 format3 records encode readGeometry readExtents readLabel readRecords read goodName limits goodLabel valid taken goodLength settle grant rule goodLengths perform initialise printable listing
+case23 = tt
+
+-- First characters, and those beside them
+
+abbrev pub sequence24 : List Row
+sequence24 =
+    begin 2 2 3 1 1 0 0xF39EF9611A36B55
+    ∷ no (scratch (nm (0xC1 ∷ []))) 5
+    ∷ no (scratch (nm (0xC9 ∷ []))) 5
+    ∷ no (scratch (nm (0xD1 ∷ []))) 5
+    ∷ no (scratch (nm (0xD9 ∷ []))) 5
+    ∷ no (scratch (nm (0xE2 ∷ []))) 5
+    ∷ no (scratch (nm (0xE9 ∷ []))) 5
+    ∷ no (scratch (nm (0x5B ∷ []))) 5
+    ∷ no (scratch (nm (0x7B ∷ []))) 5
+    ∷ no (scratch (nm (0x7C ∷ []))) 5
+    ∷ no (scratch (nm (0xC0 ∷ []))) 4
+    ∷ no (scratch (nm (0xCA ∷ []))) 4
+    ∷ no (scratch (nm (0xD0 ∷ []))) 4
+    ∷ no (scratch (nm (0xDA ∷ []))) 4
+    ∷ no (scratch (nm (0xE1 ∷ []))) 4
+    ∷ no (scratch (nm (0xEA ∷ []))) 4
+    ∷ no (scratch (nm (0x5A ∷ []))) 4
+    ∷ no (scratch (nm (0x5C ∷ []))) 4
+    ∷ no (scratch (nm (0x7A ∷ []))) 4
+    ∷ no (scratch (nm (0x7D ∷ []))) 4
+    ∷ no (scratch (nm (0x60 ∷ []))) 4
+    ∷ no (scratch (nm (0x4B ∷ []))) 4
+    ∷ no (scratch (nm [])) 4
+    ∷ no (scratch (nm (0xEF ∷ []))) 4
+    ∷ no (scratch (nm (0xF0 ∷ []))) 4
+    ∷ no (scratch (nm (0xF9 ∷ []))) 4
+    ∷ no (scratch (nm (0xFA ∷ []))) 4
+    ∷ []
+
+pub case24 : T (right [] sequence24)
+unfolding held gaps free used unused format0s choose extentPart format4 format5 format1 format3 records encode readGeometry readExtents readLabel readRecords read goodName limits goodLabel valid taken goodLength settle grant rule goodLengths perform initialise printable listing
+case24 = tt
+
+-- Later characters, and those beside them; a period that ends 44 bytes
+
+abbrev pub sequence25 : List Row
+sequence25 =
+    begin 2 2 3 1 1 0 0xF39EF9611A36B55
+    ∷ no (scratch (nm (0xC1 ∷ 0xC9 ∷ []))) 5
+    ∷ no (scratch (nm (0xC1 ∷ 0xD1 ∷ []))) 5
+    ∷ no (scratch (nm (0xC1 ∷ 0xE9 ∷ []))) 5
+    ∷ no (scratch (nm (0xC1 ∷ 0x7C ∷ []))) 5
+    ∷ no (scratch (nm (0xC1 ∷ 0xF0 ∷ []))) 5
+    ∷ no (scratch (nm (0xC1 ∷ 0xF9 ∷ []))) 5
+    ∷ no (scratch (nm (0xC1 ∷ 0x60 ∷ []))) 5
+    ∷ no (scratch (nm (0xC1 ∷ 0xC0 ∷ []))) 4
+    ∷ no (scratch (nm (0xC1 ∷ 0xCA ∷ []))) 4
+    ∷ no (scratch (nm (0xC1 ∷ 0xD0 ∷ []))) 4
+    ∷ no (scratch (nm (0xC1 ∷ 0xDA ∷ []))) 4
+    ∷ no (scratch (nm (0xC1 ∷ 0xE1 ∷ []))) 4
+    ∷ no (scratch (nm (0xC1 ∷ 0xEA ∷ []))) 4
+    ∷ no (scratch (nm (0xC1 ∷ 0xEF ∷ []))) 4
+    ∷ no (scratch (nm (0xC1 ∷ 0xFA ∷ []))) 4
+    ∷ no (scratch (nm (0xC1 ∷ 0x5F ∷ []))) 4
+    ∷ no (scratch (nm (0xC1 ∷ 0x61 ∷ []))) 4
+    ∷ no (scratch (nm (0xC1 ∷ 0x4B ∷ []))) 4
+    ∷ no (scratch (nm (0xC1 ∷ 0x4A ∷ []))) 4
+    ∷ no (scratch (nm (0xC1 ∷ 0xC1 ∷ 0xC1 ∷ 0xC1 ∷ 0xC1 ∷ 0xC1 ∷ 0xC1 ∷ 0xC1 ∷ 0x4B ∷ 0xC1 ∷ 0xC1 ∷ 0xC1 ∷ 0xC1 ∷ 0xC1 ∷ 0xC1 ∷ 0xC1 ∷ 0xC1 ∷ 0x4B ∷ 0xC1 ∷ 0xC1 ∷ 0xC1 ∷ 0xC1 ∷ 0xC1 ∷ 0xC1 ∷ 0xC1 ∷ 0xC1 ∷ 0x4B ∷ 0xC1 ∷ 0xC1 ∷ 0xC1 ∷ 0xC1 ∷ 0xC1 ∷ 0xC1 ∷ 0xC1 ∷ 0xC1 ∷ 0x4B ∷ 0xC1 ∷ 0xC1 ∷ 0xC1 ∷ 0xC1 ∷ 0xC1 ∷ 0xC1 ∷ 0xC1 ∷ 0xC1 ∷ []))) 5
+    ∷ no (scratch (nm (0xC1 ∷ 0xC1 ∷ 0xC1 ∷ 0xC1 ∷ 0xC1 ∷ 0xC1 ∷ 0xC1 ∷ 0xC1 ∷ 0x4B ∷ 0xC1 ∷ 0xC1 ∷ 0xC1 ∷ 0xC1 ∷ 0xC1 ∷ 0xC1 ∷ 0xC1 ∷ 0xC1 ∷ 0x4B ∷ 0xC1 ∷ 0xC1 ∷ 0xC1 ∷ 0xC1 ∷ 0xC1 ∷ 0xC1 ∷ 0xC1 ∷ 0xC1 ∷ 0x4B ∷ 0xC1 ∷ 0xC1 ∷ 0xC1 ∷ 0xC1 ∷ 0xC1 ∷ 0xC1 ∷ 0xC1 ∷ 0xC1 ∷ 0x4B ∷ 0xC1 ∷ 0xC1 ∷ 0xC1 ∷ 0xC1 ∷ 0xC1 ∷ 0xC1 ∷ 0xC1 ∷ 0x4B ∷ []))) 4
+    ∷ no (scratch (nm (0xC1 ∷ 0xC1 ∷ 0xC1 ∷ 0xC1 ∷ 0xC1 ∷ 0xC1 ∷ 0xC1 ∷ 0xC1 ∷ 0x4B ∷ 0xC1 ∷ 0xC1 ∷ 0xC1 ∷ 0xC1 ∷ 0xC1 ∷ 0xC1 ∷ 0xC1 ∷ 0xC1 ∷ 0x4B ∷ 0xC1 ∷ 0xC1 ∷ 0xC1 ∷ 0xC1 ∷ 0xC1 ∷ 0xC1 ∷ 0xC1 ∷ 0xC1 ∷ 0x4B ∷ 0xC1 ∷ 0xC1 ∷ 0xC1 ∷ 0xC1 ∷ 0xC1 ∷ 0xC1 ∷ 0xC1 ∷ 0xC1 ∷ 0x4B ∷ 0xC1 ∷ 0xC1 ∷ 0xC1 ∷ 0xC1 ∷ 0xC1 ∷ 0xC1 ∷ 0xC1 ∷ []))) 5
+    ∷ []
+
+pub case25 : T (right [] sequence25)
+unfolding held gaps free used unused format0s choose extentPart format4 format5 format1 format3 records encode readGeometry readExtents readLabel readRecords read goodName limits goodLabel valid taken goodLength settle grant rule goodLengths perform initialise printable listing
+case25 = tt
+
+-- Amounts and secondary amounts at their limits
+
+abbrev pub sequence26 : List Row
+sequence26 =
+    begin 4 2 4 1 1 0 0x1B369E71EBD16E27
+    ∷ no (allocate (request (nm (0xC1 ∷ [])) (attr 1) 1 0 1001 0)) 9
+    ∷ no (allocate (request (nm (0xC1 ∷ [])) (attr 2) 0 0 1001 0)) 9
+    ∷ no (allocate (request (nm (0xC1 ∷ [])) (attr 3) 1 0 65535 0)) 9
+    ∷ no (allocate (request (nm (0xC1 ∷ [])) (attr 4) 0 0 65535 0)) 9
+    ∷ no (allocate (request (nm (0xC1 ∷ [])) (attr 5) 1 0 0 0)) 7
+    ∷ no (allocate (request (nm (0xC1 ∷ [])) (attr 6) 0 0 0 0)) 7
+    ∷ no (allocate (request (nm (0xC1 ∷ [])) (attr 7) 1 0 65536 0)) 7
+    ∷ no (allocate (request (nm (0xC1 ∷ [])) (attr 8) 0 0 65536 0)) 7
+    ∷ no (allocate (request (nm (0xC1 ∷ [])) (attr 9) 1 0 1 16777216)) 7
+    ∷ no (allocate (request (nm (0xC1 ∷ [])) (attr 10) 0 0 1 16777216)) 7
+    ∷ ok (allocate (request (nm (0xC1 ∷ [])) (attr 11) 1 0 1 16777215)) 0x201000200020000000000000000000000000000000000 0xA5160EC2A19BC80
+    ∷ ok (allocate (request (nm (0xC2 ∷ [])) (attr 12) 0 0 1 16777215)) 0x101000400010000000000000000000000000000000000 0x1118A8333355ED68
+    ∷ no (extend (nm (0xC1 ∷ []))) 9
+    ∷ []
+
+pub case26 : T (right [] sequence26)
+unfolding held gaps free used unused format0s choose extentPart format4 format5 format1 format3 records encode readGeometry readExtents readLabel readRecords read goodName limits goodLabel valid taken goodLength settle grant rule goodLengths perform initialise printable listing
+case26 = tt
+
+-- Initialise with buffers of other lengths; tables of 2, 468 and 469 records
+
+abbrev pub sequence27 : List Row
+sequence27 =
+    beginSized 4 5 4 1 2 1119 24 2
+    ∷ beginSized 4 5 4 1 2 1121 24 2
+    ∷ beginSized 4 5 4 1 2 0 24 2
+    ∷ beginSized 4 5 4 1 2 1120 23 2
+    ∷ beginSized 4 5 4 1 2 1120 25 2
+    ∷ beginSized 4 5 4 1 2 1120 0 2
+    ∷ begin 2 2 3 1 1 0 0xF39EF9611A36B55
+    ∷ sized 280 24 0 lspace 2
+    ∷ sized 560 24 0 lspace 3
+    ∷ sized 65520 24 0 lspace 3
+    ∷ sized 65660 24 0 lspace 2
+    ∷ []
+
+pub case27 : T (right [] sequence27)
+unfolding held gaps free used unused format0s choose extentPart format4 format5 format1 format3 records encode readGeometry readExtents readLabel readRecords read goodName limits goodLabel valid taken goodLength settle grant rule goodLengths perform initialise printable listing
+case27 = tt
+
+-- Listings: all 41 characters of names; tables that are refused
+
+abbrev pub sequence28 : List Row
+sequence28 =
+    begin 4 3 4 1 2 0 0x12B74DDC0C209218
+    ∷ ok (allocate (request (nm (0xC1 ∷ 0xC2 ∷ 0xC3 ∷ 0xC4 ∷ 0xC5 ∷ 0xC6 ∷ 0xC7 ∷ 0xC8 ∷ 0x4B ∷ 0xC9 ∷ 0xD1 ∷ 0xD2 ∷ 0xD3 ∷ 0xD4 ∷ 0xD5 ∷ 0xD6 ∷ 0xD7 ∷ 0x4B ∷ 0xD8 ∷ 0xD9 ∷ 0xE2 ∷ 0xE3 ∷ 0xE4 ∷ 0xE5 ∷ 0xE6 ∷ 0xE7 ∷ 0x4B ∷ 0xE8 ∷ 0xE9 ∷ 0xF0 ∷ 0xF1 ∷ 0xF2 ∷ 0xF3 ∷ 0xF4 ∷ 0xF5 ∷ 0x4B ∷ 0x7B ∷ 0xF6 ∷ 0xF7 ∷ 0xF8 ∷ 0xF9 ∷ 0x60 ∷ 0x5B ∷ 0x7C ∷ [])) (attr 1) 0 0 4 0)) 0x401000300040000000000000000000000000000000000 0x1E4A0C439C81AE9F
+    ∷ ok (allocate (request (nm (0x5B ∷ [])) (attr 2) 2 8 1 0)) 0x101000800010000000000000000000000000000000000 0x1E3B2ECA2202FD6F
+    ∷ ok (allocate (request (nm (0x7C ∷ [])) (attr 3) 2 10 1 0)) 0x101000A00010000000000000000000000000000000000 0xFAAE32605CAA54A
+    ∷ listed [] 1120 0x19E71294436AE79A
+    ∷ listed ((51, 0x00) ∷ []) 1120 0x46F448A6
+    ∷ listed [] 1260 0x46F448A6
+    ∷ listed [] 1119 0x46F447A5
+    ∷ listed ((51, 0x00) ∷ []) 280 0x46F447A5
+    ∷ listed [] 0 0x46F447A5
+    ∷ []
+
+pub case28 : T (right [] sequence28)
+unfolding held gaps free used unused format0s choose extentPart format4 format5 format1 format3 records encode readGeometry readExtents readLabel readRecords read goodName limits goodLabel valid taken goodLength settle grant rule goodLengths perform initialise printable listing
+case28 = tt
+
+-- A listing with numbers of four and of five digits
+
+abbrev pub sequence29 : List Row
+sequence29 =
+    begin 2053 5 3 1234 2 0 0x182881641D66FF20
+    ∷ listed [] 840 0x16CFC4F91D0A3FD3
+    ∷ []
+
+pub case29 : T (right [] sequence29)
+unfolding held gaps free used unused format0s choose extentPart format4 format5 format1 format3 records encode readGeometry readExtents readLabel readRecords read goodName limits goodLabel valid taken goodLength settle grant rule goodLengths perform initialise printable listing
+case29 = tt
+
+-- The ten bytes of an extent, or none
+
+abbrev pub sequence30 : List Row
+sequence30 =
+    parts 140 140 0x98E1F3858409312
+    ∷ parts 139 140 0xC79538BFF0E4274
+    ∷ parts 140 139 0xC79538BFF0E4274
+    ∷ parts 141 140 0xC79538BFF0E4274
+    ∷ parts 140 141 0xC79538BFF0E4274
+    ∷ parts 0 140 0xC79538BFF0E4274
+    ∷ parts 140 0 0xC79538BFF0E4274
+    ∷ parts 139 139 0xC79538BFF0E4274
+    ∷ []
+
+pub case30 : T (right [] sequence30)
+unfolding held gaps free used unused format0s choose extentPart format4 format5 format1 format3 records encode readGeometry readExtents readLabel readRecords read goodName limits goodLabel valid taken goodLength settle grant rule goodLengths perform initialise printable listing
+case30 = tt

@@ -1,7 +1,9 @@
--- What the check of a table and the name rule answer by number. Assumes nothing.
+-- What the check of a table, the name rule and an extent's ten bytes answer by number. Assumes nothing.
 use Prim.Native.Nat.{ℕ}
 use mathlib.Core.Bool.{cond}
 use mathlib.Core.List.{List}
+use lib.ListN.{getD}
+use Rattle.rules.specs.Layout.{extentPart}
 use Rattle.rules.specs.Table.{goodLength, goodName, taken}
 
 -- refusal 2 is for a table's length, refusal 3 for a table that is not taken; 0 is none
@@ -11,3 +13,7 @@ checkNumber t = cond (goodLength t) (cond (taken t) 0 3) 2
 -- the name rule as a number: 1 where it is obeyed
 unfoldable pub nameNumber : List ℕ → ℕ
 nameNumber name = cond (goodName name) 1 0
+
+-- byte i of an extent's ten bytes; 256, which is no byte, where the part ends before it
+unfoldable pub extentByte : List ℕ → List ℕ → ℕ → ℕ → ℕ
+extentByte f1 f3 e i = getD (extentPart f1 f3 e) i 256

@@ -1,7 +1,7 @@
-// The check of a table, and the name rule alone, for programs in C or Rust that test them: the caller lends the table, or the name,
-// and nothing else.
+// The check of a table, the name rule alone and the ten bytes of an extent, for programs in C or Rust that test them: the caller lends
+// the table, the name or the two records, and nothing else.
 ghost use mathlib.Core.Path.{_≡_};
-ghost use Rattle.probe.specs.Number.{checkNumber, nameNumber};
+ghost use Rattle.probe.specs.Number.{checkNumber, extentByte, nameNumber};
 
 // 0 where the table is taken, 2 where its length is not 140 times 3 to 468, else 3.
 #[no_mangle]
@@ -28,4 +28,17 @@ pub extern "C" fn vtoc_probe_name(name: &[u8]) -> u32
         return 1;
     }
     0
+}
+
+// Byte i of the part that holds extent number e, 256 where the part has no such byte.
+#[no_mangle]
+pub extern "C" fn vtoc_probe_extent<'a>(format1: &'a [u8], format3: &'a [u8], e: u32, i: u32) -> u32
+    ensures { λ r. ⌜ r ≡ extentByte (now (format1 .entry)) (now (format3 .entry)) e i ⌝ }
+{
+    let held = fields::extent_part(format1, format3, e as usize);
+    let at = i as usize;
+    if at < held.len() {
+        return fields::wide(held[at]);
+    }
+    256
 }

@@ -117,6 +117,7 @@ impl<'a, M: Manager> Beside<'a, M> {
                         buffers.table.resize(*len, 0);
                         self.call(call, &buffers, Origin::Changed, sequence.title)?;
                     }
+                    Row::Listed { .. } | Row::Parts { .. } => {}
                 }
             }
         }

@@ -2,6 +2,7 @@
 
 mod chains;
 mod damages;
+mod edges;
 mod grants;
 pub mod print;
 mod random;
@@ -27,6 +28,13 @@ fn sequence(title: &'static str, play: impl FnOnce(&mut Desk)) -> Sequence {
 
 /// All sequences, always the same.
 pub fn sequences() -> Vec<Sequence> {
+    let mut all = stories();
+    all.extend(edges::sequences());
+    all
+}
+
+/// Those in which volumes live, which the stored recording has too.
+pub fn stories() -> Vec<Sequence> {
     let mut all = volumes::sequences();
     all.extend(grants::sequences());
     all.extend(refusals::sequences());
@@ -49,6 +57,7 @@ pub fn coverage(sequences: &[Sequence]) -> Coverage {
             }
             Row::Hurt { call, result, .. } => coverage.count_changed(call, *result),
             Row::Sized { call, result, .. } => coverage.count(call, *result),
+            Row::Listed { .. } | Row::Parts { .. } => {}
         }
     }
     coverage

@@ -39,11 +39,20 @@ fn print_row(row: &Row) -> String {
         }
         Row::Made { call, outcome, .. } => format!("no {} {}", print_call(call), outcome.result),
         Row::Hurt { patches, call, result } => {
-            let patches = patches.iter().map(|(at, byte)| format!("({at} , {byte:#04X})"));
-            format!("hurt {} {} {result}", list(patches), print_call(call))
+            format!("hurt {} {} {result}", print_patches(patches), print_call(call))
+        }
+        Row::Sized { table, answer, call: Call::Initialise { c, h, d, s, v }, result, .. } => {
+            assert_ne!(*result, 0, "the row says nothing of a table that is made");
+            format!("beginSized {c} {h} {d} {s} {v} {table} {answer} {result}")
         }
         Row::Sized { table, answer, labels, call, result } => {
             format!("sized {table} {answer} {labels} {} {result}", print_call(call))
+        }
+        Row::Listed { patches, table, text } => {
+            format!("listed {} {table} {:#X}", print_patches(patches), digest(text))
+        }
+        Row::Parts { format_1, format_3, parts } => {
+            format!("parts {format_1} {format_3} {:#X}", digest(parts))
         }
     }
 }
@@ -53,7 +62,7 @@ fn print_call(call: &Call) -> String {
         // Only `begin` makes a table.
         Call::Initialise { .. } => unreachable!("an initialise is a row of its own"),
         Call::Allocate { name, attributes, kind, start, amount, secondary } => format!(
-            "(allocate {} {} {kind} {start} {amount} {secondary})",
+            "(allocate (request {} {} {kind} {start} {amount} {secondary}))",
             print_name(name),
             print_attributes(attributes)
         ),
@@ -64,6 +73,10 @@ fn print_call(call: &Call) -> String {
         Call::Obtain { name } => format!("(obtain {})", print_name(name)),
         Call::Lspace => "lspace".into(),
     }
+}
+
+fn print_patches(patches: &[(usize, u8)]) -> String {
+    list(patches.iter().map(|(at, byte)| format!("({at} , {byte:#04X})")))
 }
 
 /// The name up to the blanks that pad it, and its length where that is not 44.

@@ -76,5 +76,19 @@ pub fn format_1_extent_at(e: usize) -> usize {
     105 + 10 * e
 }
 
+/// The ten bytes of extent `e` in a format 1 or a format 3; none where there is no such extent or a
+/// record has another length.
+pub fn extent_part<'a>(format_1: &'a [u8], format_3: &'a [u8], e: usize) -> &'a [u8] {
+    if [format_1, format_3].iter().any(|record| record.len() != RECORD) {
+        return &[];
+    }
+    let (record, at) = match e {
+        _ if e < IN_FORMAT_1 => (format_1, format_1_extent_at(e)),
+        _ if e < MAX_EXTENTS => (format_3, format_3_extent_at(e)),
+        _ => return &[],
+    };
+    &record[at..at + 10]
+}
+
 /// The three stretches of a format 1 that hold the 52 attribute bytes.
 pub const ATTRIBUTES: [(usize, usize); 3] = [(45, 59), (60, 94), (101, 105)];

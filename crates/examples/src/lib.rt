@@ -1,0 +1,1 @@
+// Worked examples of the definitions of `rules` (specs/); this crate has no code.

@@ -1,0 +1,26 @@
+use Rattle.probe.proofs.Numbers.{byte-there, no-byte}
+use borrow.Author.Needs.{needs}
+use Rattle.probe.proofs.vtoc_probe_extent.Statement.{statement}
+use Rattle.probe.proofs.vtoc_probe_extent.Tie as tie
+use Rattle.probe.proofs.vtoc_probe_extent.Reads as reads
+use Rattle.probe.proofs.vtoc_probe_extent.Lts as lts
+use Rattle.fields.proofs.extent_part.Reads as extent-part-reads
+use Rattle.fields.proofs.wide.Reads as wide-reads
+
+extent-part-requires : tie.Need-extent-part-requires
+extent-part-requires c κs = search needs
+
+shared-slice-read-wide : tie.Need-shared-slice-read-wide
+shared-slice-read-wide c = search needs
+
+wide-requires : tie.Need-wide-requires
+wide-requires c κs = search needs
+
+returns : tie.Need-returns
+returns c = byte-there (c .before .before .before .before .before .before .args .format1 .now) (c .before .before .before .before .before .before .args .format3 .now) _ (c .before .before .before .before .before .before .args .e) (c .before .before .before .before .before .before .args .i) _ (c .before .before .before .extent-part .ensures) (c .before .before .if1 .taken) (c .wide .ensures .0)
+
+returns-2 : tie.Need-returns-2
+returns-2 c = no-byte (c .before .before .before .before .args .format1 .now) (c .before .before .before .before .args .format3 .now) _ (c .before .before .before .before .args .e) (c .before .before .before .before .args .i) (c .before .extent-part .ensures) (c .if1 .left)
+
+pub vtoc-probe-extent-spec : {M : Type 1} → statement M
+vtoc-probe-extent-spec = tie.close (tie.spec extent-part-requires shared-slice-read-wide wide-requires returns returns-2)
