@@ -1,6 +1,5 @@
 // A request for space: its amount in one of three kinds, the range of its numbers, and what it is granted.
 use forms::Geometry;
-use grant::Chosen;
 ghost use mathlib.Core.Path.{_≡_};
 ghost use mathlib.Core.Bool.{cond, _&&_};
 ghost use mathlib.Core.Option.{some};
@@ -150,38 +149,26 @@ fn all_free(map: &[u64], s: usize, e: usize) -> bool
 }
 
 // Exactly these tracks, as one piece; nothing is written where one of them is not free.
-fn exact(map: &[u64], start: u32, n: u32, pieces: &mut [[u16; 2]; 5]) -> Chosen
+fn exact(map: &[u64], start: u32, n: u32) -> [[u16; 2]; 5]
     requires { ⌜ (1 ≤ n) × (start + n ≤ 65535) × (start + n ≤ 64 * length (now map)) × (length (now pieces) ≡ 5) ⌝ }
     ensures { λ r. ⌜ grant (r .count) (r .tracks) (now (pieces .exit)) ≡ replyOf (exactRuns (now (map .entry)) start n) (now (pieces .entry)) ⌝ }
 {
+    let mut pieces = [[0u16; 2]; 5];
     if all_free(map, start as usize, (start + n) as usize) {
         pieces[0] = [start as u16, n as u16];
-        return Chosen {
-            count: 1,
-            tracks: n,
-        };
     }
-    Chosen {
-        count: 0,
-        tracks: 0,
-    }
+    pieces
 }
 
 // The pieces that an amount is granted out of the free tracks, which the table lists and the map shows, whatever labels hold
 // the others. Where there is no space the count is 0 and no piece is written.
-pub fn fulfil<'a>(
-    table: &'a [u8],
-    map: &'a [u64],
-    g: Geometry,
-    amount: Amount,
-    pieces: &mut [[u16; 2]; 5],
-) -> Chosen
+pub fn fulfil<'a>(table: &'a [u8], map: &'a [u64], g: Geometry, amount: Amount) -> [[u16; 2]; 5]
     requires { ⌜ Limits (geometryOf g) × (tracks (geometryOf g) ≤ 64 * length (now map)) × Askable (geometryOf g) (toAmount amount) × (length (now pieces) ≡ 5) × (length (now table) ≡ 140 * slots (geometryOf g)) × ((f : List Run) × Listed (geometryOf g) (now table) f) ⌝ }
     ensures { λ r. ⌜ ((ls : List Label) → Shows (now (map .entry)) (tracks (geometryOf g)) (held (geometryOf g) ls) → Listed (geometryOf g) (now (table .entry)) (free (geometryOf g) ls) → grant (r .count) (r .tracks) (now (pieces .exit)) ≡ replyOf (piecesOf (geometryOf g) ls (toAmount amount)) (now (pieces .entry))) ⌝ }
 {
     match amount {
-        Amount::Tracks(k) => grant::choose(table, g, 1, k, pieces),
-        Amount::Cylinders(k) => grant::choose(table, g, g.heads, k, pieces),
-        Amount::Absolute(start, k) => exact(map, start, k, pieces),
+        Amount::Tracks(k) => grant::choose(table, g, 1, k),
+        Amount::Cylinders(k) => grant::choose(table, g, g.heads, k),
+        Amount::Absolute(start, k) => exact(map, start, k),
     }
 }
