@@ -10,17 +10,12 @@ use Rattle.tracks.specs.Map.{isFree}
 use Rattle.request.specs.declared.Amount.{Amount as Asked}
 use Rattle.request.specs.declared.Amount.the-variants.{Tracks, Cylinders, Absolute}
 
--- "A request holds its amount in one of three kinds". Its unit byte is `unitOf` of the rules' amount
+-- "A request holds its amount in one of three kinds": the rules' amount. Its number, "0 tracks, 1 cylinders, 2 absolute", is the
+-- rules' too (`amountOf`), and so is its unit byte (`unitOf`)
 abbrev pub toAmount : Asked → Amount
 toAmount (Tracks n) = inTracks n
 toAmount (Cylinders n) = inCylinders n
 toAmount (Absolute s n) = absolute s n
-
--- "Kinds are 0 tracks, 1 cylinders, 2 absolute"
-abbrev pub kindOf : Asked → ℕ
-kindOf (Tracks n) = 0
-kindOf (Cylinders n) = 1
-kindOf (Absolute s n) = 2
 
 -- "Cylinder pieces have type X'81', others X'01'"
 abbrev pub typeOf : Amount → ℕ

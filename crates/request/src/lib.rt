@@ -16,7 +16,7 @@ ghost use Rattle.tracks.specs.Map.{Shows, isFree};
 ghost use Rattle.free_list.specs.FreeList.{Listed};
 ghost use Rattle.grant.specs.Grant.{grantOf};
 ghost use Rattle.forms.specs.Forms.{geometryOf};
-ghost use Rattle.request.specs.Request.{exactRuns, kindOf, piecesOf, toAmount, typeOf};
+ghost use Rattle.request.specs.Request.{exactRuns, piecesOf, toAmount, typeOf};
 
 // An amount: how many tracks, how many cylinders, or from which track on how many.
 pub enum Amount {
@@ -34,7 +34,7 @@ pub struct Request {
 // The request that the host's numbers make; an unknown kind is refused before.
 pub fn read_request(kind: u32, start: u32, amount: u32, secondary: u32) -> Request
     requires { ⌜ kind < 3 ⌝ }
-    ensures { λ r. ⌜ (some (toAmount (r .amount)) ≡ amountOf kind start amount) × (kindOf (r .amount) ≡ kind) × (r .secondary ≡ secondary) ⌝ }
+    ensures { λ r. ⌜ (some (toAmount (r .amount)) ≡ amountOf kind start amount) × (r .secondary ≡ secondary) ⌝ }
 {
     if kind == 0 {
         return Request {
