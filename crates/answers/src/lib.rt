@@ -11,13 +11,6 @@ ghost use Rattle.grant.specs.Grant.{row};
 ghost use Rattle.records.specs.Put.{putAt};
 ghost use Rattle.answers.specs.Bytes24.{pieceBytes};
 
-// A number of two bytes, wider.
-fn wide(x: u16) -> u32
-    ensures { λ r. ⌜ (r ≡ x) × (r < 65536) ⌝ }
-{
-    x as u32
-}
-
 // Puts a number of two bytes.
 fn put_two(all: [u8; 24], at: usize, v: u32) -> [u8; 24]
     requires { ⌜ (at + 1 < 24) × (v < 65536) ⌝ }
@@ -34,8 +27,8 @@ fn put_piece(all: [u8; 24], at: usize, p: [u16; 2]) -> [u8; 24]
     requires { ⌜ at + 3 < 24 ⌝ }
     ensures { λ r. ⌜ r ≡ putAt all at (pieceBytes p) ⌝ }
 {
-    let begun = put_two(all, at, wide(p[0]));
-    put_two(begun, at + 2, wide(p[1]))
+    let begun = put_two(all, at, grant::wide(p[0]));
+    put_two(begun, at + 2, grant::wide(p[1]))
 }
 
 // The answer of a call that reports no number.

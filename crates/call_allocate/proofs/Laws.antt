@@ -6,7 +6,6 @@ use mathlib.Core.List.{List, []}
 use Prim.Native.Nat.{ℕ, _≤_}
 use lib.Dec.{T, eqb, eqb→eq}
 use lib.ListN.{length}
-use Rattle.names.specs.declared.Found.{Found}
 use Rattle.model.specs.Basics.{any}
 use Rattle.model.specs.Model.{Geometry, slots}
 use Rattle.model.proofs.Lists.{and-l, and-r, true-is}
@@ -14,7 +13,7 @@ use Rattle.rules.specs.Calls.{Amount, Call, Outcome, Request, allocate, allocat
 use Rattle.rules.specs.Entries.{lent, perform, result, written}
 use Rattle.rules.specs.Reading.{read}
 use Rattle.rules.specs.Table.{goodName, named, taken}
-use Rattle.names.specs.Find.{findSlot, isNothing}
+use Rattle.names.specs.Find.{Answer, findSlot, isNothing}
 use Rattle.table_check.specs.Check.{Roomy, Shown}
 use Rattle.opening.specs.Opening.{openNumber}
 use Rattle.opening.proofs.Lookup.{any-is, looked-up}
@@ -80,7 +79,7 @@ module _ (t name at : List ℕ) (kind start amount sec : ℕ) (a : List ℕ) (ok
 
         module _ (inside : inRange g sec′ q ≡ true) (known : Bool) (d : known ≡ not (isNothing (findSlot t name (slots g)))) where
           any-so : any (named name) (read t .labels) ≡ known
-          any-so = any-is name (read t .labels) ∙ ap (λ (x : Found). not (isNothing x)) (sym (looked-up t is-taken g eg name)) ∙ sym d
+          any-so = any-is name (read t .labels) ∙ ap (λ (x : Answer). not (isNothing x)) (sym (looked-up t is-taken g eg name)) ∙ sym d
 
           rule-6 : known ≡ true → allocateAmount (read t) same-asked q ≡ refuse 6
           rule-6 p = rw (range-is, inside, any-so, p)

@@ -7,7 +7,7 @@ use Prim.Native.Nat.{ℕ, _*_, _≤_, _<_}
 use native.Mathlib.Omega.{arith}
 use lib.Dec.{T, eqb, eqb→eq, leb, leb→le}
 use lib.ListN.{length, take}
-use Rattle.model.specs.Model.{Extent, Geometry, Label, Run, Volume, extent, free, held, overs, slots, tracks}
+use Rattle.model.specs.Model.{Extent, Geometry, Label, Run, Volume, extent, free, held, overs, slots, total, tracks}
 use Rattle.model.proofs.Lists.{and-l, and-r, is-true}
 use Rattle.rules.specs.Calls.{Amount, absolute, allocateAmount, allocatePieces, given, granted, inCylinders, inRange, inTracks, newSet, settled, unitOf}
 use Rattle.rules.specs.Calls.{grant as granting}
@@ -15,15 +15,16 @@ use Rattle.rules.specs.Entries.{lent, written}
 use Rattle.rules.specs.Ledger.{adds}
 use Rattle.rules.specs.Reading.{read}
 use Rattle.rules.specs.Slots.{settleWith}
+use Rattle.rules.proofs.Grant.{Asks, range-asks}
 use Rattle.rules.proofs.Grants.{allocate-keeps}
 use Rattle.rules.proofs.Kept.{Keeps}
 use Rattle.rules.proofs.Settle.{used-tally}
 use Rattle.rules.proofs.Valid.{Limits, Valid}
 use Rattle.tracks.specs.Map.{Shows}
-use Rattle.grant.specs.Grant.{grant, replyOf}
+use Rattle.grant.specs.Grant.{grantOf, piecesIn}
 use Rattle.labels.specs.Labels.{Format1, Format3, newLabel}
-use Rattle.request.specs.Request.{Askable, piecesOf, typeOf}
-use Rattle.request.proofs.Laws.{Accepted, accepted, range-askable, refused}
+use Rattle.request.specs.Request.{piecesOf, typeOf}
+use Rattle.request.proofs.Laws.{Accepted, accepted, refused}
 use Rattle.set_change.specs.Change.{granted as more}
 use Rattle.opening.proofs.Laws.{Ready, ready}
 use Rattle.free_list.specs.FreeList.{Listed}
@@ -53,8 +54,8 @@ module _ {t m s name at a : List ℕ} {g : Geometry} {amount : Amount} {sec : �
   pub long : length t ≡ 140 * slots g
   long = table-long t (d .isTaken) g (d .geometryIs)
 
-  pub askable : Askable g amount
-  askable = range-askable g sec amount (d .ranges)
+  pub asks : Asks g amount
+  asks = range-asks g sec amount (d .ranges)
 
   pub secondary-fits : sec < 16777216
   secondary-fits = range-secondary g sec amount (d .ranges)
@@ -87,19 +88,20 @@ module _ {t m s name at a : List ℕ} {g : Geometry} {amount : Amount} {sec : �
 
   -- ---- the choice
 
-  module _ (count sum : ℕ) (p p′ : List (List ℕ)) (f : (ls : List Label) → Shows m (tracks g) (held g ls) → Listed g t (free g ls) → grant count sum p′ ≡ replyOf (piecesOf g ls amount) p) where
-    reply : grant count sum p′ ≡ replyOf (piecesOf (v .geometry) ls amount) p
-    reply = f ls shows lists ∙ ap (λ (y : Geometry). replyOf (piecesOf y ls amount) p) (d .geometryIs)
+  module _ (p : List (List ℕ)) (f : (ls : List Label) → Shows m (tracks g) (held g ls) → Listed g t (free g ls) → p ≡ grantOf (piecesOf g ls amount))
+      (count sum : ℕ) (c : (count ≡ length (piecesIn p)) × (sum ≡ total (piecesIn p))) where
+    pieces-are : p ≡ grantOf (piecesOf (v .geometry) ls amount)
+    pieces-are = f ls shows lists ∙ ap (λ (y : Geometry). grantOf (piecesOf y ls amount)) (d .geometryIs)
 
-    askable-there : Askable (v .geometry) amount
-    askable-there = subst (λ (y : Geometry). Askable y amount) (d .geometryIs) askable
+    asks-there : Asks (v .geometry) amount
+    asks-there = subst (λ (y : Geometry). Asks y amount) (d .geometryIs) asks
 
     pub no-space : count ≡ 0 → Chooses t name at a amount sec 9 t a
-    no-space z = sym (ap (λ (o : Option (List Extent)). written (lent t a []) (given o 9 (allocatePieces v (asking name at sec) amount))) (refused v (is-ready .valid) amount askable-there count sum p p′ reply z .0))
+    no-space z = sym (ap (λ (o : Option (List Extent)). written (lent t a []) (given o 9 (allocatePieces v (asking name at sec) amount))) (refused v (is-ready .valid) amount asks-there p pieces-are count sum c z))
 
     module _ (nz : count ≡ 0 → ⊥) where
-      it : Accepted v amount count sum p p′
-      it = accepted v (is-ready .valid) amount askable-there count sum p p′ reply nz
+      it : Accepted v amount count sum p
+      it = accepted v (is-ready .valid) amount asks-there p pieces-are count sum c nz
 
       pub count-most : count ≤ 5
       count-most = let a = it .number in let b = it .good .most in omega arith
@@ -118,7 +120,7 @@ module _ {t m s name at a : List ℕ} {g : Geometry} {amount : Amount} {sec : �
         label-is : more kind (it .ps) bare ≡ new es
         label-is = ap₂ (λ (x y : ℕ). more y (it .ps) (newLabel name at x sec)) eu ek
 
-        pub grants : Grants g t m s 0 0 0 kind one three (take count p′) count sum
+        pub grants : Grants g t m s 0 0 0 kind one three (take count p) count sum
         grants =
             record {
               volume = v;

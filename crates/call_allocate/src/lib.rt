@@ -23,8 +23,8 @@ fn place(
     ensures { λ r. ⌜ Chooses (now (table .entry)) (now (name .entry)) (now (attributes .entry)) (now (answer .entry)) (toAmount (request .amount)) (request .secondary) r (now (table .exit)) (now (answer .exit)) ⌝ }
 {
     let amount = request.amount;
-    let mut pieces = [[0u16; 2]; 5];
-    let got = request::fulfil(table, map, g, amount, &mut pieces);
+    let pieces = request::fulfil(table, map, g, amount);
+    let got = grant::count_pieces(pieces);
     if got.count == 0 {
         return 9;
     }

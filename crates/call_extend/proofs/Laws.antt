@@ -6,7 +6,6 @@ use mathlib.Core.List.{List, []}
 use Prim.Native.Nat.{ℕ}
 use lib.Dec.{T, eqb, eqb→eq}
 use lib.ListN.{length}
-use Rattle.names.specs.declared.Found.the-variants.{Nothing, Slot}
 use Rattle.model.specs.Model.{Geometry, Label, slots}
 use Rattle.model.proofs.Lists.{and-l, true-is}
 use Rattle.rules.specs.Calls.{Call, Outcome, extend, extendSet, given, refuse, rule}
@@ -14,7 +13,7 @@ use Rattle.rules.specs.Entries.{lent, perform, result, written}
 use Rattle.rules.specs.Reading.{read}
 use Rattle.rules.specs.Slots.{found}
 use Rattle.rules.specs.Table.{goodName, taken}
-use Rattle.names.specs.Find.{findSlot}
+use Rattle.names.specs.Find.{findSlot, inSlot, notFound}
 use Rattle.table_check.specs.Check.{Roomy, Shown}
 use Rattle.opening.specs.Opening.{openNumber}
 use Rattle.opening.proofs.Lookup.{not-there, there}
@@ -51,10 +50,10 @@ module _ (t name a : List ℕ) (ok : Bool) (r : ℕ) (lengths : ok ≡ (eqb (len
       unfolding rule
       rule-is = rw good
 
-      pub not-found : Nothing ≡ findSlot t name (slots g) → Comes 5 t a
+      pub not-found : notFound ≡ findSlot t name (slots g) → Comes (notFound .number) t a
       not-found e = ruled (refuse 5) (rule-is ∙ ap (λ (o : Option Label). given o 5 (extendSet (read t) name)) (not-there t is-taken g eg name e)) 5 t a refl
 
-      module _ (k : ℕ) (e : Slot k ≡ findSlot t name (slots g)) (m₀ m s : List ℕ) (shown : Shown (read t) m s) (roomy : Roomy t m₀) (same : length m ≡ length m₀) (ls : length s ≡ 8) where
+      module _ (k : ℕ) (e : inSlot k ≡ findSlot t name (slots g)) (m₀ m s : List ℕ) (shown : Shown (read t) m s) (roomy : Roomy t m₀) (same : length m ≡ length m₀) (ls : length s ≡ 8) where
         pub longer : Longer t m s a g k
         longer =
             record {

@@ -9,7 +9,7 @@ use borrow.Author.Tests.{le-leb, lt-leb}
 use lib.Dec.{eqb, leb}
 use lib.ListN.{length, take, getD, length-map}
 use Rattle.model.specs.Basics.{get3, upFrom}
-use Rattle.model.specs.Model.{Extent, Geometry, Label, Run, Volume, extent, free, held, overs, runsOf, slots, times, tracks}
+use Rattle.model.specs.Model.{Extent, Geometry, Label, Run, Volume, extent, free, held, overs, runsOf, slots, times, total, tracks}
 use Rattle.rules.specs.Calls.{Amount, extendPieces, extendSet, given, granted, inCylinders, inTracks, refuse, secondaryOf, settled}
 use Rattle.rules.specs.Calls.{grant as granting}
 use Rattle.rules.specs.Entries.{lent, written}
@@ -17,15 +17,16 @@ use Rattle.rules.specs.Layout.{format1, format3}
 use Rattle.rules.specs.Ledger.{appends}
 use Rattle.rules.specs.Reading.{read, readLabel, recordAt}
 use Rattle.rules.specs.Slots.{settleWith, withExtents, without}
+use Rattle.rules.proofs.Grant.{Asks}
 use Rattle.rules.proofs.Grants.{extend-keeps}
 use Rattle.rules.proofs.Keyed.{getD-map-range}
 use Rattle.rules.proofs.Kept.{Keeps}
 use Rattle.rules.proofs.LabelBack.{label-back}
 use Rattle.rules.proofs.Valid.{GoodLabel, Limits, Valid}
 use Rattle.tracks.specs.Map.{Shows}
-use Rattle.grant.specs.Grant.{grant, replyOf}
-use Rattle.request.specs.Request.{Askable, piecesOf, typeOf}
-use Rattle.request.proofs.Laws.{Accepted, accepted, refused, secondary-askable}
+use Rattle.grant.specs.Grant.{grantOf, piecesIn}
+use Rattle.request.specs.Request.{piecesOf, typeOf}
+use Rattle.request.proofs.Laws.{Accepted, accepted, refused, secondary-asks}
 use Rattle.set_change.specs.Change.{granted as more}
 use Rattle.set_at.specs.Held.{SetAt}
 use Rattle.set_at.proofs.Laws.{Known, known}
@@ -120,7 +121,7 @@ module _ {t m s a : List ℕ} {g : Geometry} {k : ℕ} (d : Longer t m s a g k) 
       pub no-secondary : sec ≡ 0 → Extended d 8 t a
       no-secondary z = let e : leb 1 (l .secondary) ≡ false = lt-leb 1 (l .secondary) (let q = sec-is in omega arith) in rw e
 
-      module _ (ns : sec ≡ 0 → ⊥) (small : sec < 16777216) (unit : ℕ) (eu : unit ≡ getD one 94 0) (q : Amount) (eq : q ≡ cond (eqb unit 0xC0) (inCylinders sec) (inTracks sec)) where
+      module _ (ns : sec ≡ 0 → ⊥) (unit : ℕ) (eu : unit ≡ getD one 94 0) (q : Amount) (eq : q ≡ cond (eqb unit 0xC0) (inCylinders sec) (inTracks sec)) where
         amount-is : q ≡ secondaryOf l
         amount-is =
             eq
@@ -130,8 +131,8 @@ module _ {t m s a : List ℕ} {g : Geometry} {k : ℕ} (d : Longer t m s a g k) 
         positive : 1 ≤ sec
         positive = omega (arith, ns)
 
-        pub askable : Askable g q
-        askable = subst (Askable g) (sym eq) (secondary-askable g unit sec positive (omega arith))
+        pub asks : Asks g q
+        asks = subst (Asks g) (sym eq) (secondary-asks g unit sec positive)
 
         abbrev chosen : Option (List Extent)
         chosen = granting (v .geometry) (v .labels) q
@@ -141,19 +142,20 @@ module _ {t m s a : List ℕ} {g : Geometry} {k : ℕ} (d : Longer t m s a g k) 
             let e : leb 1 (l .secondary) ≡ true = le-leb 1 (l .secondary) (let z = sec-is in let w = positive in omega arith) in
             rw e (ap (λ (y : Amount). given (granting (v .geometry) (v .labels) y) 9 (extendPieces v name l)) (sym amount-is))
 
-        module _ (n sum : ℕ) (p p′ : List (List ℕ)) (f : (ls : List Label) → Shows m (tracks g) (held g ls) → Listed g t (free g ls) → grant n sum p′ ≡ replyOf (piecesOf g ls q) p) where
-          reply : grant n sum p′ ≡ replyOf (piecesOf (v .geometry) (v .labels) q) p
-          reply = f (v .labels) shows lists ∙ ap (λ (y : Geometry). replyOf (piecesOf y (v .labels) q) p) (d .geometryIs)
+        module _ (p : List (List ℕ)) (f : (ls : List Label) → Shows m (tracks g) (held g ls) → Listed g t (free g ls) → p ≡ grantOf (piecesOf g ls q))
+            (n sum : ℕ) (c : (n ≡ length (piecesIn p)) × (sum ≡ total (piecesIn p))) where
+          pieces-are : p ≡ grantOf (piecesOf (v .geometry) (v .labels) q)
+          pieces-are = f (v .labels) shows lists ∙ ap (λ (y : Geometry). grantOf (piecesOf y (v .labels) q)) (d .geometryIs)
 
-          askable-there : Askable (v .geometry) q
-          askable-there = subst (λ (y : Geometry). Askable y q) (d .geometryIs) askable
+          asks-there : Asks (v .geometry) q
+          asks-there = subst (λ (y : Geometry). Asks y q) (d .geometryIs) asks
 
           pub no-space : n ≡ 0 → Extended d 9 t a
-          no-space z = sym (ap (written (lent t a [])) (rule-is ∙ ap (λ (o : Option (List Extent)). given o 9 (extendPieces v name l)) (refused v (is-ready .valid) q askable-there n sum p p′ reply z .0)))
+          no-space z = sym (ap (written (lent t a [])) (rule-is ∙ ap (λ (o : Option (List Extent)). given o 9 (extendPieces v name l)) (refused v (is-ready .valid) q asks-there p pieces-are n sum c z)))
 
           module _ (nz : n ≡ 0 → ⊥) where
-            got : Accepted v q n sum p p′
-            got = accepted v (is-ready .valid) q askable-there n sum p p′ reply nz
+            got : Accepted v q n sum p
+            got = accepted v (is-ready .valid) q asks-there p pieces-are n sum c nz
 
             pub pieces-most : n ≤ 5
             pieces-most = let a = got .number in let b = got .good .most in omega arith
@@ -190,7 +192,7 @@ module _ {t m s a : List ℕ} {g : Geometry} {k : ℕ} (d : Longer t m s a g k) 
                 label-is : more kind (got .ps) l ≡ withExtents (l .extents ++ new) (l .ttr) l
                 label-is = ap (λ (b : ℕ). more b (got .ps) l) ek
 
-                pub grants : Grants g t m s k third count kind one three (take n p′) n sum
+                pub grants : Grants g t m s k third count kind one three (take n p) n sum
                 grants =
                     record {
                       volume = v;

@@ -28,8 +28,8 @@ fn lengthen(
         return 8;
     }
     let amount = request::secondary_of(one[94], secondary);
-    let mut pieces = [[0u16; 2]; 5];
-    let got = request::fulfil(table, map, g, amount, &mut pieces);
+    let pieces = request::fulfil(table, map, g, amount);
+    let got = grant::count_pieces(pieces);
     if got.count == 0 {
         return 9;
     }

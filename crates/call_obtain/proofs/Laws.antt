@@ -9,7 +9,6 @@ use borrow.Author.Tests.{eq-eqb, ne-eqb}
 use lib.Dec.{T, eqb, eqb→eq}
 use lib.ListN.{drop, drop-of-length-le, length, length-append, length-drop}
 use lib.Seq.{take-at}
-use Rattle.names.specs.declared.Found.the-variants.{Nothing, Slot}
 use Rattle.model.specs.Basics.{zeros}
 use Rattle.model.specs.Model.{Geometry, Label, slots}
 use Rattle.model.proofs.Lists.{and-l, and-r, true-is}
@@ -21,7 +20,7 @@ use Rattle.rules.specs.Slots.{found}
 use Rattle.rules.specs.Table.{goodName, taken}
 use Rattle.rules.proofs.Valid.{Limits}
 use Rattle.fields.specs.Records.{putRecord, slotBytes}
-use Rattle.names.specs.Find.{findSlot}
+use Rattle.names.specs.Find.{findSlot, inSlot, notFound}
 use Rattle.label_check.specs.Label.{namedThird}
 use Rattle.opening.specs.Opening.{openNumber}
 use Rattle.opening.proofs.Laws.{LabelIn, ready, third-is}
@@ -99,10 +98,10 @@ module _ (t name l a : List ℕ) (ok : Bool) (r : ℕ) (long : ok ≡ (eqb (leng
       unfolding rule
       rule-is = rw h
 
-      pub not-found : Nothing ≡ findSlot t name (slots g) → result 5 (lent t a l) ≡ perform (lent t a l) (obtain name)
+      pub not-found : notFound ≡ findSlot t name (slots g) → result (notFound .number) (lent t a l) ≡ perform (lent t a l) (obtain name)
       not-found e = sym (ap (written (lent t a l)) (rule-is ∙ ap (λ (o : Option Label). given o 5 (obtainSet (read t))) (not-there t is-taken g eg name e))) ∙ ruled
 
-      pub obtained : (k : ℕ) (l′ a′ : List ℕ) → Slot k ≡ findSlot t name (slots g) → l′ ≡ slotBytes t k ++ orZeros t (namedThird g (slotBytes t k)) → a′ ≡ zeros 24
+      pub obtained : (k : ℕ) (l′ a′ : List ℕ) → inSlot k ≡ findSlot t name (slots g) → l′ ≡ slotBytes t k ++ orZeros t (namedThird g (slotBytes t k)) → a′ ≡ zeros 24
           → result 0 (lent t a′ l′) ≡ perform (lent t a l) (obtain name)
       obtained k l′ a′ e el ea =
           let x = ready t is-taken in

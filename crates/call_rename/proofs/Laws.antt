@@ -8,8 +8,6 @@ use native.Mathlib.Omega.{arith}
 use borrow.Author.Tests.{eq-eqb, eqb-false, eqb-true, ne-eqb}
 use lib.Dec.{T, eqb, eqb→eq}
 use lib.ListN.{length}
-use Rattle.names.specs.declared.Found.{Found}
-use Rattle.names.specs.declared.Found.the-variants.{Nothing, Slot}
 use Rattle.model.specs.Basics.{any, zeros}
 use Rattle.model.specs.Model.{Geometry, Label, slots}
 use Rattle.model.proofs.Lists.{and-l, and-r, by, true-is}
@@ -21,7 +19,7 @@ use Rattle.rules.specs.Slots.{found, replaced, withName}
 use Rattle.rules.specs.Table.{goodName, named, taken}
 use Rattle.rules.proofs.Labels.{Unlike, unlike-any}
 use Rattle.fields.specs.Records.{putRecord, slotBytes}
-use Rattle.names.specs.Find.{findSlot, isNothing}
+use Rattle.names.specs.Find.{Answer, findSlot, inSlot, isNothing, notFound}
 use Rattle.labels.specs.Labels.{Format1}
 use Rattle.labels.proofs.Following.{good-is}
 use Rattle.opening.specs.Opening.{openNumber}
@@ -114,17 +112,17 @@ module _ (t old new a : List ℕ) (r : ℕ) (number : r ≡ earlyNumber t old ne
     new-long = eqb→eq (length new) 44 (and-r (eqb (length old) 44) _ (and-r (eqb (length a) 24) _ all-long))
 
     module _ (g : Geometry) (eg : g ≡ read t .geometry) where
-      pub not-found : Nothing ≡ findSlot t old (slots g) → result 5 (lent t a []) ≡ perform (lent t a []) (rename old new)
+      pub not-found : notFound ≡ findSlot t old (slots g) → result (notFound .number) (lent t a []) ≡ perform (lent t a []) (rename old new)
       not-found e =
           sym (ap (written (lent t a [])) (rule-is names-good ∙ ap (λ (o : Option Label). given o 5 (renameSet (read t) old new)) (not-there t is-taken g eg old e))) ∙ ruled opened
 
-      module _ (k : ℕ) (e : Slot k ≡ findSlot t old (slots g)) where
+      module _ (k : ℕ) (e : inSlot k ≡ findSlot t old (slots g)) where
         it : FoundAt t (read t) old k
         it = there t is-taken g eg old k e
 
         module _ (known : Bool) (d : known ≡ not (isNothing (findSlot t new (slots g)))) where
           any-so : any (named new) (read t .labels) ≡ known
-          any-so = any-is new (read t .labels) ∙ ap (λ (x : Found). not (isNothing x)) (sym (looked-up t is-taken g eg new)) ∙ sym d
+          any-so = any-is new (read t .labels) ∙ ap (λ (x : Answer). not (isNothing x)) (sym (looked-up t is-taken g eg new)) ∙ sym d
 
           rule-6 : known ≡ true → renameSet (read t) old new (it .label) ≡ refuse 6
           rule-6 p = rw (any-so, p)

@@ -6,7 +6,6 @@ use mathlib.Core.List.{List, []}
 use Prim.Native.Nat.{ℕ}
 use lib.Dec.{T, eqb, eqb→eq}
 use lib.ListN.{length}
-use Rattle.names.specs.declared.Found.the-variants.{Nothing, Slot}
 use Rattle.model.specs.Model.{Geometry, Label, Volume, slots}
 use Rattle.model.proofs.Lists.{and-l, true-is}
 use Rattle.rules.specs.Calls.{Call, Outcome, given, rule, unless}
@@ -14,7 +13,7 @@ use Rattle.rules.specs.Entries.{callLengths, lent, perform, result, written}
 use Rattle.rules.specs.Reading.{read}
 use Rattle.rules.specs.Slots.{found}
 use Rattle.rules.specs.Table.{goodName, taken}
-use Rattle.names.specs.Find.{findSlot}
+use Rattle.names.specs.Find.{findSlot, inSlot, notFound}
 use Rattle.table_check.specs.Check.{Shown}
 use Rattle.opening.specs.Opening.{openNumber}
 use Rattle.opening.proofs.Laws.{ready}
@@ -51,10 +50,10 @@ module _ {c : Call} {name : List ℕ} {own : Volume → Label → Outcome} (y : 
       rule-is : rule (read t) c ≡ given (found (read t) name) 5 (own (read t))
       rule-is = y .rules (read t) ∙ ap (λ (b : Bool). unless b 4 (given (found (read t) name) 5 (own (read t)))) h
 
-      pub not-found : Nothing ≡ findSlot t name (slots g) → result 5 (lent t a []) ≡ perform (lent t a []) c
+      pub not-found : notFound ≡ findSlot t name (slots g) → result (notFound .number) (lent t a []) ≡ perform (lent t a []) c
       not-found e = sym (ap (written (lent t a [])) (rule-is ∙ ap (λ (o : Option Label). given o 5 (own (read t))) (not-there t is-taken g eg name e))) ∙ ruled
 
-      module _ (k : ℕ) (e : Slot k ≡ findSlot t name (slots g)) (m s : List ℕ) (shown : Shown (read t) m s) where
+      module _ (k : ℕ) (e : inSlot k ≡ findSlot t name (slots g)) (m s : List ℕ) (shown : Shown (read t) m s) where
         -- the data set that it is on
         abbrev pub at : At g t m s k
         at = record { volume = read t; name = name; ready = ready t is-taken; geometryIs = eg; shown = shown; it = there t is-taken g eg name k e }

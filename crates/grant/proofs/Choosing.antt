@@ -7,14 +7,14 @@ use Prim.Native.Nat.{ℕ, zero, suc, _+_, _*_, _/_, _≤_, _<_}
 use native.Mathlib.Nat.{le-trans, div-mul-le-self, mul-le-mul-right}
 use native.Mathlib.Omega.{arith}
 use borrow.Author.Tests.{leb-true, le-leb, lt-leb}
-use lib.ListN.{length, getD, set, drop}
+use lib.ListN.{getD, set}
 use lib.Dec.{T, leb, leb→le}
 use Rattle.model.specs.Basics.{mapOption}
 use Rattle.model.specs.Model.{Run, run, total, Separate}
 use Rattle.model.specs.Choice.{wholeIn, candidates, serving, shorter, shortest, longestFirst, gather, oneOrFive, choose, scale}
 use Rattle.model.proofs.Lists.{by, All, All-filter, All-both, filter-pass, some-is}
 use Rattle.model.proofs.Choose.{sorted-All}
-use Rattle.grant.specs.Grant.{grantedRuns, row, grant, replyOf}
+use Rattle.grant.specs.Grant.{grantedRuns, row, noPieces, grantOf}
 use Rattle.grant.specs.Pass.{noRun, runOrNone, padded, Surveyed, Within, Small}
 use Rattle.grant.proofs.Bounds.{small}
 use Rattle.grant.proofs.Gathering.{gather-padded, gather-short}
@@ -54,10 +54,6 @@ shortest-All P (d ∷ ds) c a e = go (shortest ds) (λ x q. shortest-All P ds x 
     go (some x) i e =
         by (leb (d .count) (x .count)) (λ h. subst P (some-is d c (rw h at e)) (a .0)) (λ h. subst P (some-is x c (rw h at e)) (i x refl))
 
-pub first-place : (g : List (List ℕ)) (r : List ℕ) → length g ≡ 5 → set g 0 r ≡ r ∷ drop 1 g
-first-place [] r l = absurd (omega arith)
-first-place (x ∷ g) r l = refl
-
 -- ---- what the pass has found
 
 module _ (f : List Run) (n : ℕ) {u k : ℕ} {best : Run} {five : List Run} (apart : Separate 0 n f) (fits : n ≤ 65535) (pos : 1 ≤ k) (s : Surveyed u k f best five) where
@@ -91,12 +87,9 @@ module _ (f : List Run) (n : ℕ) {u k : ℕ} {best : Run} {five : List Run} (ap
       (omega arith, omega arith)
 
   -- the one piece
-  pub granted-one : 1 ≤ best .count → (g : List (List ℕ)) → length g ≡ 5
-      → grant 1 (k * u) (set g 0 (row (scale u (run (best .start) k)))) ≡ replyOf (grantedRuns u k f) g
-  unfolding grantedRuns choose replyOf
-  granted-one h g l =
-      let z : k * u ≡ k * u + 0 = omega arith in
-      rw (found h) (λ i. record { count = 1; tracks = z i; places = first-place g (row (scale u (run (best .start) k))) l i })
+  pub granted-one : 1 ≤ best .count → set noPieces 0 (row (scale u (run (best .start) k))) ≡ grantOf (grantedRuns u k f)
+  unfolding grantedRuns choose grantOf
+  granted-one h = rw (found h)
 
   -- several
   pub granted-more : best .count ≡ 0 → mapOption (map (scale u)) (gather k five) ≡ grantedRuns u k f
@@ -108,8 +101,8 @@ module _ (f : List Run) (n : ℕ) {u k : ℕ} {best : Run} {five : List Run} (ap
       ap (mapOption (map (scale u))) (sym q)
 
   -- none
-  pub granted-none : best .count ≡ 0 → total five < k → (g : List (List ℕ)) → grant 0 0 g ≡ replyOf (grantedRuns u k f) g
-  unfolding replyOf
-  granted-none e t g =
+  pub granted-none : best .count ≡ 0 → total five < k → noPieces ≡ grantOf (grantedRuns u k f)
+  unfolding grantOf
+  granted-none e t =
       let q : grantedRuns u k f ≡ none = sym (granted-more e) ∙ ap (mapOption (map (scale u))) (gather-short k five t) in
-      sym (ap (λ (o : Option (List Run)). replyOf o g) q)
+      sym (ap grantOf q)

@@ -3,8 +3,7 @@ use mathlib.Core.Path.{_≡_, refl, sym, ap, _∙_}
 use mathlib.Core.Bool.{Bool, false, cond}
 use mathlib.Core.Option.{Option, none, some}
 use mathlib.Core.List.{List, [], _∷_, _++_, map, map-append, append-assoc}
-use Prim.Native.Nat.{ℕ, zero, suc, _+_, _-_, _*_, _≤_, _<_}
-use native.Mathlib.Nat.{add-mul}
+use Prim.Native.Nat.{ℕ, zero, suc, _+_, _-_, _≤_, _<_}
 use native.Mathlib.Numerals.{add-one}
 use native.Mathlib.Omega.{arith}
 use borrow.Author.Tests.{leb-false, le-leb, lt-leb}
@@ -14,8 +13,8 @@ use lib.Dec.{leb}
 use Rattle.model.specs.Basics.{mapOption}
 use Rattle.model.specs.Model.{Run, run, total}
 use Rattle.model.specs.Choice.{firstPart, gather, scale}
-use Rattle.model.proofs.Lists.{by, some-is}
-use Rattle.grant.specs.Grant.{row, grant, replyOf}
+use Rattle.model.proofs.Lists.{by}
+use Rattle.grant.specs.Grant.{row, noPieces, grantOf}
 use Rattle.grant.specs.Pass.{toRun, toRuns, noRun, padded}
 
 -- ---- laws of `gather`
@@ -39,21 +38,6 @@ gather-short n (d ∷ ds) h =
     let k : leb n (d .count) ≡ false = lt-leb n (d .count) (omega arith) in
     rw (k, gather-short (n - d .count) ds (omega arith))
 
-gather-total : (n : ℕ) (ds ps : List Run) → gather n ds ≡ some ps → total ps ≡ n
-gather-total n [] ps e = absurd (let z : _≡_ {A = ℕ} 0 1 = cc in omega arith)
-gather-total n (d ∷ ds) ps e =
-    by (leb n (d .count))
-    (λ q. ap total (sym (some-is (firstPart n d ∷ []) ps (rw q at e))) ∙ omega arith)
-    (λ q. let l : d .count < n = leb-false _ _ q in more (gather (n - d .count) ds) (λ qs r. gather-total (n - d .count) ds qs r) (omega arith) (rw q at e))
-  where
-    more : (o : Option (List Run)) → ((qs : List Run) → o ≡ some qs → total qs ≡ n - d .count) → d .count ≤ n → mapOption (λ ps. d ∷ ps) o ≡ some ps → total ps ≡ n
-    more none i l e = absurd (let z : _≡_ {A = ℕ} 0 1 = cc in omega arith)
-    more (some qs) i l e = ap total (sym (some-is (d ∷ qs) ps e)) ∙ (let t = i qs refl in omega arith)
-
-pub scale-total : (u : ℕ) (ps : List Run) → total (map (scale u) ps) ≡ total ps * u
-scale-total u [] = omega arith
-scale-total u (p ∷ ps) = let i = scale-total u ps in let m = add-mul (p .count) (total ps) u in omega arith
-
 pub total-five : (rs : List (List ℕ)) → length rs ≡ 5
     → getD (getD rs 0 []) 1 0 + getD (getD rs 1 []) 1 0 + getD (getD rs 2 []) 1 0 + getD (getD rs 3 []) 1 0 + getD (getD rs 4 []) 1 0 ≡ total (toRuns rs)
 total-five [] h = absurd (omega arith)
@@ -75,21 +59,21 @@ rows-snoc u [] p g = refl
 rows-snoc u (q ∷ ps) p g = ap (λ (x : List (List ℕ)). row (scale u q) ∷ x) (rows-snoc u ps p g)
 
 -- the first k candidates were taken whole; the rest is to be had of the others
-pub record Filling (u n : ℕ) (five g₀ : List (List ℕ)) (rest : ℕ) (g : List (List ℕ)) (k : ℕ) : Type 0 where
+pub record Filling (u n : ℕ) (five : List (List ℕ)) (rest : ℕ) (g : List (List ℕ)) (k : ℕ) : Type 0 where
   pub few : k < 5
   pub some : 1 ≤ rest
   pub enough : rest ≤ total (toRuns (drop k five))
   pub so-far : gather n (toRuns five) ≡ mapOption (λ ps. toRuns (take k five) ++ ps) (gather rest (toRuns (drop k five)))
-  pub places : g ≡ rows u (toRuns (take k five)) ++ drop k g₀
+  pub places : g ≡ rows u (toRuns (take k five)) ++ drop k noPieces
 
 map-nothing : (o : Option (List Run)) → o ≡ mapOption (λ ps. [] ++ ps) o
 map-nothing none = refl
 map-nothing (some ps) = refl
 
-pub filling-none : (u n : ℕ) (five g₀ : List (List ℕ)) → 1 ≤ n → n ≤ total (toRuns five) → Filling u n five g₀ n g₀ 0
-filling-none u n five g₀ h l = record { few = omega arith; some = h; enough = l; so-far = map-nothing (gather n (toRuns five)); places = refl }
+pub filling-none : (u n : ℕ) (five : List (List ℕ)) → 1 ≤ n → n ≤ total (toRuns five) → Filling u n five n noPieces 0
+filling-none u n five h l = record { few = omega arith; some = h; enough = l; so-far = map-nothing (gather n (toRuns five)); places = refl }
 
-module _ {u n : ℕ} {five g₀ : List (List ℕ)} {rest : ℕ} {g : List (List ℕ)} {k : ℕ} (f : Filling u n five g₀ rest g k) (l : length five ≡ 5) (l₀ : length g₀ ≡ 5) where
+module _ {u n : ℕ} {five : List (List ℕ)} {rest : ℕ} {g : List (List ℕ)} {k : ℕ} (f : Filling u n five rest g k) (l : length five ≡ 5) where
   inside : k < length five
   inside = let a = f .few in omega arith
 
@@ -99,11 +83,11 @@ module _ {u n : ℕ} {five g₀ : List (List ℕ)} {rest : ℕ} {g : List (List 
       length-map (map (scale u) (toRuns (take k five))) row ∙ length-map (toRuns (take k five)) (scale u) ∙ length-map (take k five) toRun ∙ length-take k five ∙ omega arith
 
   -- a row stored at place k
-  stored : (r : List ℕ) → set g k r ≡ rows u (toRuns (take k five)) ++ (r ∷ drop (suc k) g₀)
+  stored : (r : List ℕ) → set g k r ≡ rows u (toRuns (take k five)) ++ (r ∷ drop (suc k) noPieces)
   stored r =
       let a = f .few in
-      let e : g ≡ rows u (toRuns (take k five)) ++ (getD g₀ k [] ∷ drop (suc k) g₀) = f .places ∙ ap (λ (x : List (List ℕ)). rows u (toRuns (take k five)) ++ x) (drop-cons g₀ k [] (omega arith)) in
-      ap (λ (x : List (List ℕ)). set x k r) e ∙ set-at (rows u (toRuns (take k five))) (getD g₀ k []) (drop (suc k) g₀) r k rows-length
+      let e : g ≡ rows u (toRuns (take k five)) ++ (getD noPieces k [] ∷ drop (suc k) noPieces) = f .places ∙ ap (λ (x : List (List ℕ)). rows u (toRuns (take k five)) ++ x) (drop-cons noPieces k [] (omega arith)) in
+      ap (λ (x : List (List ℕ)). set x k r) e ∙ set-at (rows u (toRuns (take k five))) (getD noPieces k []) (drop (suc k) noPieces) r k rows-length
 
   -- the next candidate and those behind it
   next : toRuns (drop k five) ≡ toRun (getD five k []) ∷ toRuns (drop (suc k) five)
@@ -137,7 +121,7 @@ module _ {u n : ℕ} {five g₀ : List (List ℕ)} {rest : ℕ} {g : List (List 
         regroup w d none = refl
         regroup w d (some ps) = ap (λ (x : List Run). Option.some x) (sym (append-assoc w (d ∷ []) ps))
 
-    pub filling-next : Filling u n five g₀ (rest - getD (getD five k []) 1 0) (set g k (row (scale u (toRun (getD five k []))))) (k + 1)
+    pub filling-next : Filling u n five (rest - getD (getD five k []) 1 0) (set g k (row (scale u (toRun (getD five k []))))) (k + 1)
     filling-next =
         let d = toRun (getD five k []) in
         rw (add-one k)
@@ -147,8 +131,8 @@ module _ {u n : ℕ} {five g₀ : List (List ℕ)} {rest : ℕ} {g : List (List 
           enough = left-over;
           so-far = taken-whole;
           places =
-              stored (row (scale u d)) ∙ sym (rows-snoc u (toRuns (take k five)) d (drop (suc k) g₀))
-              ∙ sym (ap (λ (x : List Run). rows u x ++ drop (suc k) g₀) one-more);
+              stored (row (scale u d)) ∙ sym (rows-snoc u (toRuns (take k five)) d (drop (suc k) noPieces))
+              ∙ sym (ap (λ (x : List Run). rows u x ++ drop (suc k) noPieces) one-more);
         })
 
   module _ (h : rest ≤ getD (getD five k []) 1 0) where
@@ -164,14 +148,13 @@ module _ {u n : ℕ} {five g₀ : List (List ℕ)} {rest : ℕ} {g : List (List 
         f .so-far ∙ ap (λ (x : List Run). mapOption (λ ps. w ++ ps) (gather rest x)) next
         ∙ ap (λ (b : Bool). mapOption (λ ps. w ++ ps) (cond b (Option.some (firstPart rest d ∷ [])) (mapOption (λ ps. d ∷ ps) (gather (rest - d .count) (toRuns (drop (suc k) five)))))) (le-leb rest (d .count) h)
 
-    pub filling-done : grant (k + 1) (n * u) (set g k (row (scale u (run (getD (getD five k []) 0 0) rest)))) ≡ replyOf (mapOption (map (scale u)) (gather n (toRuns five))) g₀
-    unfolding last replyOf
+    pub filling-done : set g k (row (scale u (run (getD (getD five k []) 0 0) rest))) ≡ grantOf (mapOption (map (scale u)) (gather n (toRuns five)))
+    unfolding last grantOf
     filling-done =
         let w = toRuns (take k five) in
         let ps = w ++ (last ∷ []) in
         let count : length (map (scale u) ps) ≡ suc k =
         length-map ps (scale u) ∙ length-append w (last ∷ []) ∙ (let a = f .few in let b = length-map (take k five) toRun in let c = length-take k five in omega arith) in
-        let tracks : total (map (scale u) ps) ≡ n * u = scale-total u ps ∙ ap (λ (x : ℕ). x * u) (gather-total n (toRuns five) ps gathered) in
-        let places : rows u ps ++ drop (length (map (scale u) ps)) g₀ ≡ set g k (row (scale u last)) =
-        ap (λ (x : ℕ). rows u ps ++ drop x g₀) count ∙ rows-snoc u w last (drop (suc k) g₀) ∙ sym (stored (row (scale u last))) in
-        rw (gathered, add-one k) (λ i. record { count = sym count i; tracks = sym tracks i; places = sym places i })
+        let places : rows u ps ++ drop (length (map (scale u) ps)) noPieces ≡ set g k (row (scale u last)) =
+        ap (λ (x : ℕ). rows u ps ++ drop x noPieces) count ∙ rows-snoc u w last (drop (suc k) noPieces) ∙ sym (stored (row (scale u last))) in
+        rw gathered (sym places)

@@ -1,10 +1,12 @@
--- What is granted out of the free extents: the pieces in tracks, and how the code gives them back. Assumes nothing.
+-- What is granted out of the free extents: the pieces in tracks, and how the code holds them. Assumes nothing.
 use Prim.Native.Nat.{ℕ}
+use mathlib.Core.Bool.{cond}
 use mathlib.Core.Option.{Option, none, some}
 use mathlib.Core.List.{List, [], _∷_, _++_, map}
-use lib.ListN.{length, drop}
+use lib.Dec.{eqb}
+use lib.ListN.{length, drop, getD, replicate}
 use Rattle.model.specs.Basics.{mapOption}
-use Rattle.model.specs.Model.{Run, total}
+use Rattle.model.specs.Model.{Run, run}
 use Rattle.model.specs.Choice.{candidates, choose, scale}
 
 -- the pieces, in tracks, for n units of u tracks out of the free extents f; none: the five longest candidates are too few
@@ -15,17 +17,17 @@ grantedRuns u n f = mapOption (map (scale u)) (choose n (candidates u f))
 abbrev pub row : Run → List ℕ
 row r = r .start ∷ r .count ∷ []
 
--- how many pieces, their tracks in all, and the five places for pieces
-pub record Grant : Type 0 where
-  pub count : ℕ
-  pub tracks : ℕ
-  pub places : List (List ℕ)
+-- five places without a piece
+abbrev pub noPieces : List (List ℕ)
+noPieces = replicate 5 (0 ∷ 0 ∷ [])
 
-abbrev pub grant : ℕ → ℕ → List (List ℕ) → Grant
-grant k t g = record { count = k; tracks = t; places = g }
+-- "the pieces, at most five, each a start and a count": they stand in the first of five places, and zeros in the others; where
+-- there is no space, zeros in all
+unfoldable pub grantOf : Option (List Run) → List (List ℕ)
+grantOf none = noPieces
+grantOf (some ps) = map row ps ++ drop (length ps) noPieces
 
--- The pieces stand in the first of the places g, and the others are left. Where there are none, count and tracks are 0
--- and all places are left.
-unfoldable pub replyOf : Option (List Run) → List (List ℕ) → Grant
-replyOf none g = grant 0 0 g
-replyOf (some ps) g = grant (length ps) (total ps) (map row ps ++ drop (length ps) g)
+-- the pieces that stand there: those up to the first place without tracks
+unfoldable pub piecesIn : List (List ℕ) → List Run
+piecesIn [] = []
+piecesIn (r ∷ rs) = cond (eqb (getD r 1 0) 0) [] (run (getD r 0 0) (getD r 1 0) ∷ piecesIn rs)

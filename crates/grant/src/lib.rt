@@ -13,7 +13,7 @@ ghost use Rattle.model.specs.Choice.{wholeIn, firstPart, gather, scale};
 ghost use Rattle.rules.proofs.Valid.{Limits};
 ghost use Rattle.forms.specs.Forms.{geometryOf};
 ghost use Rattle.free_list.specs.FreeList.{Entries, Listed};
-ghost use Rattle.grant.specs.Grant.{grantedRuns, row, grant, replyOf};
+ghost use Rattle.grant.specs.Grant.{grantedRuns, row, grantOf, piecesIn};
 ghost use Rattle.grant.specs.Pass.{toRun, toRuns, padded, better, fitsBetter, entered, Looked, Shorter, Surveyed, Within, Small};
 
 // Units that follow each other: the first, and how many; none where the count is 0.
@@ -236,18 +236,12 @@ fn sum(five: [[u32; 2]; 5]) -> u32
     five[0][1] + five[1][1] + five[2][1] + five[3][1] + five[4][1]
 }
 
-// What is granted: how many pieces, none where it is 0, and their tracks.
-pub struct Chosen {
-    pub count: usize,
-    pub tracks: u32,
-}
-
 // Takes whole candidates while the rest is longer than the next one, which gives its first part.
-fn fill(five: [[u32; 2]; 5], u: u32, amount: u32, pieces: &mut [[u16; 2]; 5]) -> Chosen
-    requires { ⌜ (1 ≤ u) × (u ≤ 255) × (1 ≤ amount) × (amount ≤ 16777215) × (amount ≤ total (toRuns five)) ⌝ }
-    requires { ⌜ Within u (toRuns five) × (length (now pieces) ≡ 5) ⌝ }
-    ensures { λ r. ⌜ grant (r .count) (r .tracks) (now (pieces .exit)) ≡ replyOf (mapOption (map (scale u)) (gather amount (toRuns five))) (now (pieces .entry)) ⌝ }
+fn fill(five: [[u32; 2]; 5], u: u32, amount: u32) -> [[u16; 2]; 5]
+    requires { ⌜ (1 ≤ u) × (u ≤ 255) × (1 ≤ amount) × (amount ≤ total (toRuns five)) × Within u (toRuns five) ⌝ }
+    ensures { λ r. ⌜ r ≡ grantOf (mapOption (map (scale u)) (gather amount (toRuns five))) ⌝ }
 {
+    let mut pieces = [[0u16; 2]; 5];
     let mut rest = amount;
     let mut k: usize = 0;
     let mut next = five[0];
@@ -260,31 +254,56 @@ fn fill(five: [[u32; 2]; 5], u: u32, amount: u32, pieces: &mut [[u16; 2]; 5]) ->
     }
     let last = piece(u, next, rest);
     pieces[k] = last;
-    let count = k + 1;
-    let tracks = amount * u;
-    Chosen { count, tracks }
+    pieces
 }
 
-// The pieces for an amount of units of u tracks, out of the free extents that the table lists. Nothing is written where the
-// five longest candidates are too few.
-pub fn choose(table: &[u8], g: Geometry, u: u32, amount: u32, pieces: &mut [[u16; 2]; 5]) -> Chosen
+// The pieces for an amount of units of u tracks, out of the free extents that the table lists; none where the five longest
+// candidates are too few.
+pub fn choose(table: &[u8], g: Geometry, u: u32, amount: u32) -> [[u16; 2]; 5]
     requires { ⌜ Limits (geometryOf g) × (length (now table) ≡ 140 * slots (geometryOf g)) × (1 ≤ u) × (u ≤ 255) ⌝ }
-    requires { ⌜ (1 ≤ amount) × (amount ≤ 16777215) × (length (now pieces) ≡ 5) × ((f : List Run) × Listed (geometryOf g) (now table) f) ⌝ }
-    ensures { λ r. ⌜ ((f : List Run) → Listed (geometryOf g) (now (table .entry)) f → grant (r .count) (r .tracks) (now (pieces .exit)) ≡ replyOf (grantedRuns u amount f) (now (pieces .entry))) ⌝ }
+    requires { ⌜ (1 ≤ amount) × ((f : List Run) × Listed (geometryOf g) (now table) f) ⌝ }
+    ensures { λ r. ⌜ ((f : List Run) → Listed (geometryOf g) (now (table .entry)) f → r ≡ grantOf (grantedRuns u amount f)) ⌝ }
 {
     let mut five = [[0u32; 2]; 5];
     let best = survey_for(table, g, u, amount, &mut five);
     if best.count != 0 {
         let part = piece(u, [best.start, best.count], amount);
+        let mut pieces = [[0u16; 2]; 5];
         pieces[0] = part;
-        let tracks = amount * u;
-        return Chosen { count: 1, tracks };
+        return pieces;
     }
     if sum(five) < amount {
-        return Chosen {
-            count: 0,
-            tracks: 0,
-        };
+        return [[0u16; 2]; 5];
     }
-    fill(five, u, amount, pieces)
+    fill(five, u, amount)
+}
+
+// A number of two bytes.
+pub fn wide(x: u16) -> u32
+    ensures { λ r. ⌜ (r ≡ x) × (r < 65536) ⌝ }
+{
+    x as u32
+}
+
+// What is granted: how many pieces, none where it is 0, and their tracks.
+pub struct Chosen {
+    pub count: usize,
+    pub tracks: u32,
+}
+
+// Counts the pieces and their tracks. A struct that holds the places too is not to be had: the checker covers no literal of one.
+pub fn count_pieces(pieces: [[u16; 2]; 5]) -> Chosen
+    ensures { λ r. ⌜ (r .count ≡ length (piecesIn pieces)) × (r .tracks ≡ total (piecesIn pieces)) ⌝ }
+{
+    let mut count: usize = 0;
+    let mut tracks: u32 = 0;
+    while count < 5 {
+        let n = wide(pieces[count][1]);
+        if n == 0 {
+            return Chosen { count, tracks };
+        }
+        tracks += n;
+        count += 1;
+    }
+    Chosen { count, tracks }
 }

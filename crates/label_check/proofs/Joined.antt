@@ -1,5 +1,4 @@
 -- A label tested and taken: what its parts give together. Assumes nothing.
-use Rattle.label_check.specs.declared.Form.the-variants.{Bad, Good}
 use mathlib.Core.Path.{_≡_, refl, sym, ap, ap₂, _∙_, subst}
 use mathlib.Core.Bool.{Bool, true, false}
 use mathlib.Core.List.{List, _++_}
@@ -15,7 +14,7 @@ use Rattle.sound.specs.Sound.{LabelOk}
 use Rattle.tracks.specs.Map.{Shows}
 use Rattle.fields.specs.Records.{Bytes, slotBytes}
 use Rattle.fields.proofs.Slots.{chop-slot, length-part}
-use Rattle.label_check.specs.Label.{formOf, shapeOf, usedOk}
+use Rattle.label_check.specs.Label.{formOf, shapeOf, soundLabel, unsound, usedOk}
 use Rattle.label_check.specs.Marks.{AtLabel, Took, TookLabel, TookSlots, TookTested, labelAt, units}
 use Rattle.label_check.proofs.Shape.{Shaped, formIf, shape-bad, shape-good}
 use Rattle.label_check.proofs.Meaning.{form-bad, form-good, label-slot, slot3-is}
@@ -33,10 +32,10 @@ module _ (g : Geometry) (t : List ℕ) (k : ℕ) (a : AtLabel g t k) (bytes : By
   abbrev Good-with : ℕ → Type 0
   Good-with q = LabelOk g rs l × (l .slot3 ≡ q) × (q < slots g)
 
-  pub good-form : (q : ℕ) → formOf g t k ≡ Good q → Good-with q
+  pub good-form : (q : ℕ) → formOf g t k ≡ soundLabel q → Good-with q
   good-form q e = form-good g (a .limits) t bytes (a .long) k (a .low) (a .high) (a .id) q e
 
-  bad-form : (m m′ s s′ : List ℕ) → length m′ ≡ length m → length s′ ≡ length s → formOf g t k ≡ Bad → TookLabel g t k m m′ s s′ false
+  bad-form : (m m′ s s′ : List ℕ) → length m′ ≡ length m → length s′ ≡ length s → formOf g t k ≡ unsound → TookLabel g t k m m′ s s′ false
   bad-form m m′ s s′ lm ls e =
       record {
         longMap = lm;
@@ -50,10 +49,10 @@ module _ (g : Geometry) (t : List ℕ) (k : ℕ) (a : AtLabel g t k) (bytes : By
   pub slot-long : (j : ℕ) → j < slots g → length (slotBytes t j) ≡ 140
   slot-long j u = length-part (140 * j) 140 t (let m = mul-le-mul-left 140 u in omega (arith, a .long))
 
-  pub label-bad : (m s : List ℕ) → shapeOf g t k ≡ Bad → TookLabel g t k m m s s false
+  pub label-bad : (m s : List ℕ) → shapeOf g t k ≡ unsound → TookLabel g t k m m s s false
   label-bad m s e = bad-form m m s s refl refl (shape-bad g (a .limits) t slot-long k (a .high) e)
 
-  pub shaped : (q : ℕ) → shapeOf g t k ≡ Good q → Shaped g (a .limits) t slot-long k (a .high) q
+  pub shaped : (q : ℕ) → shapeOf g t k ≡ soundLabel q → Shaped g (a .limits) t slot-long k (a .high) q
   shaped q e = shape-good g (a .limits) t slot-long k (a .high) q e
 
   module _ (q : ℕ) (ok : Good-with q) where
@@ -92,7 +91,7 @@ module _ (g : Geometry) (t : List ℕ) (k : ℕ) (a : AtLabel g t k) (bytes : By
 
   -- ---- the shape is good: the extents in use decide
 
-  module _ (q : ℕ) (e : shapeOf g t k ≡ Good q) where
+  module _ (q : ℕ) (e : shapeOf g t k ≡ soundLabel q) where
     abbrev used : Bool
     used = usedOk g f1 (slotBytes t q) (getD f1 59 0)
 

@@ -1,15 +1,12 @@
 -- How the test of extents goes on from one to the next. Assumes nothing.
 use mathlib.Core.Path.{_≡_, _∙_, sym, subst, refl, ap, ap₂}
-use mathlib.Core.Bool.{true, false, _&&_, Bool, cond}
+use mathlib.Core.Bool.{true, false, _&&_, Bool}
 use mathlib.Core.List.{List, _++_}
 use Prim.Native.Nat.{ℕ, suc, _+_, _-_, _*_, _≤_, _<_, zero}
 use native.Mathlib.Nat.{add-zero, zero-add}
 use native.Mathlib.Omega.{arith}
-use Rattle.label_check.specs.declared.Form.{Form}
-use Rattle.label_check.specs.declared.Form.the-variants.{Bad, Good}
 use native.Mathlib.Numerals.{add-one}
 use borrow.Author.Tests.{lt-leb, le-leb}
-use lib.Dec.{leb}
 use lib.ListN.{getD, take, drop, length, length-drop, take-append-drop}
 use lib.Seq.{drop-drop, take-add, take-all}
 use Rattle.model.specs.Basics.{part}
@@ -21,7 +18,7 @@ use Rattle.fields.specs.Tests.{allAre}
 use Rattle.fields.proofs.Rows.{and-assoc, and-true, are-append, from-place}
 use Rattle.fields.proofs.Tens.{in-format1, in-format3, in-rest3}
 use Rattle.forms.specs.Forms.{extentOk, oneOk, threeOk}
-use Rattle.label_check.specs.Label.{extentsOk, fewShape, goodIf, goodThird, namedThird, orZero, refusalOf, shapeOf, thirdShape, unsoundAt, unusedOk}
+use Rattle.label_check.specs.Label.{Answer, extentsOk, fewShape, goodIf, goodThird, namedThird, orZero, shapeOf, soundLabel, thirdShape, unsound, unusedOk}
 
 module _ (h t : ℕ) (f1 f3 : List ℕ) (n e m : ℕ) (u : e < m) where
   step : extentsOk h t f1 f3 n e (m - e) ≡ (extentOk h t n e (extentPart f1 f3 e) && extentsOk h t f1 f3 n (e + 1) (m - (e + 1)))
@@ -146,7 +143,7 @@ module _ (g : Geometry) (t f1 : List ℕ) (n q : ℕ) (e : q ≡ namedThird g f1
         rw (x′, y′) (ap (orZero b) e)
 
 module _ (g : Geometry) (t : List ℕ) (k : ℕ) (f1 : List ℕ) (at : f1 ≡ slotBytes t k) where
-  pub form-wrong : oneOk f1 ≡ false → Bad ≡ shapeOf g t k
+  pub form-wrong : oneOk f1 ≡ false → unsound ≡ shapeOf g t k
   unfolding shapeOf
   form-wrong b = let y : oneOk (slotBytes t k) ≡ false = subst (λ (x : List ℕ). oneOk x ≡ false) at b in rw y
 
@@ -169,21 +166,14 @@ module _ (g : Geometry) (t : List ℕ) (k : ℕ) (f1 : List ℕ) (at : f1 ≡ sl
         let y′ : thirdShape g t (slotBytes t k) n ≡ q = sym (y ∙ ap (λ (x : List ℕ). thirdShape g t x n) at) in
         rw (one′, count′, lt-leb n 3 u, y′)
 
-pub third-positive : (q : ℕ) → (q ≡ 0 → ⊥) → Good q ≡ goodThird q
+pub third-positive : (q : ℕ) → (q ≡ 0 → ⊥) → soundLabel q ≡ goodThird q
 third-positive zero n = absurd (n refl)
 third-positive (suc q) n = refl
 
--- the number of what the label turns out to be
-number-of : (a b c : Bool) (q : ℕ) → refusalOf (cond a (cond b (goodIf c) (goodThird q)) Bad) ≡ cond (a && cond b c (leb 1 q)) 0 3
-number-of true true true q = refl
-number-of true true false q = refl
-number-of true false c zero = refl
-number-of true false c (suc q) = rw (le-leb 1 (suc q) (omega arith))
-number-of false b c q = refl
+-- ---- the answers differ by their numbers, and sound labels by their format 3s
 
-pub numbered : (g : Geometry) (t : List ℕ) (k : ℕ) (f : Form) → f ≡ shapeOf g t k → (f ≡ shapeOf g t k) × (refusalOf f ≡ unsoundAt g t k)
-unfolding shapeOf unsoundAt
-numbered g t k f e =
-    let f1 = slotBytes t k in
-    let n = getD f1 59 0 in
-    (e, ap refusalOf e ∙ number-of (oneOk f1) (leb n 3) (fewShape f1 n) (thirdShape g t f1 n))
+pub not-sound : {A : Type 0} {q : ℕ} → unsound ≡ soundLabel q → A
+not-sound e = absurd (let z : _≡_ {A = ℕ} 3 0 = ap (λ (x : Answer). x .number) e in omega arith)
+
+pub same-third : {p q : ℕ} → soundLabel p ≡ soundLabel q → p ≡ q
+same-third e = ap (λ (x : Answer). x .third) e

@@ -1,5 +1,4 @@
 -- A label that passes the tests is as `LabelOk` says, and one that is so passes. Assumes nothing.
-use Rattle.label_check.specs.declared.Form.the-variants.{Bad, Good}
 use mathlib.Core.Path.{_≡_, refl, sym, ap, _∙_, subst}
 use mathlib.Core.List.{List, []}
 use Prim.Native.Nat.{ℕ, zero, suc, _+_, _*_, _≤_, _<_}
@@ -30,8 +29,8 @@ use Rattle.forms.proofs.Blocks.{tenFor}
 use Rattle.forms.proofs.Cutting.{bytes-part}
 use Rattle.forms.proofs.Sound.{OneOk, ThreeOk, one→, three→, →one, →three}
 use Rattle.forms.proofs.Written.{all-good, count-back, extent-passes, good-label, link1-back, one-back, stand1-back, stand3-back, stands, three-back, written1, written3}
-use Rattle.label_check.specs.Label.{extentsOk, fewOk, formOf, goodIf, goodThird, namedThird, orZero, thirdOf}
-use Rattle.label_check.proofs.Laws.{third-positive}
+use Rattle.label_check.specs.Label.{extentsOk, fewOk, formOf, goodIf, goodThird, namedThird, orZero, soundLabel, thirdOf, unsound}
+use Rattle.label_check.proofs.Laws.{not-sound, same-third, third-positive}
 
 -- ---- rows of tests
 
@@ -197,15 +196,15 @@ module _ (g : Geometry) (limit : Limits g) (t : List ℕ) (bytes : Bytes t) (len
         let each : (e : ℕ) → e < 16 → T (extentOk (g .heads) (tracks g) n e (extentPart f1 (slotBytes t q) e)) = λ e v. tests→ (g .heads) (tracks g) f1 (slotBytes t q) n 0 16 x e (omega arith) (omega arith) in
         (good-from q th one (λ e v. each e (omega arith)) (λ v. (pos, three, each)) (λ v. absurd (omega arith)), slot3-is ∙ th .read, th .inside)
 
-    if-good : (b : Bool) (q : ℕ) → goodIf b ≡ Good q → T b × (q ≡ 0)
-    if-good true q e = (tt, let z : 0 ≡ q = cc in sym z)
-    if-good false q e = absurd (let z : _≡_ {A = ℕ} 0 1 = cc in omega arith)
+    if-good : (b : Bool) (q : ℕ) → goodIf b ≡ soundLabel q → T b × (q ≡ 0)
+    if-good true q e = (tt, sym (same-third e))
+    if-good false q e = not-sound e
 
-    third-good : (p q : ℕ) → goodThird p ≡ Good q → (p ≡ q) × (1 ≤ q)
-    third-good zero q e = absurd (let z : _≡_ {A = ℕ} 0 1 = cc in omega arith)
-    third-good (suc p) q e = let z : suc p ≡ q = cc in (z, omega arith)
+    third-good : (p q : ℕ) → goodThird p ≡ soundLabel q → (p ≡ q) × (1 ≤ q)
+    third-good zero q e = not-sound e
+    third-good (suc p) q e = let z : suc p ≡ q = same-third e in (z, omega arith)
 
-    pub form-good : (q : ℕ) → formOf g t k ≡ Good q → Passed q
+    pub form-good : (q : ℕ) → formOf g t k ≡ soundLabel q → Passed q
     unfolding formOf
     form-good q e =
         by (oneOk f1)
@@ -217,7 +216,7 @@ module _ (g : Geometry) (limit : Limits g) (t : List ℕ) (bytes : Bytes t) (len
         (λ b.
         let x = third-good (thirdOf g t f1 n) q (rw (a, b) at e) in
         many-passed (true-is a) (leb-false _ _ b) q (x .1) (x .0)))
-        (λ a. absurd (let y : Bad ≡ Good q = rw a at e in let z : _≡_ {A = ℕ} 0 1 = cc in omega arith))
+        (λ a. let y : unsound ≡ soundLabel q = rw a at e in not-sound y)
 
     -- ---- good, so passed
 
@@ -280,20 +279,18 @@ module _ (g : Geometry) (limit : Limits g) (t : List ℕ) (bytes : Bytes t) (len
                 | no v ↦ stand1-back g l (ok .good) (format3 g l) (length-3 g l) e (omega arith) (lt-of-not-le v)
               ]
 
-    pub form-bad : formOf g t k ≡ Bad → LabelOk g rs l → ⊥
+    pub form-bad : formOf g t k ≡ unsound → LabelOk g rs l → ⊥
     unfolding formOf
     form-bad e ok =
         let a : oneOk f1 ≡ true = is-true (one-passes ok) in
         by (leb n 3)
         (λ b.
         let c : fewOk (g .heads) (tracks g) f1 n ≡ true = is-true (few-passes ok (leb-true _ _ b)) in
-        let y : Good 0 ≡ Bad = rw (a, b, c) at e in
-        let z : _≡_ {A = ℕ} 0 1 = cc in
-        omega arith)
+        let y : soundLabel 0 ≡ unsound = rw (a, b, c) at e in
+        not-sound (sym y))
         (λ b.
         let m = many-passes ok (leb-false _ _ b) in
-        let y : goodThird (l .slot3) ≡ Bad = rw (a, b, m .0) at e in
-        let q : Good (l .slot3) ≡ goodThird (l .slot3) = third-positive (l .slot3) (λ w. omega (arith, m .1)) in
-        let p : Good (l .slot3) ≡ Bad = q ∙ y in
-        let z : _≡_ {A = ℕ} 0 1 = cc in
-        omega arith)
+        let y : goodThird (l .slot3) ≡ unsound = rw (a, b, m .0) at e in
+        let q : soundLabel (l .slot3) ≡ goodThird (l .slot3) = third-positive (l .slot3) (λ w. omega (arith, m .1)) in
+        let p : soundLabel (l .slot3) ≡ unsound = q ∙ y in
+        not-sound (sym p))

@@ -1,6 +1,4 @@
 -- The tests of a label in two parts: its shape, and the extents in use. Assumes nothing.
-use Rattle.label_check.specs.declared.Form.{Form}
-use Rattle.label_check.specs.declared.Form.the-variants.{Bad, Good}
 use mathlib.Core.Path.{_≡_, refl, sym, ap, ap₂, _∙_, subst}
 use mathlib.Core.Bool.{Bool, true, false, _&&_}
 use mathlib.Core.List.{List}
@@ -21,7 +19,8 @@ use Rattle.fields.proofs.Links.{slot-below}
 use Rattle.fields.proofs.Rows.{and-assoc}
 use Rattle.fields.proofs.Tens.{in-format1}
 use Rattle.forms.specs.Forms.{extentOk, oneOk, threeOk}
-use Rattle.label_check.specs.Label.{extentsOk, fewOk, fewShape, formOf, goodIf, goodThird, namedThird, orZero, shapeOf, thirdOf, thirdShape, unusedOk, usedOk}
+use Rattle.label_check.specs.Label.{Answer, extentsOk, fewOk, fewShape, formOf, goodIf, goodThird, namedThird, orZero, shapeOf, soundLabel, thirdOf, thirdShape, unsound, unusedOk, usedOk}
+use Rattle.label_check.proofs.Laws.{not-sound, same-third}
 
 module _ (h t : ℕ) (f1 f3 : List ℕ) (n : ℕ) where
   abbrev X : ℕ → ℕ → Bool
@@ -57,43 +56,40 @@ same-used h t f1 a b n e (suc k) l m o u =
 
 -- ---- the answers, by their tests
 
-abbrev pub formIf : Bool → ℕ → Form
-formIf true q = Good q
-formIf false q = Bad
+abbrev pub formIf : Bool → ℕ → Answer
+formIf true q = soundLabel q
+formIf false q = unsound
 
-few-bad : (a x u : Bool) → goodIf (a && u) ≡ Bad → goodIf (a && (x && u)) ≡ Bad
+few-bad : (a x u : Bool) → goodIf (a && u) ≡ unsound → goodIf (a && (x && u)) ≡ unsound
 few-bad true true u e = e
 few-bad true false u e = refl
 few-bad false x u e = refl
 
-few-good : (a x u : Bool) (q : ℕ) → goodIf (a && u) ≡ Good q → goodIf (a && (x && u)) ≡ formIf x q
+few-good : (a x u : Bool) (q : ℕ) → goodIf (a && u) ≡ soundLabel q → goodIf (a && (x && u)) ≡ formIf x q
 few-good true true u q e = e
 few-good true false u q e = refl
 few-good false true u q e = e
 few-good false false u q e = refl
 
-third-bad : (a x u : Bool) (p : ℕ) → goodThird (orZero (a && u) p) ≡ Bad → goodThird (orZero (a && (x && u)) p) ≡ Bad
+third-bad : (a x u : Bool) (p : ℕ) → goodThird (orZero (a && u) p) ≡ unsound → goodThird (orZero (a && (x && u)) p) ≡ unsound
 third-bad true true u p e = e
 third-bad true false u p e = refl
 third-bad false x u p e = refl
 
-third-good : (a x u : Bool) (p q : ℕ) → goodThird (orZero (a && u) p) ≡ Good q → goodThird (orZero (a && (x && u)) p) ≡ formIf x q
+third-good : (a x u : Bool) (p q : ℕ) → goodThird (orZero (a && u) p) ≡ soundLabel q → goodThird (orZero (a && (x && u)) p) ≡ formIf x q
 third-good true true u p q e = e
 third-good true false u p q e = refl
 third-good false true u p q e = e
 third-good false false u p q e = refl
 
-not-good : {A : Type 0} (q : ℕ) → Bad ≡ Good q → A
-not-good q e = absurd (let z : _≡_ {A = ℕ} 0 1 = cc in omega arith)
+few-slot : (b : Bool) (q : ℕ) → goodIf b ≡ soundLabel q → 0 ≡ q
+few-slot true q e = same-third e
+few-slot false q e = not-sound e
 
-few-slot : (b : Bool) (q : ℕ) → goodIf b ≡ Good q → 0 ≡ q
-few-slot true q e = cc
-few-slot false q e = not-good q e
-
-third-slot : (b : Bool) (p q : ℕ) → goodThird (orZero b p) ≡ Good q → p ≡ q
-third-slot true zero q e = not-good q e
-third-slot true (suc p) q e = cc
-third-slot false p q e = not-good q e
+third-slot : (b : Bool) (p q : ℕ) → goodThird (orZero b p) ≡ soundLabel q → p ≡ q
+third-slot true zero q e = not-sound e
+third-slot true (suc p) q e = same-third e
+third-slot false p q e = not-sound e
 
 -- ---- a label
 
@@ -119,7 +115,7 @@ module _ (g : Geometry) (limit : Limits g) (t : List ℕ) (long : (j : ℕ) → 
   unfolding thirdOf
   third-parts u = ap (λ (b : Bool). orZero (threeOk (slotBytes t (namedThird g f1)) && b) (namedThird g f1)) (parts-are (g .heads) (tracks g) f1 (slotBytes t (namedThird g f1)) n 16 u)
 
-  pub shape-bad : shapeOf g t k ≡ Bad → formOf g t k ≡ Bad
+  pub shape-bad : shapeOf g t k ≡ unsound → formOf g t k ≡ unsound
   unfolding shapeOf formOf fewShape thirdShape
   shape-bad e =
       by (oneOk f1)
@@ -137,7 +133,7 @@ module _ (g : Geometry) (limit : Limits g) (t : List ℕ) (long : (j : ℕ) → 
     pub few : n ≤ 16
     pub form : formOf g t k ≡ formIf (usedOk g f1 (slotBytes t q) n) q
 
-  pub shape-good : (q : ℕ) → shapeOf g t k ≡ Good q → Shaped q
+  pub shape-good : (q : ℕ) → shapeOf g t k ≡ soundLabel q → Shaped q
   unfolding shapeOf formOf fewShape thirdShape
   shape-good q e =
       by (oneOk f1)
@@ -170,4 +166,4 @@ module _ (g : Geometry) (limit : Limits g) (t : List ℕ) (long : (j : ℕ) → 
             ∙ third-good (threeOk (slotBytes t p)) (usedOk g f1 (slotBytes t p) n) (unusedOk f1 (slotBytes t p) n (16 - n)) p q f
             ∙ ap (λ (i : ℕ). formIf (usedOk g f1 (slotBytes t i) n) q) z);
       }))
-      (λ a. not-good q (rw a at e))
+      (λ a. not-sound (rw a at e))

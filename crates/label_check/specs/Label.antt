@@ -36,20 +36,36 @@ thirdOf g t f1 n =
     let q : ℕ = namedThird g f1 in
     orZero (threeOk (slotBytes t q) && extentsOk (g .heads) (tracks g) f1 (slotBytes t q) n 0 16) q
 
-abbrev pub goodIf : Bool → Form
-goodIf true = Good 0
-goodIf false = Bad
+-- what is said of a label: document 01's number, and where that is 0 the slot of its format 3, 0 for none
+pub record Answer : Type 0 where
+  pub number : ℕ
+  pub third : ℕ
 
-abbrev pub goodThird : ℕ → Form
-goodThird zero = Bad
-goodThird (suc q) = Good (suc q)
+abbrev pub soundLabel : ℕ → Answer
+soundLabel q = record { number = 0; third = q }
+
+-- "3 | VTOC unsound"
+abbrev pub unsound : Answer
+unsound = record { number = 3; third = 0 }
+
+abbrev pub answerOf : Form → Answer
+answerOf (Good q) = soundLabel q
+answerOf Bad = unsound
+
+abbrev pub goodIf : Bool → Answer
+goodIf true = soundLabel 0
+goodIf false = unsound
+
+abbrev pub goodThird : ℕ → Answer
+goodThird zero = unsound
+goodThird (suc q) = soundLabel (suc q)
 
 -- the label in slot k
-unfoldable pub formOf : Geometry → List ℕ → ℕ → Form
+unfoldable pub formOf : Geometry → List ℕ → ℕ → Answer
 formOf g t k =
     let f1 : List ℕ = slotBytes t k in
     let n : ℕ = getD f1 59 0 in
-    cond (oneOk f1) (cond (leb n 3) (goodIf (fewOk (g .heads) (tracks g) f1 n)) (goodThird (thirdOf g t f1 n))) Bad
+    cond (oneOk f1) (cond (leb n 3) (goodIf (fewOk (g .heads) (tracks g) f1 n)) (goodThird (thirdOf g t f1 n))) unsound
 
 -- ---- the same but for the extents in use, which are tested where they are taken
 
@@ -66,23 +82,11 @@ thirdShape g t f1 n =
     let q : ℕ = namedThird g f1 in
     orZero (threeOk (slotBytes t q) && unusedOk f1 (slotBytes t q) n (16 - n)) q
 
-unfoldable pub shapeOf : Geometry → List ℕ → ℕ → Form
+unfoldable pub shapeOf : Geometry → List ℕ → ℕ → Answer
 shapeOf g t k =
     let f1 : List ℕ = slotBytes t k in
     let n : ℕ = getD f1 59 0 in
-    cond (oneOk f1) (cond (leb n 3) (goodIf (fewShape f1 n)) (goodThird (thirdShape g t f1 n))) Bad
-
--- the number in document 01 of a table with such a label: 0, or refusal 3, VTOC unsound
-abbrev pub refusalOf : Form → ℕ
-refusalOf (Good q) = 0
-refusalOf Bad = 3
-
--- 3 where a test of the label in slot k fails
-unfoldable pub unsoundAt : Geometry → List ℕ → ℕ → ℕ
-unsoundAt g t k =
-    let f1 : List ℕ = slotBytes t k in
-    let n : ℕ = getD f1 59 0 in
-    cond (oneOk f1 && cond (leb n 3) (fewShape f1 n) (leb 1 (thirdShape g t f1 n))) 0 3
+    cond (oneOk f1) (cond (leb n 3) (goodIf (fewShape f1 n)) (goodThird (thirdShape g t f1 n))) unsound
 
 -- the extents in use are good
 abbrev pub usedOk : Geometry → List ℕ → List ℕ → ℕ → Bool

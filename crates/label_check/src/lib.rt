@@ -8,7 +8,7 @@ ghost use lib.ListN.{length};
 ghost use Rattle.model.specs.Model.{slots, tracks};
 ghost use Rattle.rules.proofs.Valid.{Limits};
 ghost use Rattle.forms.specs.Forms.{geometryOf};
-ghost use Rattle.label_check.specs.Label.{fewShape, refusalOf, shapeOf, thirdShape, unsoundAt, unusedOk};
+ghost use Rattle.label_check.specs.Label.{answerOf, fewShape, shapeOf, thirdShape, unusedOk};
 ghost use Rattle.label_check.specs.Marks.{AtLabel, TookLabel, TookSlots, TookTen, TookTested};
 
 // What the label in a slot turns out to be: good, with the slot of its format 3, 0 for none; or bad, refusal 3.
@@ -66,7 +66,7 @@ fn third_of<'a>(table: &'a [u8], f1: &'a [u8], n: usize, g: Geometry) -> usize
 // What the label in slot k is, but for the extents in use; that the slot has a format 1 is known.
 fn shape_of(table: &[u8], k: usize, g: Geometry) -> Form
     requires { ⌜ (k < slots (geometryOf g)) × Limits (geometryOf g) × (140 * slots (geometryOf g) ≤ length (now table)) ⌝ }
-    ensures { λ r. ⌜ (r ≡ shapeOf (geometryOf g) (now (table .entry)) k) × (refusalOf r ≡ unsoundAt (geometryOf g) (now (table .entry)) k) ⌝ }
+    ensures { λ r. ⌜ answerOf r ≡ shapeOf (geometryOf g) (now (table .entry)) k ⌝ }
 {
     let f1 = fields::record_at(table, k);
     if forms::one_ok(f1) {} else {

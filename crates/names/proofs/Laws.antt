@@ -23,7 +23,7 @@ use Rattle.tracks.proofs.Walk.{is-free}
 use Rattle.fields.specs.Records.{slotBytes}
 use Rattle.fields.specs.Tests.{word8}
 use Rattle.fields.proofs.Rows.{and-false, and-true}
-use Rattle.names.specs.Find.{Entered, Seen, Tagged, distinct, distinctFrom, findSlot, firstNamed, hasTag, isLabel, isNamed, isNothing, keyed, mixed, nameOf, newAt, notFound, refusalOf, tagOf}
+use Rattle.names.specs.Find.{Answer, Entered, Seen, Tagged, answerOf, distinct, distinctFrom, findSlot, firstNamed, hasTag, isLabel, isNamed, inSlot, isNothing, keyed, mixed, nameOf, newAt, notFound, tagOf}
 
 -- ---- a record: its name first
 
@@ -38,29 +38,22 @@ its-name r name e = rw (e, and-true)
 -- ---- the search
 
 module _ (t name : List ℕ) (k n : ℕ) (h : k < n) where
-  step : firstNamed t name k (n - k) ≡ cond (isNamed (slotBytes t k) name) (Slot k) (firstNamed t name (k + 1) (n - (k + 1)))
+  step : firstNamed t name k (n - k) ≡ cond (isNamed (slotBytes t k) name) (inSlot k) (firstNamed t name (k + 1) (n - (k + 1)))
   unfolding firstNamed
   step = let e : n - k ≡ suc (n - suc k) = omega arith in rw (e, add-one)
 
-  pub hit : isNamed (slotBytes t k) name ≡ true → firstNamed t name k (n - k) ≡ Slot k
+  pub hit : isNamed (slotBytes t k) name ≡ true → firstNamed t name k (n - k) ≡ inSlot k
   hit e = rw (step, e)
 
   pub miss : isNamed (slotBytes t k) name ≡ false → firstNamed t name k (n - k) ≡ firstNamed t name (k + 1) (n - (k + 1))
   miss e = rw (step, e)
 
--- the number of what is found
-number-from : (t name : List ℕ) (k n : ℕ) → refusalOf (firstNamed t name k n) ≡ notFound t name k n
-unfolding firstNamed notFound
-number-from t name k zero = refl
-number-from t name k (suc n) = by (isNamed (slotBytes t k) name) (λ h. rw h) (λ h. rw h (number-from t name (suc k) n))
-
-pub numbered : (t name : List ℕ) (n : ℕ) (f : Found) → f ≡ findSlot t name n → (f ≡ findSlot t name n) × (refusalOf f ≡ notFound t name 0 n)
-unfolding findSlot
-numbered t name n f e = (e, ap refusalOf e ∙ number-from t name 0 n)
-
-pub done : (t name : List ℕ) (k n : ℕ) → n ≤ k → firstNamed t name k (n - k) ≡ Nothing
+pub done : (t name : List ℕ) (k n : ℕ) → n ≤ k → firstNamed t name k (n - k) ≡ notFound
 unfolding firstNamed
 done t name k n h = let e : n - k ≡ 0 = omega arith in rw e
+
+none-there : {k : ℕ} → notFound ≡ inSlot k → ⊥
+none-there e = let z : _≡_ {A = ℕ} 5 0 = ap (λ (x : Answer). x .number) e in omega arith
 
 -- a search that ends at slot k: it has the name, and no slot before it has
 pub record FirstAt (t name : List ℕ) (from n k : ℕ) : Type 0 where
@@ -69,14 +62,14 @@ pub record FirstAt (t name : List ℕ) (from n k : ℕ) : Type 0 where
   pub here : isNamed (slotBytes t k) name ≡ true
   pub before : (j : ℕ) → from ≤ j → j < k → isNamed (slotBytes t j) name ≡ false
 
-pub first-at : (t name : List ℕ) (from n k : ℕ) → firstNamed t name from n ≡ Slot k → FirstAt t name from n k
+pub first-at : (t name : List ℕ) (from n k : ℕ) → firstNamed t name from n ≡ inSlot k → FirstAt t name from n k
 unfolding firstNamed
-first-at t name from zero k e = let z : _≡_ {A = ℕ} 0 1 = cc in absurd (omega arith)
+first-at t name from zero k e = absurd (none-there e)
 first-at t name from (suc n) k e =
     by (isNamed (slotBytes t from) name)
     (λ p.
-    let s : Slot from ≡ Slot k = rw p at e in
-    let q : from ≡ k = cc in
+    let s : inSlot from ≡ inSlot k = rw p at e in
+    let q : from ≡ k = ap (λ (x : Answer). x .slot) s in
     record { low = omega arith; high = omega arith; here = rw (← q) p; before = λ j u w. absurd (omega arith) })
     (λ p.
     let r = first-at t name (suc from) n k (rw p at e) in
@@ -87,26 +80,36 @@ first-at t name from (suc n) k e =
       before = λ j u w. elim (decLe (suc from) j) [ yes x ↦ r .before j x w | no x ↦ (let y : j ≡ from = let z = lt-of-not-le x in omega arith in rw y p) ];
     })
 
-pub found-at : (t name : List ℕ) (n k : ℕ) → findSlot t name n ≡ Slot k → FirstAt t name 0 n k
+pub found-at : (t name : List ℕ) (n k : ℕ) → findSlot t name n ≡ inSlot k → FirstAt t name 0 n k
 unfolding findSlot
 found-at t name n k e = first-at t name 0 n k e
 
 -- a search that finds nothing
-pub none-named : (t name : List ℕ) (from n : ℕ) → firstNamed t name from n ≡ Nothing → (j : ℕ) → from ≤ j → j < from + n → isNamed (slotBytes t j) name ≡ false
+pub none-named : (t name : List ℕ) (from n : ℕ) → firstNamed t name from n ≡ notFound → (j : ℕ) → from ≤ j → j < from + n → isNamed (slotBytes t j) name ≡ false
 unfolding firstNamed
 none-named t name from zero e j u w = absurd (omega arith)
 none-named t name from (suc n) e j u w =
     by (isNamed (slotBytes t from) name)
-    (λ p. absurd (let s : Slot from ≡ Nothing = rw p at e in let z : _≡_ {A = ℕ} 0 1 = cc in omega arith))
+    (λ p. absurd (let s : inSlot from ≡ notFound = rw p at e in none-there (sym s)))
     (λ p.
     elim (decLe (suc from) j) [
       | yes x ↦ none-named t name (suc from) n (rw p at e) j x (omega arith)
       | no x ↦ let y : j ≡ from = let z = lt-of-not-le x in omega arith in rw y p
     ])
 
-pub nothing-at : (t name : List ℕ) (n : ℕ) → findSlot t name n ≡ Nothing → (j : ℕ) → j < n → isNamed (slotBytes t j) name ≡ false
+pub nothing-at : (t name : List ℕ) (n : ℕ) → findSlot t name n ≡ notFound → (j : ℕ) → j < n → isNamed (slotBytes t j) name ≡ false
 unfolding findSlot
 nothing-at t name n e j u = none-named t name 0 n e j (omega arith) (omega arith)
+
+-- one of the two
+some-answer : (t name : List ℕ) (k n : ℕ) → (f : Found) × (answerOf f ≡ firstNamed t name k n)
+unfolding firstNamed
+some-answer t name k zero = (Nothing, refl)
+some-answer t name k (suc n) = by (isNamed (slotBytes t k) name) (λ p. (Slot k, rw p)) (λ p. let i = some-answer t name (suc k) n in (i .0, rw p (i .1)))
+
+pub answered : (t name : List ℕ) (n : ℕ) → (f : Found) × (answerOf f ≡ findSlot t name n)
+unfolding findSlot
+answered t name n = some-answer t name 0 n
 
 -- ---- names that differ
 
@@ -139,13 +142,13 @@ named-label r name e =
     let x = true-is e in (is-true (and-l (isLabel r) (same (nameOf r) name) x), same→eq (nameOf r) name (and-r (isLabel r) (same (nameOf r) name) x))
 
 -- no such tag before slot k, so no such name
-pub no-tag : (t tags : List ℕ) (k : ℕ) → length tags ≡ k → Tagged t k tags → (name : List ℕ) → hasTag tags (tagOf name) ≡ false → findSlot t name k ≡ Nothing
-no-tag t tags k l g name e = go (findSlot t name k) refl
+pub no-tag : (t tags : List ℕ) (k : ℕ) → length tags ≡ k → Tagged t k tags → (name : List ℕ) → hasTag tags (tagOf name) ≡ false → findSlot t name k ≡ notFound
+no-tag t tags k l g name e = go (answered t name k .0) (answered t name k .1)
   where
-    go : (f : Found) → findSlot t name k ≡ f → f ≡ Nothing
-    go Nothing q = refl
+    go : (f : Found) → answerOf f ≡ findSlot t name k → findSlot t name k ≡ notFound
+    go Nothing q = sym q
     go (Slot j) q =
-        let a = found-at t name k j q in
+        let a = found-at t name k j (sym q) in
         let b = named-label (slotBytes t j) name (a .here) in
         let u = a .high in
         let c : getD tags j 0 ≡ tagOf name = g j (omega arith) (b .0) ∙ ap tagOf (b .1) in
@@ -231,13 +234,13 @@ tag-first t tags k g j u e = getD-take k tags j 0 u ∙ g j u e
 -- ---- marks
 
 -- no mark for such a tag, so no such name before slot k
-pub no-mark : (t seen : List ℕ) (k x : ℕ) → Seen t k seen → (name : List ℕ) → x ≡ tagOf name → isFree seen (x % 4096) ≡ false → findSlot t name k ≡ Nothing
-no-mark t seen k x g name q e = go (findSlot t name k) refl
+pub no-mark : (t seen : List ℕ) (k x : ℕ) → Seen t k seen → (name : List ℕ) → x ≡ tagOf name → isFree seen (x % 4096) ≡ false → findSlot t name k ≡ notFound
+no-mark t seen k x g name q e = go (answered t name k .0) (answered t name k .1)
   where
-    go : (f : Found) → findSlot t name k ≡ f → f ≡ Nothing
-    go Nothing p = refl
+    go : (f : Found) → answerOf f ≡ findSlot t name k → findSlot t name k ≡ notFound
+    go Nothing p = sym p
     go (Slot j) p =
-        let a = found-at t name k j p in
+        let a = found-at t name k j (sym p) in
         let b = named-label (slotBytes t j) name (a .here) in
         let u = a .high in
         let r : tagOf (nameOf (slotBytes t j)) ≡ x = ap tagOf (b .1) ∙ sym q in

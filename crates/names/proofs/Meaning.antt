@@ -16,8 +16,8 @@ use Rattle.model.proofs.Lists.{and-l, and-r, by, clash, is-true, true-is}
 use Rattle.rules.specs.Reading.{readLabel, readLabels}
 use Rattle.rules.proofs.Labels.{Differ, Unlike, same-sym}
 use Rattle.fields.specs.Records.{slotBytes}
-use Rattle.names.specs.Find.{distinct, distinctFrom, findSlot, isLabel, isNamed, isNothing, nameOf, newAt}
-use Rattle.names.proofs.Laws.{found-at, label-at, no-label, nothing-at}
+use Rattle.names.specs.Find.{answerOf, distinct, distinctFrom, findSlot, isLabel, isNamed, isNothing, nameOf, newAt}
+use Rattle.names.proofs.Laws.{answered, found-at, label-at, no-label, nothing-at}
 
 -- ---- names by slot
 
@@ -101,23 +101,23 @@ unfolding distinct
 distinct→ t n e j k u w p q =
     let a = new-at t n 0 e k (omega arith) (omega arith) in
     false-named (slotBytes t j) (nameOf (slotBytes t k)) p
-    (go (findSlot t (nameOf (slotBytes t k)) k) refl (sym (label-at t k q) ∙ a))
+    (go (answered t (nameOf (slotBytes t k)) k .0) (answered t (nameOf (slotBytes t k)) k .1) (sym (label-at t k q) ∙ a))
   where
-    go : (f : Found) → findSlot t (nameOf (slotBytes t k)) k ≡ f → isNothing (findSlot t (nameOf (slotBytes t k)) k) ≡ true → isNamed (slotBytes t j) (nameOf (slotBytes t k)) ≡ false
-    go Nothing e n = nothing-at t (nameOf (slotBytes t k)) k e j u
-    go (Slot i) e n = clash n (ap isNothing e)
+    go : (f : Found) → answerOf f ≡ findSlot t (nameOf (slotBytes t k)) k → isNothing (findSlot t (nameOf (slotBytes t k)) k) ≡ true → isNamed (slotBytes t j) (nameOf (slotBytes t k)) ≡ false
+    go Nothing e n = nothing-at t (nameOf (slotBytes t k)) k (sym e) j u
+    go (Slot i) e n = clash n (sym (ap isNothing e))
 
 pub →distinct : (t : List ℕ) (n : ℕ) → Apart (slotBytes t) n → distinct t n ≡ true
 unfolding distinct
 →distinct t n a = at-new t n 0 (λ k u w. new k (omega arith))
   where
-    found : (k : ℕ) → k < n → isLabel (slotBytes t k) ≡ true → (f : Found) → findSlot t (nameOf (slotBytes t k)) k ≡ f → isNothing f ≡ true
-    found k w l Nothing e = refl
+    found : (k : ℕ) → k < n → isLabel (slotBytes t k) ≡ true → (f : Found) → answerOf f ≡ findSlot t (nameOf (slotBytes t k)) k → isNothing (findSlot t (nameOf (slotBytes t k)) k) ≡ true
+    found k w l Nothing e = sym (ap isNothing e)
     found k w l (Slot j) e =
-        let x = found-at t (nameOf (slotBytes t k)) k j e in
+        let x = found-at t (nameOf (slotBytes t k)) k j (sym e) in
         let h = x .high in
         let y = label-named (slotBytes t j) (nameOf (slotBytes t k)) (x .here) in
         clash (x .here) (named-false (slotBytes t j) (nameOf (slotBytes t k)) y (a j k (omega arith) w y l))
 
     new : (k : ℕ) → k < n → newAt t k ≡ true
-    new k w = by (isLabel (slotBytes t k)) (λ l. label-at t k l ∙ found k w l (findSlot t (nameOf (slotBytes t k)) k) refl) (λ l. no-label t k l)
+    new k w = by (isLabel (slotBytes t k)) (λ l. label-at t k l ∙ found k w l (answered t (nameOf (slotBytes t k)) k .0) (answered t (nameOf (slotBytes t k)) k .1)) (λ l. no-label t k l)

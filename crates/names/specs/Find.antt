@@ -1,6 +1,6 @@
 -- The lookup of a name in a table's slots, and that names differ, as the code goes. Assumes nothing.
 use Prim.Native.Nat.{ℕ, zero, suc, _+_, _*_, _/_, _%_, _<_}
-use mathlib.Core.Bool.{Bool, true, false, cond, _&&_}
+use mathlib.Core.Bool.{Bool, true, cond, _&&_}
 use mathlib.Core.List.{List}
 use mathlib.Core.Path.{_≡_}
 use lib.ListN.{getD, length}
@@ -8,7 +8,7 @@ use lib.Bits.{bitXor}
 use lib.Dec.{eqb}
 use Rattle.names.specs.declared.Found.{Found}
 use Rattle.names.specs.declared.Found.the-variants.{Slot, Nothing}
-use Rattle.model.specs.Basics.{any, part, same, upFrom}
+use Rattle.model.specs.Basics.{any, part, same}
 use Rattle.tracks.specs.Map.{freeBit}
 use Rattle.fields.specs.Records.{slotBytes}
 use Rattle.fields.specs.Tests.{word8}
@@ -25,26 +25,33 @@ nameOf r = part 0 44 r
 unfoldable pub isNamed : List ℕ → List ℕ → Bool
 isNamed r name = isLabel r && same (nameOf r) name
 
--- the first of the n slots from k on that has the name
-unfoldable pub firstNamed : List ℕ → List ℕ → ℕ → ℕ → Found
-firstNamed t name k zero = Nothing
-firstNamed t name k (suc n) = cond (isNamed (slotBytes t k) name) (Slot k) (firstNamed t name (suc k) n)
+-- a lookup's answer in document 01: its number, and where that is 0 the slot
+pub record Answer : Type 0 where
+  pub number : ℕ
+  pub slot : ℕ
 
-unfoldable pub findSlot : List ℕ → List ℕ → ℕ → Found
+abbrev pub inSlot : ℕ → Answer
+inSlot k = record { number = 0; slot = k }
+
+-- "5 | not found | name not on the volume"
+abbrev pub notFound : Answer
+notFound = record { number = 5; slot = 0 }
+
+-- "A lookup answers with a slot or with nothing"
+abbrev pub answerOf : Found → Answer
+answerOf (Slot k) = inSlot k
+answerOf Nothing = notFound
+
+-- the first of the n slots from k on that has the name
+unfoldable pub firstNamed : List ℕ → List ℕ → ℕ → ℕ → Answer
+firstNamed t name k zero = notFound
+firstNamed t name k (suc n) = cond (isNamed (slotBytes t k) name) (inSlot k) (firstNamed t name (suc k) n)
+
+unfoldable pub findSlot : List ℕ → List ℕ → ℕ → Answer
 findSlot t name n = firstNamed t name 0 n
 
--- a lookup's number in document 01: 0, or refusal 5, not found
-abbrev pub refusalOf : Found → ℕ
-refusalOf (Slot k) = 0
-refusalOf Nothing = 5
-
--- "5 | not found | name not on the volume": no format 1 in the n slots from k on is under this name
-unfoldable pub notFound : List ℕ → List ℕ → ℕ → ℕ → ℕ
-notFound t name k n = cond (any (λ j. isNamed (slotBytes t j) name) (upFrom k n)) 0 5
-
-abbrev pub isNothing : Found → Bool
-isNothing (Slot k) = false
-isNothing Nothing = true
+abbrev pub isNothing : Answer → Bool
+isNothing a = eqb (a .number) 5
 
 -- slot k holds no label, or one whose name no slot before it has
 unfoldable pub newAt : List ℕ → ℕ → Bool

@@ -3,7 +3,7 @@ use fields::*;
 ghost use mathlib.Core.Path.{_≡_};
 ghost use Prim.Native.Nat.{_+_, _*_, _≤_, _<_};
 ghost use lib.ListN.{length};
-ghost use Rattle.names.specs.Find.{isNamed, findSlot, isNothing, notFound, refusalOf, keyed, mixed, tagOf, hasTag, Tagged, Seen, Entered};
+ghost use Rattle.names.specs.Find.{isNamed, answerOf, findSlot, isNothing, keyed, mixed, tagOf, hasTag, Tagged, Seen, Entered};
 
 // A lookup's answer.
 pub enum Found {
@@ -26,7 +26,7 @@ pub fn is_named(rec: &[u8], name: &[u8]) -> bool
 // The first of the n slots that has a format 1 under this name. Its number is 0, or document 01's 5 where there is none.
 pub fn find(table: &[u8], n: usize, name: &[u8]) -> Found
     requires { ⌜ 140 * n ≤ length (now table) ⌝ }
-    ensures { λ r. ⌜ (r ≡ findSlot (now (table .entry)) (now (name .entry)) n) × (refusalOf r ≡ notFound (now (table .entry)) (now (name .entry)) 0 n) ⌝ }
+    ensures { λ r. ⌜ answerOf r ≡ findSlot (now (table .entry)) (now (name .entry)) n ⌝ }
 {
     let mut k: usize = 0;
     while k < n {

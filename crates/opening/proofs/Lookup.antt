@@ -8,8 +8,6 @@ use native.Mathlib.Nat.{add-zero, zero-add}
 use native.Mathlib.Omega.{arith}
 use lib.Dec.{T}
 use lib.ListN.{getD, length}
-use Rattle.names.specs.declared.Found.{Found}
-use Rattle.names.specs.declared.Found.the-variants.{Nothing, Slot}
 use Rattle.model.specs.Basics.{any, find, keepIf, same}
 use Rattle.model.specs.Model.{Geometry, Label, Volume, slots}
 use Rattle.model.proofs.Lists.{by}
@@ -19,13 +17,13 @@ use Rattle.rules.specs.Table.{named, taken}
 use Rattle.rules.proofs.Valid.{Limits}
 use Rattle.fields.specs.Records.{slotBytes}
 use Rattle.fields.proofs.Slots.{chop-slot, length-chop}
-use Rattle.names.specs.Find.{findSlot, firstNamed, isLabel, isNamed, isNothing, nameOf}
+use Rattle.names.specs.Find.{Answer, findSlot, firstNamed, inSlot, isLabel, isNamed, isNothing, nameOf, notFound}
 use Rattle.opening.specs.Opening.{foundSlot}
 use Rattle.opening.proofs.Laws.{LabelIn, found-label, ready}
 
 module _ (g : Geometry) (R : List (List ℕ)) (name : List ℕ) where
   -- a record that is no label, one that has another name, and one that has this
-  kept : (k : ℕ) (r : List ℕ) (ls : List Label) (a : Bool) → foundSlot (find (named name) (keepIf a (readLabel g R k r) ls)) ≡ cond (a && same (nameOf r) name) (Slot k) (foundSlot (find (named name) ls))
+  kept : (k : ℕ) (r : List ℕ) (ls : List Label) (a : Bool) → foundSlot (find (named name) (keepIf a (readLabel g R k r) ls)) ≡ cond (a && same (nameOf r) name) (inSlot k) (foundSlot (find (named name) ls))
   unfolding readLabel
   kept k r ls true = by (same (nameOf r) name) (λ h. rw h) (λ h. rw h)
   kept k r ls false = refl
@@ -36,7 +34,7 @@ module _ (g : Geometry) (R : List (List ℕ)) (name : List ℕ) where
   first-read t (r ∷ more) k h =
       let e : slotBytes t k ≡ r = sym (h 0 (omega arith) ∙ ap (slotBytes t) (add-zero k)) in
       let i = first-read t more (suc k) (λ i u. h (suc i) (omega arith) ∙ ap (slotBytes t) (let q : k + suc i ≡ suc k + i = omega arith in q)) in
-      ap₂ (λ (x : List ℕ) (f : Found). cond (isNamed x name) (Slot k) f) e i ∙ sym (kept k r (readLabels g R (suc k) more) (isLabel r))
+      ap₂ (λ (x : List ℕ) (f : Answer). cond (isNamed x name) (inSlot k) f) e i ∙ sym (kept k r (readLabels g R (suc k) more) (isLabel r))
 
 records-found : (t : List ℕ) (n : ℕ) → n ≡ length t / 140 → (name : List ℕ) → findSlot t name n ≡ foundSlot (found (read t) name)
 unfolding read readRecords findSlot
@@ -50,19 +48,19 @@ pub lookup : (t : List ℕ) → T (taken t) → (name : List ℕ) → findSlot t
 lookup t x name = let l = ready t x .long in records-found t (slots (read t .geometry)) (let q : slots (read t .geometry) ≡ length t / 140 = omega arith in q) name
 
 -- a slot is that of the data set found, and nothing means that there is none
-pub found-slot : (v : Volume) (name : List ℕ) (k : ℕ) → foundSlot (found v name) ≡ Slot k → (l : Label) × (found v name ≡ some l) × (l .slot ≡ k)
+pub found-slot : (v : Volume) (name : List ℕ) (k : ℕ) → foundSlot (found v name) ≡ inSlot k → (l : Label) × (found v name ≡ some l) × (l .slot ≡ k)
 found-slot v name k e = go (found v name) refl e
   where
-    go : (o : Option Label) → found v name ≡ o → foundSlot o ≡ Slot k → (l : Label) × (found v name ≡ some l) × (l .slot ≡ k)
-    go none p q = absurd (let z : _≡_ {A = ℕ} 0 1 = cc in omega arith)
-    go (some l) p q = (l, p, let z : l .slot ≡ k = cc in z)
+    go : (o : Option Label) → found v name ≡ o → foundSlot o ≡ inSlot k → (l : Label) × (found v name ≡ some l) × (l .slot ≡ k)
+    go none p q = absurd (let z : _≡_ {A = ℕ} 5 0 = ap (λ (x : Answer). x .number) q in omega arith)
+    go (some l) p q = (l, p, ap (λ (x : Answer). x .slot) q)
 
-pub found-none : (v : Volume) (name : List ℕ) → foundSlot (found v name) ≡ Nothing → found v name ≡ none
+pub found-none : (v : Volume) (name : List ℕ) → foundSlot (found v name) ≡ notFound → found v name ≡ none
 found-none v name e = go (found v name) e
   where
-    go : (o : Option Label) → foundSlot o ≡ Nothing → o ≡ none
+    go : (o : Option Label) → foundSlot o ≡ notFound → o ≡ none
     go none q = refl
-    go (some l) q = absurd (let z : _≡_ {A = ℕ} 0 1 = cc in omega arith)
+    go (some l) q = absurd (let z : _≡_ {A = ℕ} 0 5 = ap (λ (x : Answer). x .number) q in omega arith)
 
 -- ---- as a call has it: the geometry read from the table, and the answer of the lookup
 
@@ -86,15 +84,15 @@ module _ (t : List ℕ) (x : T (taken t)) (g : Geometry) (e : g ≡ read t .geom
   pub looked-up : (name : List ℕ) → findSlot t name (slots g) ≡ foundSlot (found (read t) name)
   looked-up name = ap (λ (n : ℕ). findSlot t name n) slots-of ∙ lookup t x name
 
-  pub not-there : (name : List ℕ) → Nothing ≡ findSlot t name (slots g) → found (read t) name ≡ none
+  pub not-there : (name : List ℕ) → notFound ≡ findSlot t name (slots g) → found (read t) name ≡ none
   not-there name n = found-none (read t) name (sym (looked-up name) ∙ sym n)
 
-  pub there : (name : List ℕ) (k : ℕ) → Slot k ≡ findSlot t name (slots g) → FoundAt t (read t) name k
+  pub there : (name : List ℕ) (k : ℕ) → inSlot k ≡ findSlot t name (slots g) → FoundAt t (read t) name k
   there name k n =
       let f = found-slot (read t) name k (sym (looked-up name) ∙ sym n) in
       record { label = f .0; same = f .1; slot = f .2; records = found-label t (read t) (ready t x) name (f .0) (f .1) }
 
-  pub there-inside : (name : List ℕ) (k : ℕ) → Slot k ≡ findSlot t name (slots g) → k < slots g
+  pub there-inside : (name : List ℕ) (k : ℕ) → inSlot k ≡ findSlot t name (slots g) → k < slots g
   there-inside name k n = let y = there name k n in let s = slots-of in let a = y .slot in let b = y .records .inside in omega arith
 
 -- whether a name is on the volume

@@ -8,8 +8,7 @@ use lib.ListN.{length}
 use Rattle.model.specs.Model.{Label}
 use Rattle.rules.specs.Reading.{read}
 use Rattle.rules.specs.Table.{goodLength, tableRefusal}
-use Rattle.names.specs.declared.Found.{Found}
-use Rattle.names.specs.declared.Found.the-variants.{Slot, Nothing}
+use Rattle.names.specs.Find.{Answer, inSlot, notFound}
 use Rattle.table_check.specs.Check.{Shown}
 
 -- the refusals of lengths and of the table, 0 for none; `ok`: the other lent lengths are right
@@ -24,6 +23,6 @@ pub record Opened (t : List ℕ) (ok : Bool) (m m′ s s′ : List ℕ) (r : ℕ
   pub shown : r ≡ 0 → Shown (read t) m′ s′
 
 -- "A lookup answers with a slot or with nothing": the slot of the data set that the rules find
-abbrev pub foundSlot : Option Label → Found
-foundSlot none = Nothing
-foundSlot (some l) = Slot (l .slot)
+abbrev pub foundSlot : Option Label → Answer
+foundSlot none = notFound
+foundSlot (some l) = inSlot (l .slot)

@@ -6,19 +6,19 @@ use mathlib.Core.List.{List, [], _∷_, map}
 use Prim.Native.Nat.{ℕ, _+_, _-_, _≤_}
 use native.Mathlib.Omega.{arith}
 use lib.Dec.{eqb}
-use lib.ListN.{length, set}
+use lib.ListN.{set}
 use Rattle.model.specs.Basics.{all, mapOption, upFrom}
 use Rattle.model.specs.Model.{Geometry, Label, Run, extent, free, held, overs, run, times, tracks}
 use Rattle.model.specs.Choice.{pieces}
 use Rattle.rules.specs.Calls.{exactly}
 use Rattle.rules.specs.Calls.{grant as granting}
+use Rattle.rules.proofs.Grant.{Asks}
 use Rattle.tracks.specs.Map.{Shows, isFree}
-use Rattle.grant.specs.Grant.{Grant, grant, grantedRuns, replyOf, row}
-use Rattle.grant.proofs.Choosing.{first-place}
+use Rattle.grant.specs.Grant.{grantedRuns, grantOf, noPieces}
 use Rattle.grant.proofs.Reply.{granted-pieces, overs-extents}
 use Rattle.request.specs.declared.Amount.{Amount as Asked}
 use Rattle.request.specs.declared.Amount.the-variants.{Tracks, Cylinders, Absolute}
-use Rattle.request.specs.Request.{Askable, exactRuns, piecesOf, toAmount}
+use Rattle.request.specs.Request.{exactRuns, piecesOf, toAmount}
 use Rattle.request.proofs.Free.{all-held}
 
 -- ---- exactly these tracks
@@ -27,28 +27,26 @@ use Rattle.request.proofs.Free.{all-held}
 same-range : (m : List ℕ) (s n : ℕ) → all (isFree m) (upFrom s (s + n - s)) ≡ all (isFree m) (upFrom s n)
 same-range m s n = let e : s + n - s ≡ n = omega arith in ap (λ (k : ℕ). all (isFree m) (upFrom s k)) e
 
-module _ (m : List ℕ) (s n : ℕ) (r : Bool) (e : r ≡ all (isFree m) (upFrom s (s + n - s))) (p : List (List ℕ)) where
-  pub exact-yes : r ≡ true → length p ≡ 5 → grant 1 n (set p 0 (s ∷ n ∷ [])) ≡ replyOf (exactRuns m s n) p
-  unfolding exactRuns replyOf
-  exact-yes h l =
-      let z : n ≡ n + 0 = omega arith in
-      rw (sym (same-range m s n) ∙ sym e ∙ h) (λ i. record { count = 1; tracks = z i; places = first-place p (row (run s n)) l i })
+module _ (m : List ℕ) (s n : ℕ) (r : Bool) (e : r ≡ all (isFree m) (upFrom s (s + n - s))) where
+  pub exact-yes : r ≡ true → set noPieces 0 (s ∷ n ∷ []) ≡ grantOf (exactRuns m s n)
+  unfolding exactRuns grantOf
+  exact-yes h = rw (sym (same-range m s n) ∙ sym e ∙ h)
 
-  pub exact-no : r ≡ false → grant 0 0 p ≡ replyOf (exactRuns m s n) p
-  unfolding exactRuns replyOf
+  pub exact-no : r ≡ false → noPieces ≡ grantOf (exactRuns m s n)
+  unfolding exactRuns grantOf
   exact-no h = rw (sym (same-range m s n) ∙ sym e ∙ h)
 
 -- ---- what an amount needs
 
-module _ (g : Geometry) (a : Asked) (k : Askable g (toAmount a)) where
-  pub tracks-asked : (n : ℕ) → a ≡ Tracks n → (1 ≤ n) × (n ≤ 16777215)
-  tracks-asked n e = subst (λ (x : Asked). Askable g (toAmount x)) e k
+module _ (g : Geometry) (a : Asked) (k : Asks g (toAmount a)) where
+  pub tracks-asked : (n : ℕ) → a ≡ Tracks n → 1 ≤ n
+  tracks-asked n e = subst (λ (x : Asked). Asks g (toAmount x)) e k
 
-  pub cylinders-asked : (n : ℕ) → a ≡ Cylinders n → (1 ≤ n) × (n ≤ 16777215)
-  cylinders-asked n e = subst (λ (x : Asked). Askable g (toAmount x)) e k
+  pub cylinders-asked : (n : ℕ) → a ≡ Cylinders n → 1 ≤ n
+  cylinders-asked n e = subst (λ (x : Asked). Asks g (toAmount x)) e k
 
   pub absolute-asked : (s n : ℕ) → a ≡ Absolute s n → (1 ≤ n) × (s + n ≤ tracks g)
-  absolute-asked s n e = subst (λ (x : Asked). Askable g (toAmount x)) e k
+  absolute-asked s n e = subst (λ (x : Asked). Asks g (toAmount x)) e k
 
 -- ---- the reply
 
@@ -69,15 +67,15 @@ module _ (m : List ℕ) (g : Geometry) (ls : List Label) (h : Shows m (tracks g)
       go true = refl
       go false = refl
 
-  module _ (a : Asked) (x : Grant) (p : List (List ℕ)) where
-    pub tracks-reply : (n : ℕ) → a ≡ Tracks n → x ≡ replyOf (grantedRuns 1 n (free g ls)) p → x ≡ replyOf (piecesOf g ls (toAmount a)) p
+  module _ (a : Asked) (x : List (List ℕ)) where
+    pub tracks-reply : (n : ℕ) → a ≡ Tracks n → x ≡ grantOf (grantedRuns 1 n (free g ls)) → x ≡ grantOf (piecesOf g ls (toAmount a))
     unfolding piecesOf granting
-    tracks-reply n e q = q ∙ ap (λ (o : Option (List Run)). replyOf o p) (by-units 0x01 1 n ∙ ap (λ (b : Asked). piecesOf g ls (toAmount b)) (sym e))
+    tracks-reply n e q = q ∙ ap grantOf (by-units 0x01 1 n ∙ ap (λ (b : Asked). piecesOf g ls (toAmount b)) (sym e))
 
-    pub cylinders-reply : (n : ℕ) → a ≡ Cylinders n → x ≡ replyOf (grantedRuns (g .heads) n (free g ls)) p → x ≡ replyOf (piecesOf g ls (toAmount a)) p
+    pub cylinders-reply : (n : ℕ) → a ≡ Cylinders n → x ≡ grantOf (grantedRuns (g .heads) n (free g ls)) → x ≡ grantOf (piecesOf g ls (toAmount a))
     unfolding piecesOf granting
-    cylinders-reply n e q = q ∙ ap (λ (o : Option (List Run)). replyOf o p) (by-units 0x81 (g .heads) n ∙ ap (λ (b : Asked). piecesOf g ls (toAmount b)) (sym e))
+    cylinders-reply n e q = q ∙ ap grantOf (by-units 0x81 (g .heads) n ∙ ap (λ (b : Asked). piecesOf g ls (toAmount b)) (sym e))
 
-    pub absolute-reply : (s n : ℕ) → a ≡ Absolute s n → s + n ≤ tracks g → x ≡ replyOf (exactRuns m s n) p → x ≡ replyOf (piecesOf g ls (toAmount a)) p
+    pub absolute-reply : (s n : ℕ) → a ≡ Absolute s n → s + n ≤ tracks g → x ≡ grantOf (exactRuns m s n) → x ≡ grantOf (piecesOf g ls (toAmount a))
     unfolding piecesOf granting
-    absolute-reply s n e l q = q ∙ ap (λ (o : Option (List Run)). replyOf o p) (exact-runs s n l ∙ ap (λ (b : Asked). piecesOf g ls (toAmount b)) (sym e))
+    absolute-reply s n e l q = q ∙ ap grantOf (exact-runs s n l ∙ ap (λ (b : Asked). piecesOf g ls (toAmount b)) (sym e))

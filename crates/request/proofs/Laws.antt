@@ -5,22 +5,22 @@ use mathlib.Core.Option.{Option, none, some}
 use mathlib.Core.List.{List, [], _∷_, _++_, map}
 use Prim.Native.Nat.{ℕ, zero, suc, _+_, _≤_}
 use native.Mathlib.Omega.{arith}
-use lib.Dec.{T, eqb, leb, leb→le}
+use lib.Dec.{eqb}
 use lib.ListN.{length, drop, take, length-map}
 use lib.Seq.{take-all, take-append-le}
 use Rattle.model.specs.Basics.{all, bit, mapOption, upFrom}
 use Rattle.model.specs.Model.{Extent, Geometry, Label, Run, Volume, covers, extent, free, held, overs, run, times, total, tracks}
-use Rattle.model.proofs.Lists.{All, and-l, and-r, by, sum-append}
+use Rattle.model.proofs.Lists.{All, by, sum-append}
 use Rattle.model.proofs.Runs.{Inside, Once, balance}
-use Rattle.rules.specs.Calls.{Amount, absolute, amountOf, inCylinders, inRange, inTracks}
+use Rattle.rules.specs.Calls.{Amount, absolute, amountOf, inCylinders, inTracks}
 use Rattle.rules.specs.Calls.{grant as granting}
 use Rattle.rules.proofs.Grant.{Asks, grant-law}
 use Rattle.rules.proofs.Valid.{GoodExtent, Valid, free-once}
 use Rattle.tracks.specs.Map.{Shows}
 use Rattle.tracks.proofs.Held.{Room}
-use Rattle.grant.specs.Grant.{Grant, grant, grantedRuns, replyOf, row}
-use Rattle.grant.proofs.Reply.{granted-pieces, overs-extents}
-use Rattle.request.specs.Request.{Askable, piecesOf, typeOf}
+use Rattle.grant.specs.Grant.{grantedRuns, grantOf, noPieces, piecesIn, row}
+use Rattle.grant.proofs.Reply.{granted-pieces, none-back, overs-extents, pieces-back}
+use Rattle.request.specs.Request.{piecesOf, typeOf}
 use Rattle.request.proofs.Granting.{runs-back}
 
 -- ---- what may be asked for
@@ -32,31 +32,9 @@ unknown-kind (suc zero) start n h = absurd (omega arith)
 unknown-kind (suc (suc zero)) start n h = absurd (omega arith)
 unknown-kind (suc (suc (suc k))) start n h = refl
 
-pub askable-asks : (g : Geometry) (a : Amount) → Askable g a → Asks g a
-askable-asks g (inTracks n) h = h .0
-askable-asks g (inCylinders n) h = h .0
-askable-asks g (absolute s n) h = h
-
--- an amount in its range
-pub range-askable : (g : Geometry) (sec : ℕ) (a : Amount) → T (inRange g sec a) → Askable g a
-range-askable g sec (inTracks n) r =
-    let p : T (leb 1 n) = search (and-l, and-r) depth 9 in
-    let q : T (leb n 65535) = search (and-l, and-r) depth 9 in
-    let l = leb→le n 65535 q in
-    (leb→le 1 n p, omega arith)
-range-askable g sec (inCylinders n) r =
-    let p : T (leb 1 n) = search (and-l, and-r) depth 9 in
-    let q : T (leb n 65535) = search (and-l, and-r) depth 9 in
-    let l = leb→le n 65535 q in
-    (leb→le 1 n p, omega arith)
-range-askable g sec (absolute s n) r =
-    let p : T (leb 1 n) = search (and-l, and-r) depth 9 in
-    let q : T (leb (s + n) (tracks g)) = search (and-l, and-r) depth 9 in
-    (leb→le 1 n p, leb→le (s + n) (tracks g) q)
-
 -- a secondary amount that is not 0
-pub secondary-askable : (g : Geometry) (unit sec : ℕ) → 1 ≤ sec → sec ≤ 16777215 → Askable g (cond (eqb unit 0xC0) (inCylinders sec) (inTracks sec))
-secondary-askable g unit sec h k = by (eqb unit 0xC0) (λ e. rw e (h, k)) (λ e. rw e (h, k))
+pub secondary-asks : (g : Geometry) (unit sec : ℕ) → 1 ≤ sec → Asks g (cond (eqb unit 0xC0) (inCylinders sec) (inTracks sec))
+secondary-asks g unit sec h = by (eqb unit 0xC0) (λ e. rw e h) (λ e. rw e h)
 
 -- ---- the extents are the pieces, all of one type
 
@@ -103,12 +81,12 @@ all-inside : (n : ℕ) (ps : List Run) → All (λ p. p .start + p .count ≤ n)
 all-inside n [] a = tt
 all-inside n (p ∷ ps) a = (a .0, all-inside n ps (a .1))
 
-pub pieces-good : (v : Volume) → Valid v → (a : Amount) (es : List Extent) → Askable (v .geometry) a → granting (v .geometry) (v .labels) a ≡ some es → Good v (overs es)
+pub pieces-good : (v : Volume) → Valid v → (a : Amount) (es : List Extent) → Asks (v .geometry) a → granting (v .geometry) (v .labels) a ≡ some es → Good v (overs es)
 pieces-good v h a es k e =
     let g = v .geometry in
     let hs = held g (v .labels) in
     let n = tracks g in
-    let x = grant-law v h a es (askable-asks g a k) e in
+    let x = grant-law v h a es k e in
     let l = length-map es (λ e. e .over) in
     let low = all-below g es (x .good) in
     let once : Once n (overs es ++ hs)
@@ -135,55 +113,54 @@ pieces-room m v ps h x t u =
 -- ---- refused or not, by the count
 
 -- a grant of the pieces ps
-pub record Accepted (v : Volume) (a : Amount) (count sum : ℕ) (p p′ : List (List ℕ)) : Type 0 where
+pub record Accepted (v : Volume) (a : Amount) (count sum : ℕ) (p : List (List ℕ)) : Type 0 where
   pub ps : List Run
   pub granted : granting (v .geometry) (v .labels) a ≡ some (map (extent (typeOf a)) ps)
   pub runs : overs (map (extent (typeOf a)) ps) ≡ ps
   pub good : Good v ps
   pub number : length ps ≡ count
   pub adds : total ps ≡ sum
-  pub first : take count p′ ≡ map row ps
-  pub places : p′ ≡ map row ps ++ drop count p
+  pub first : take count p ≡ map row ps
 
-module _ (v : Volume) (h : Valid v) (a : Amount) (k : Askable (v .geometry) a) (count sum : ℕ) (p p′ : List (List ℕ))
-    (e : grant count sum p′ ≡ replyOf (piecesOf (v .geometry) (v .labels) a) p) where
+module _ (v : Volume) (h : Valid v) (a : Amount) (k : Asks (v .geometry) a) (p : List (List ℕ)) (e : p ≡ grantOf (piecesOf (v .geometry) (v .labels) a))
+    (count sum : ℕ) (c : (count ≡ length (piecesIn p)) × (sum ≡ total (piecesIn p))) where
   given : (ps : List Run) → piecesOf (v .geometry) (v .labels) a ≡ some ps → Good v ps
   given ps q =
       subst (Good v) (overs-extents (typeOf a) ps)
       (pieces-good v h a (map (extent (typeOf a)) ps) k (granted-some (v .geometry) (v .labels) a ps q))
 
-  reply-is : (o : Option (List Run)) → piecesOf (v .geometry) (v .labels) a ≡ o → grant count sum p′ ≡ replyOf o p
-  reply-is o q = e ∙ ap (λ (x : Option (List Run)). replyOf x p) q
+  none-there : piecesOf (v .geometry) (v .labels) a ≡ none → piecesIn p ≡ []
+  none-there q = ap piecesIn (e ∙ ap grantOf q) ∙ none-back
 
-  -- 9 no space: no piece was written
-  pub refused : count ≡ 0 → (granting (v .geometry) (v .labels) a ≡ none) × (p′ ≡ p)
-  unfolding replyOf
+  those-there : (ps : List Run) → piecesOf (v .geometry) (v .labels) a ≡ some ps → piecesIn p ≡ ps
+  those-there ps q = ap piecesIn (e ∙ ap grantOf q) ∙ pieces-back ps (given ps q .full)
+
+  -- 9 no space
+  pub refused : count ≡ 0 → granting (v .geometry) (v .labels) a ≡ none
   refused z = go (piecesOf (v .geometry) (v .labels) a) refl
     where
-      go : (o : Option (List Run)) → piecesOf (v .geometry) (v .labels) a ≡ o → (granting (v .geometry) (v .labels) a ≡ none) × (p′ ≡ p)
-      go none q = (granted-none (v .geometry) (v .labels) a q, ap (λ (x : Grant). x .places) (reply-is none q))
-      go (some ps) q = absurd (let l = given ps q .least in let c = ap (λ (x : Grant). x .count) (reply-is (some ps) q) in omega arith)
+      go : (o : Option (List Run)) → piecesOf (v .geometry) (v .labels) a ≡ o → granting (v .geometry) (v .labels) a ≡ none
+      go none q = granted-none (v .geometry) (v .labels) a q
+      go (some ps) q = absurd (let l = given ps q .least in let n = c .0 in let t = ap (λ (x : List Run). length x) (those-there ps q) in omega arith)
 
-  pub accepted : (count ≡ 0 → ⊥) → Accepted v a count sum p p′
-  unfolding replyOf
+  pub accepted : (count ≡ 0 → ⊥) → Accepted v a count sum p
+  unfolding grantOf
   accepted z = go (piecesOf (v .geometry) (v .labels) a) refl
     where
-      go : (o : Option (List Run)) → piecesOf (v .geometry) (v .labels) a ≡ o → Accepted v a count sum p p′
-      go none q = absurd (z (ap (λ (x : Grant). x .count) (reply-is none q)))
+      go : (o : Option (List Run)) → piecesOf (v .geometry) (v .labels) a ≡ o → Accepted v a count sum p
+      go none q = absurd (z (c .0 ∙ ap (λ (x : List Run). length x) (none-there q)))
       go (some ps) q =
-          let r = reply-is (some ps) q in
-          let c : count ≡ length ps = ap (λ (x : Grant). x .count) r in
+          let t = those-there ps q in
+          let n : count ≡ length ps = c .0 ∙ ap (λ (x : List Run). length x) t in
           let l = length-map ps row in
-          let w : p′ ≡ map row ps ++ drop count p = ap (λ (x : Grant). x .places) r ∙ ap (λ (j : ℕ). map row ps ++ drop j p) (sym c) in
           record {
             ps = ps;
             granted = granted-some (v .geometry) (v .labels) a ps q;
             runs = overs-extents (typeOf a) ps;
             good = given ps q;
-            number = sym c;
-            adds = sym (ap (λ (x : Grant). x .tracks) r);
+            number = sym n;
+            adds = sym (c .1 ∙ ap total t);
             first =
-                ap (take count) w ∙ take-append-le count (map row ps) (drop count p) (omega arith)
+                ap (take count) (e ∙ ap grantOf q) ∙ take-append-le count (map row ps) (drop (length ps) noPieces) (omega arith)
                 ∙ take-all count (map row ps) (omega arith);
-            places = w;
           }

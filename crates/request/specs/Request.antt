@@ -1,38 +1,27 @@
 -- A request as the code holds it, and document 01's numbers and values for each kind of amount. Assumes nothing.
-use Prim.Native.Nat.{ℕ, _+_, _≤_}
+use Prim.Native.Nat.{ℕ}
 use mathlib.Core.Bool.{cond}
 use mathlib.Core.Option.{Option, none, some}
 use mathlib.Core.List.{List, [], _∷_}
 use Rattle.model.specs.Basics.{all, mapOption, upFrom}
-use Rattle.model.specs.Model.{Geometry, Label, Run, overs, run, tracks}
+use Rattle.model.specs.Model.{Geometry, Label, Run, overs, run}
 use Rattle.rules.specs.Calls.{Amount, absolute, grant, inCylinders, inTracks}
 use Rattle.tracks.specs.Map.{isFree}
 use Rattle.request.specs.declared.Amount.{Amount as Asked}
 use Rattle.request.specs.declared.Amount.the-variants.{Tracks, Cylinders, Absolute}
 
--- "A request holds its amount in one of three kinds". Its unit byte is `unitOf` of the rules' amount
+-- "A request holds its amount in one of three kinds": the rules' amount. Its number, "0 tracks, 1 cylinders, 2 absolute", is the
+-- rules' too (`amountOf`), and so is its unit byte (`unitOf`)
 abbrev pub toAmount : Asked → Amount
 toAmount (Tracks n) = inTracks n
 toAmount (Cylinders n) = inCylinders n
 toAmount (Absolute s n) = absolute s n
-
--- "Kinds are 0 tracks, 1 cylinders, 2 absolute"
-abbrev pub kindOf : Asked → ℕ
-kindOf (Tracks n) = 0
-kindOf (Cylinders n) = 1
-kindOf (Absolute s n) = 2
 
 -- "Cylinder pieces have type X'81', others X'01'"
 abbrev pub typeOf : Amount → ℕ
 typeOf (inTracks n) = 0x01
 typeOf (inCylinders n) = 0x81
 typeOf (absolute s n) = 0x01
-
--- what the choice of pieces is asked for: an amount in its range, or a secondary amount that is not 0
-abbrev pub Askable : Geometry → Amount → Type 0
-Askable g (inTracks n) = (1 ≤ n) × (n ≤ 16777215)
-Askable g (inCylinders n) = (1 ≤ n) × (n ≤ 16777215)
-Askable g (absolute s n) = (1 ≤ n) × (s + n ≤ tracks g)
 
 -- the pieces that an amount is granted, or 9
 unfoldable pub piecesOf : Geometry → List Label → Amount → Option (List Run)

@@ -1,6 +1,5 @@
 // A request for space: its amount in one of three kinds, the range of its numbers, and what it is granted.
 use forms::Geometry;
-use grant::Chosen;
 ghost use mathlib.Core.Path.{_≡_};
 ghost use mathlib.Core.Bool.{cond, _&&_};
 ghost use mathlib.Core.Option.{some};
@@ -11,12 +10,13 @@ ghost use lib.ListN.{length};
 ghost use Rattle.model.specs.Basics.{all, upFrom, within};
 ghost use Rattle.model.specs.Model.{Label, Run, free, held, slots, tracks};
 ghost use Rattle.rules.specs.Calls.{amountOf, inCylinders, inRange, inTracks, unitOf};
+ghost use Rattle.rules.proofs.Grant.{Asks};
 ghost use Rattle.rules.proofs.Valid.{Limits};
 ghost use Rattle.tracks.specs.Map.{Shows, isFree};
 ghost use Rattle.free_list.specs.FreeList.{Listed};
-ghost use Rattle.grant.specs.Grant.{grant, replyOf};
+ghost use Rattle.grant.specs.Grant.{grantOf};
 ghost use Rattle.forms.specs.Forms.{geometryOf};
-ghost use Rattle.request.specs.Request.{Askable, exactRuns, kindOf, piecesOf, toAmount, typeOf};
+ghost use Rattle.request.specs.Request.{exactRuns, piecesOf, toAmount, typeOf};
 
 // An amount: how many tracks, how many cylinders, or from which track on how many.
 pub enum Amount {
@@ -34,7 +34,7 @@ pub struct Request {
 // The request that the host's numbers make; an unknown kind is refused before.
 pub fn read_request(kind: u32, start: u32, amount: u32, secondary: u32) -> Request
     requires { ⌜ kind < 3 ⌝ }
-    ensures { λ r. ⌜ (some (toAmount (r .amount)) ≡ amountOf kind start amount) × (kindOf (r .amount) ≡ kind) × (r .secondary ≡ secondary) ⌝ }
+    ensures { λ r. ⌜ (some (toAmount (r .amount)) ≡ amountOf kind start amount) × (r .secondary ≡ secondary) ⌝ }
 {
     if kind == 0 {
         return Request {
@@ -149,39 +149,28 @@ fn all_free(map: &[u64], s: usize, e: usize) -> bool
     free.to == e
 }
 
-// Exactly these tracks, as one piece; nothing is written where one of them is not free.
-fn exact(map: &[u64], start: u32, n: u32, pieces: &mut [[u16; 2]; 5]) -> Chosen
-    requires { ⌜ (1 ≤ n) × (start + n ≤ 65535) × (start + n ≤ 64 * length (now map)) × (length (now pieces) ≡ 5) ⌝ }
-    ensures { λ r. ⌜ grant (r .count) (r .tracks) (now (pieces .exit)) ≡ replyOf (exactRuns (now (map .entry)) start n) (now (pieces .entry)) ⌝ }
+// Exactly these tracks, as one piece; none where one of them is not free.
+fn exact(map: &[u64], start: u32, n: u32) -> [[u16; 2]; 5]
+    requires { ⌜ (1 ≤ n) × (start + n ≤ 65535) × (start + n ≤ 64 * length (now map)) ⌝ }
+    ensures { λ r. ⌜ r ≡ grantOf (exactRuns (now (map .entry)) start n) ⌝ }
 {
+    let mut pieces = [[0u16; 2]; 5];
     if all_free(map, start as usize, (start + n) as usize) {
         pieces[0] = [start as u16, n as u16];
-        return Chosen {
-            count: 1,
-            tracks: n,
-        };
+        return pieces;
     }
-    Chosen {
-        count: 0,
-        tracks: 0,
-    }
+    pieces
 }
 
 // The pieces that an amount is granted out of the free tracks, which the table lists and the map shows, whatever labels hold
-// the others. Where there is no space the count is 0 and no piece is written.
-pub fn fulfil<'a>(
-    table: &'a [u8],
-    map: &'a [u64],
-    g: Geometry,
-    amount: Amount,
-    pieces: &mut [[u16; 2]; 5],
-) -> Chosen
-    requires { ⌜ Limits (geometryOf g) × (tracks (geometryOf g) ≤ 64 * length (now map)) × Askable (geometryOf g) (toAmount amount) × (length (now pieces) ≡ 5) × (length (now table) ≡ 140 * slots (geometryOf g)) × ((f : List Run) × Listed (geometryOf g) (now table) f) ⌝ }
-    ensures { λ r. ⌜ ((ls : List Label) → Shows (now (map .entry)) (tracks (geometryOf g)) (held (geometryOf g) ls) → Listed (geometryOf g) (now (table .entry)) (free (geometryOf g) ls) → grant (r .count) (r .tracks) (now (pieces .exit)) ≡ replyOf (piecesOf (geometryOf g) ls (toAmount amount)) (now (pieces .entry))) ⌝ }
+// the others; none where there is no space.
+pub fn fulfil<'a>(table: &'a [u8], map: &'a [u64], g: Geometry, amount: Amount) -> [[u16; 2]; 5]
+    requires { ⌜ Limits (geometryOf g) × (tracks (geometryOf g) ≤ 64 * length (now map)) × Asks (geometryOf g) (toAmount amount) × (length (now table) ≡ 140 * slots (geometryOf g)) × ((f : List Run) × Listed (geometryOf g) (now table) f) ⌝ }
+    ensures { λ r. ⌜ ((ls : List Label) → Shows (now (map .entry)) (tracks (geometryOf g)) (held (geometryOf g) ls) → Listed (geometryOf g) (now (table .entry)) (free (geometryOf g) ls) → r ≡ grantOf (piecesOf (geometryOf g) ls (toAmount amount))) ⌝ }
 {
     match amount {
-        Amount::Tracks(k) => grant::choose(table, g, 1, k, pieces),
-        Amount::Cylinders(k) => grant::choose(table, g, g.heads, k, pieces),
-        Amount::Absolute(start, k) => exact(map, start, k, pieces),
+        Amount::Tracks(k) => grant::choose(table, g, 1, k),
+        Amount::Cylinders(k) => grant::choose(table, g, g.heads, k),
+        Amount::Absolute(start, k) => exact(map, start, k),
     }
 }

@@ -28,20 +28,13 @@ fn lesser(a: u32, b: u32) -> u32
 
 // ---- granted
 
-// A number of two bytes.
-fn wide(x: u16) -> u32
-    ensures { λ r. ⌜ (r ≡ x) × (r < 65536) ⌝ }
-{
-    x as u32
-}
-
 // Piece k as tracks.
 fn piece_at(pieces: [[u16; 2]; 5], k: usize) -> Tracks
     requires { ⌜ k < 5 ⌝ }
     ensures { λ r. ⌜ (r .start ≡ getD (getD pieces k []) 0 0) × (r .count ≡ getD (getD pieces k []) 1 0) × (r .start < 65536) × (r .count < 65536) ⌝ }
 {
-    let start = wide(pieces[k][0]);
-    let count = wide(pieces[k][1]);
+    let start = grant::wide(pieces[k][0]);
+    let count = grant::wide(pieces[k][1]);
     Tracks { start, count }
 }
 

@@ -1,5 +1,5 @@
 use native.Mathlib.Omega.{arith}
-use Rattle.call_allocate.proofs.NewSet.{askable, count-most, grants, limits, lists, long, no-space, put, secondary-fits, sum-most}
+use Rattle.call_allocate.proofs.NewSet.{asks, count-most, grants, limits, lists, long, no-space, put, secondary-fits, sum-most}
 use borrow.Author.Needs.{needs}
 use Rattle.call_allocate.proofs.place.Statement.{statement}
 use Rattle.call_allocate.proofs.place.Tie as tie
@@ -13,7 +13,10 @@ use Rattle.request.proofs.type_byte.Reads as type-byte-reads
 use Rattle.request.proofs.unit_byte.Reads as unit-byte-reads
 
 fulfil-requires : tie.Need-fulfil-requires
-fulfil-requires c κs = (limits (c .before .before .before .before .before .before .before .before .before .pre), c .before .before .before .before .before .before .before .before .before .pre .mapFits, askable (c .before .before .before .before .before .before .before .before .before .pre), search needs, long (c .before .before .before .before .before .before .before .before .before .pre), (_, lists (c .before .before .before .before .before .before .before .before .before .pre)))
+fulfil-requires c κs = (limits (c .before .before .before .before .before .before .before .before .pre), c .before .before .before .before .before .before .before .before .pre .mapFits, asks (c .before .before .before .before .before .before .before .before .pre), long (c .before .before .before .before .before .before .before .before .pre), (_, lists (c .before .before .before .before .before .before .before .before .pre)))
+
+count-pieces-requires : tie.Need-count-pieces-requires
+count-pieces-requires c κs = search needs
 
 same-length : tie.Need-same-length
 same-length c = search needs
@@ -22,7 +25,7 @@ same-length-2 : tie.Need-same-length-2
 same-length-2 c = search needs
 
 returns : tie.Need-returns
-returns c = no-space (c .before .before .before .before .before .before .before .before .before .before .before .before .pre) _ _ _ _ (c .before .before .fulfil .ensures) (c .if1 .taken)
+returns c = no-space (c .before .before .before .before .before .before .before .before .before .before .before .before .pre) _ (c .before .before .before .fulfil .ensures) _ _ (c .before .before .count-pieces .ensures) (c .if1 .taken)
 
 unit-byte-requires : tie.Need-unit-byte-requires
 unit-byte-requires c κs = search needs
@@ -39,9 +42,9 @@ empty-three-requires c κs = search needs
 put-grant-requires : tie.Need-put-grant-requires
 put-grant-requires c κs =
     let least = limits (c .before .before .before .before .before .before .before .before .before .before .before .before .before .before .before .before .before .before .before .before .before .before .pre) .least in
-    let most = count-most (c .before .before .before .before .before .before .before .before .before .before .before .before .before .before .before .before .before .before .before .before .before .before .pre) _ _ _ _ (c .before .before .before .before .before .before .before .before .before .before .before .before .fulfil .ensures) (c .before .before .before .before .before .before .before .before .before .before .if1 .left) in (
-      (limits (c .before .before .before .before .before .before .before .before .before .before .before .before .before .before .before .before .before .before .before .before .before .before .pre), long (c .before .before .before .before .before .before .before .before .before .before .before .before .before .before .before .before .before .before .before .before .before .before .pre), c .before .before .before .before .before .before .before .before .before .before .before .before .before .before .before .before .before .before .before .before .before .before .pre .mapFits, c .before .before .before .before .before .before .before .before .before .before .before .before .before .before .before .before .before .before .before .before .before .before .pre .longSlots, c .before .before .before .before .before .before .before .before .before .before .before .before .before .before .before .before .before .before .before .before .before .before .pre .longAnswer, omega arith, omega arith, most, omega arith, sum-most (c .before .before .before .before .before .before .before .before .before .before .before .before .before .before .before .before .before .before .before .before .before .before .pre) _ _ _ _ (c .before .before .before .before .before .before .before .before .before .before .before .before .fulfil .ensures) (c .before .before .before .before .before .before .before .before .before .before .if1 .left), search needs, search needs),
-      grants (c .before .before .before .before .before .before .before .before .before .before .before .before .before .before .before .before .before .before .before .before .before .before .pre) _ _ _ _ (c .before .before .before .before .before .before .before .before .before .before .before .before .fulfil .ensures) (c .before .before .before .before .before .before .before .before .before .before .if1 .left) _ _ (c .before .before .before .before .before .before .before .before .before .unit-byte .ensures) (c .before .before .before .before .before .before .before .before .type-byte .ensures) _ _ (c .before .before .before .before .before .before .before .new-label .ensures) (c .before .before .before .before .before .before .empty-three .ensures),
+    let most = count-most (c .before .before .before .before .before .before .before .before .before .before .before .before .before .before .before .before .before .before .before .before .before .before .pre) _ (c .before .before .before .before .before .before .before .before .before .before .before .before .before .fulfil .ensures) _ _ (c .before .before .before .before .before .before .before .before .before .before .before .before .count-pieces .ensures) (c .before .before .before .before .before .before .before .before .before .before .if1 .left) in (
+      (limits (c .before .before .before .before .before .before .before .before .before .before .before .before .before .before .before .before .before .before .before .before .before .before .pre), long (c .before .before .before .before .before .before .before .before .before .before .before .before .before .before .before .before .before .before .before .before .before .before .pre), c .before .before .before .before .before .before .before .before .before .before .before .before .before .before .before .before .before .before .before .before .before .before .pre .mapFits, c .before .before .before .before .before .before .before .before .before .before .before .before .before .before .before .before .before .before .before .before .before .before .pre .longSlots, c .before .before .before .before .before .before .before .before .before .before .before .before .before .before .before .before .before .before .before .before .before .before .pre .longAnswer, omega arith, omega arith, most, omega arith, sum-most (c .before .before .before .before .before .before .before .before .before .before .before .before .before .before .before .before .before .before .before .before .before .before .pre) _ (c .before .before .before .before .before .before .before .before .before .before .before .before .before .fulfil .ensures) _ _ (c .before .before .before .before .before .before .before .before .before .before .before .before .count-pieces .ensures) (c .before .before .before .before .before .before .before .before .before .before .if1 .left), search needs, search needs),
+      grants (c .before .before .before .before .before .before .before .before .before .before .before .before .before .before .before .before .before .before .before .before .before .before .pre) _ (c .before .before .before .before .before .before .before .before .before .before .before .before .before .fulfil .ensures) _ _ (c .before .before .before .before .before .before .before .before .before .before .before .before .count-pieces .ensures) (c .before .before .before .before .before .before .before .before .before .before .if1 .left) _ _ (c .before .before .before .before .before .before .before .before .before .unit-byte .ensures) (c .before .before .before .before .before .before .before .before .type-byte .ensures) _ _ (c .before .before .before .before .before .before .before .new-label .ensures) (c .before .before .before .before .before .before .empty-three .ensures),
     )
 
 same-length-3 : tie.Need-same-length-3
@@ -58,14 +61,15 @@ same-length-6 c = search needs
 
 returns-2 : tie.Need-returns-2
 returns-2 c =
-    put (c .before .before .before .before .before .before .before .before .before .before .before .before .before .before .before .before .before .before .before .before .before .before .before .before .before .before .before .before .before .before .before .pre) _ _ _ _ (c .before .before .before .before .before .before .before .before .before .before .before .before .before .before .before .before .before .before .before .before .before .fulfil .ensures) (c .before .before .before .before .before .before .before .before .before .before .before .before .before .before .before .before .before .before .before .if1 .left) _ _ (c .before .before .before .before .before .before .before .before .before .before .before .before .before .before .before .before .before .before .unit-byte .ensures) (c .before .before .before .before .before .before .before .before .before .before .before .before .before .before .before .before .before .type-byte .ensures) _ _ (c .before .before .before .before .before .before .before .before .before .before .before .before .before .before .before .before .new-label .ensures) (c .before .before .before .before .before .before .before .before .before .before .before .before .before .before .before .empty-three .ensures) _ _ _
-    (c .before .before .before .before .before .before .before .before .put-grant .ensures (grants (c .before .before .before .before .before .before .before .before .before .before .before .before .before .before .before .before .before .before .before .before .before .before .before .before .before .before .before .before .before .before .before .pre) _ _ _ _ (c .before .before .before .before .before .before .before .before .before .before .before .before .before .before .before .before .before .before .before .before .before .fulfil .ensures) (c .before .before .before .before .before .before .before .before .before .before .before .before .before .before .before .before .before .before .before .if1 .left) _ _ (c .before .before .before .before .before .before .before .before .before .before .before .before .before .before .before .before .before .before .unit-byte .ensures) (c .before .before .before .before .before .before .before .before .before .before .before .before .before .before .before .before .before .type-byte .ensures) _ _ (c .before .before .before .before .before .before .before .before .before .before .before .before .before .before .before .before .new-label .ensures) (c .before .before .before .before .before .before .before .before .before .before .before .before .before .before .before .empty-three .ensures)))
+    put (c .before .before .before .before .before .before .before .before .before .before .before .before .before .before .before .before .before .before .before .before .before .before .before .before .before .before .before .before .before .before .before .pre) _ (c .before .before .before .before .before .before .before .before .before .before .before .before .before .before .before .before .before .before .before .before .before .before .fulfil .ensures) _ _ (c .before .before .before .before .before .before .before .before .before .before .before .before .before .before .before .before .before .before .before .before .before .count-pieces .ensures) (c .before .before .before .before .before .before .before .before .before .before .before .before .before .before .before .before .before .before .before .if1 .left) _ _ (c .before .before .before .before .before .before .before .before .before .before .before .before .before .before .before .before .before .before .unit-byte .ensures) (c .before .before .before .before .before .before .before .before .before .before .before .before .before .before .before .before .before .type-byte .ensures) _ _ (c .before .before .before .before .before .before .before .before .before .before .before .before .before .before .before .before .new-label .ensures) (c .before .before .before .before .before .before .before .before .before .before .before .before .before .before .before .empty-three .ensures) _ _ _
+    (c .before .before .before .before .before .before .before .before .put-grant .ensures (grants (c .before .before .before .before .before .before .before .before .before .before .before .before .before .before .before .before .before .before .before .before .before .before .before .before .before .before .before .before .before .before .before .pre) _ (c .before .before .before .before .before .before .before .before .before .before .before .before .before .before .before .before .before .before .before .before .before .before .fulfil .ensures) _ _ (c .before .before .before .before .before .before .before .before .before .before .before .before .before .before .before .before .before .before .before .before .before .count-pieces .ensures) (c .before .before .before .before .before .before .before .before .before .before .before .before .before .before .before .before .before .before .before .if1 .left) _ _ (c .before .before .before .before .before .before .before .before .before .before .before .before .before .before .before .before .before .before .unit-byte .ensures) (c .before .before .before .before .before .before .before .before .before .before .before .before .before .before .before .before .before .type-byte .ensures) _ _ (c .before .before .before .before .before .before .before .before .before .before .before .before .before .before .before .before .new-label .ensures) (c .before .before .before .before .before .before .before .before .before .before .before .before .before .before .before .empty-three .ensures)))
 
 pub place-spec : {M : Type 1} → statement M
 place-spec =
     tie.close
     (tie.spec
     fulfil-requires
+    count-pieces-requires
     same-length
     same-length-2
     returns

@@ -3,7 +3,8 @@ use Rattle.opening.proofs.Lookup.{limits-of, table-long, there-inside}
 use Rattle.opening.proofs.Numbers.{opened-taken}
 use Rattle.forms.specs.Forms.{geometryOf}
 use native.Mathlib.Omega.{arith}
-use mathlib.Core.Path.{sym, _∙_}
+use mathlib.Core.Path.{sym, _∙_, ap}
+use Rattle.names.specs.Find.{answerOf}
 use borrow.Author.Needs.{needs}
 use Rattle.call_obtain.proofs.obtain.Statement.{statement}
 use Rattle.call_obtain.proofs.obtain.Tie as tie
@@ -54,13 +55,13 @@ enum-told c = search needs
 
 -- src/lib.rt:53:9
 returns-3 : tie.Need-returns-3
-returns-3 c = not-found (c .before .before .before .before .before .before .before .before .before .before .before .before .before .before .args .table .now) (c .before .before .before .before .before .before .before .before .before .before .before .before .before .before .args .name .now) (c .before .before .before .before .before .before .before .before .before .before .before .before .before .before .args .labels .now) (c .before .before .before .before .before .before .before .before .before .before .before .before .before .before .args .answer .now) _ _ (c .before .before .before .before .before .before .before .before .before .and-another .ensures) (c .before .before .before .before .before .before .before .before .open-to-read .ensures) (c .before .before .before .before .before .before .before .if1 .left) (sym (c .before .before .before .before .before .before .name-ok .ensures) ∙ c .before .before .before .before .before .if2 .taken) (geometryOf (c .before .before .before .before .geometry .result)) (c .before .before .before .before .geometry .ensures) (sym (c .enum-told .given .1) ∙ c .before .before .find .ensures .0)
+returns-3 c = not-found (c .before .before .before .before .before .before .before .before .before .before .before .before .before .before .args .table .now) (c .before .before .before .before .before .before .before .before .before .before .before .before .before .before .args .name .now) (c .before .before .before .before .before .before .before .before .before .before .before .before .before .before .args .labels .now) (c .before .before .before .before .before .before .before .before .before .before .before .before .before .before .args .answer .now) _ _ (c .before .before .before .before .before .before .before .before .before .and-another .ensures) (c .before .before .before .before .before .before .before .before .open-to-read .ensures) (c .before .before .before .before .before .before .before .if1 .left) (sym (c .before .before .before .before .before .before .name-ok .ensures) ∙ c .before .before .before .before .before .if2 .taken) (geometryOf (c .before .before .before .before .geometry .result)) (c .before .before .before .before .geometry .ensures) (ap answerOf (sym (c .enum-told .given .1)) ∙ c .before .before .find .ensures)
 
 -- src/lib.rt:55:5
 put-labels-requires : tie.Need-put-labels-requires
 put-labels-requires c κs =
     let x = opened-taken (c .before .before .before .before .before .before .before .before .before .before .before .before .before .before .before .before .args .table .now) _ (sym (c .before .before .before .before .before .before .before .before .before .if1 .left) ∙ c .before .before .before .before .before .before .before .before .before .before .open-to-read .ensures) in
-    (limits-of (c .before .before .before .before .before .before .before .before .before .before .before .before .before .before .before .before .args .table .now) x (geometryOf (c .before .before .before .before .before .before .geometry .result)) (c .before .before .before .before .before .before .geometry .ensures), table-long (c .before .before .before .before .before .before .before .before .before .before .before .before .before .before .before .before .args .table .now) x (geometryOf (c .before .before .before .before .before .before .geometry .result)) (c .before .before .before .before .before .before .geometry .ensures), there-inside (c .before .before .before .before .before .before .before .before .before .before .before .before .before .before .before .before .args .table .now) x (geometryOf (c .before .before .before .before .before .before .geometry .result)) (c .before .before .before .before .before .before .geometry .ensures) (c .before .before .before .before .before .before .before .before .before .before .before .before .before .before .before .before .args .name .now) _ (sym (c .before .before .k .given .1) ∙ c .before .before .before .before .find .ensures .0), labels-long (c .before .before .before .before .before .before .before .before .before .before .before .before .before .before .before .before .args .table .now) (c .before .before .before .before .before .before .before .before .before .before .before .before .before .before .before .before .args .name .now) (c .before .before .before .before .before .before .before .before .before .before .before .before .before .before .before .before .args .labels .now) (c .before .before .before .before .before .before .before .before .before .before .before .before .before .before .before .before .args .answer .now) _ _ (c .before .before .before .before .before .before .before .before .before .before .before .and-another .ensures) (c .before .before .before .before .before .before .before .before .before .before .open-to-read .ensures) (c .before .before .before .before .before .before .before .before .before .if1 .left))
+    (limits-of (c .before .before .before .before .before .before .before .before .before .before .before .before .before .before .before .before .args .table .now) x (geometryOf (c .before .before .before .before .before .before .geometry .result)) (c .before .before .before .before .before .before .geometry .ensures), table-long (c .before .before .before .before .before .before .before .before .before .before .before .before .before .before .before .before .args .table .now) x (geometryOf (c .before .before .before .before .before .before .geometry .result)) (c .before .before .before .before .before .before .geometry .ensures), there-inside (c .before .before .before .before .before .before .before .before .before .before .before .before .before .before .before .before .args .table .now) x (geometryOf (c .before .before .before .before .before .before .geometry .result)) (c .before .before .before .before .before .before .geometry .ensures) (c .before .before .before .before .before .before .before .before .before .before .before .before .before .before .before .before .args .name .now) _ (ap answerOf (sym (c .before .before .k .given .1)) ∙ c .before .before .before .before .find .ensures), labels-long (c .before .before .before .before .before .before .before .before .before .before .before .before .before .before .before .before .args .table .now) (c .before .before .before .before .before .before .before .before .before .before .before .before .before .before .before .before .args .name .now) (c .before .before .before .before .before .before .before .before .before .before .before .before .before .before .before .before .args .labels .now) (c .before .before .before .before .before .before .before .before .before .before .before .before .before .before .before .before .args .answer .now) _ _ (c .before .before .before .before .before .before .before .before .before .before .before .and-another .ensures) (c .before .before .before .before .before .before .before .before .before .before .open-to-read .ensures) (c .before .before .before .before .before .before .before .before .before .if1 .left))
 
 -- src/lib.rt:56:5
 put-nothing-requires : tie.Need-put-nothing-requires
@@ -76,7 +77,7 @@ same-length-2 c = search needs
 
 -- src/lib.rt:40:1
 returns-4 : tie.Need-returns-4
-returns-4 c = obtained (c .before .before .before .before .before .before .before .before .before .before .before .before .before .before .before .before .before .before .before .before .before .before .before .args .table .now) (c .before .before .before .before .before .before .before .before .before .before .before .before .before .before .before .before .before .before .before .before .before .before .before .args .name .now) (c .before .before .before .before .before .before .before .before .before .before .before .before .before .before .before .before .before .before .before .before .before .before .before .args .labels .now) (c .before .before .before .before .before .before .before .before .before .before .before .before .before .before .before .before .before .before .before .before .before .before .before .args .answer .now) _ _ (c .before .before .before .before .before .before .before .before .before .before .before .before .before .before .before .before .before .before .and-another .ensures) (c .before .before .before .before .before .before .before .before .before .before .before .before .before .before .before .before .before .open-to-read .ensures) (c .before .before .before .before .before .before .before .before .before .before .before .before .before .before .before .before .if1 .left) (sym (c .before .before .before .before .before .before .before .before .before .before .before .before .before .before .before .name-ok .ensures) ∙ c .before .before .before .before .before .before .before .before .before .before .before .before .before .before .if2 .taken) (geometryOf (c .before .before .before .before .before .before .before .before .before .before .before .before .before .geometry .result)) (c .before .before .before .before .before .before .before .before .before .before .before .before .before .geometry .ensures) _ _ _ (sym (c .before .before .before .before .before .before .before .before .before .k .given .1) ∙ c .before .before .before .before .before .before .before .before .before .before .before .find .ensures .0) (c .before .before .before .before .before .before .put-labels .ensures) (c .before .before .put-nothing .ensures)
+returns-4 c = obtained (c .before .before .before .before .before .before .before .before .before .before .before .before .before .before .before .before .before .before .before .before .before .before .before .args .table .now) (c .before .before .before .before .before .before .before .before .before .before .before .before .before .before .before .before .before .before .before .before .before .before .before .args .name .now) (c .before .before .before .before .before .before .before .before .before .before .before .before .before .before .before .before .before .before .before .before .before .before .before .args .labels .now) (c .before .before .before .before .before .before .before .before .before .before .before .before .before .before .before .before .before .before .before .before .before .before .before .args .answer .now) _ _ (c .before .before .before .before .before .before .before .before .before .before .before .before .before .before .before .before .before .before .and-another .ensures) (c .before .before .before .before .before .before .before .before .before .before .before .before .before .before .before .before .before .open-to-read .ensures) (c .before .before .before .before .before .before .before .before .before .before .before .before .before .before .before .before .if1 .left) (sym (c .before .before .before .before .before .before .before .before .before .before .before .before .before .before .before .name-ok .ensures) ∙ c .before .before .before .before .before .before .before .before .before .before .before .before .before .before .if2 .taken) (geometryOf (c .before .before .before .before .before .before .before .before .before .before .before .before .before .geometry .result)) (c .before .before .before .before .before .before .before .before .before .before .before .before .before .geometry .ensures) _ _ _ (ap answerOf (sym (c .before .before .before .before .before .before .before .before .before .k .given .1)) ∙ c .before .before .before .before .before .before .before .before .before .before .before .find .ensures) (c .before .before .before .before .before .before .put-labels .ensures) (c .before .before .put-nothing .ensures)
 
 pub obtain-spec : {M : Type 1} → statement M
 obtain-spec =

@@ -3,6 +3,7 @@ use Rattle.forms.specs.Forms.{geometryOf}
 use Rattle.opening.proofs.Lookup.{limits-of, table-long, there-inside}
 use native.Mathlib.Omega.{arith}
 use mathlib.Core.Path.{sym, ap, _∙_}
+use Rattle.names.specs.Find.{answerOf}
 use borrow.Author.Needs.{needs}
 use Rattle.call_rename.proofs.rename.Statement.{statement}
 use Rattle.call_rename.proofs.rename.Tie as tie
@@ -49,7 +50,7 @@ same-length-2 c = search needs
 
 -- src/lib.rt:67:9
 returns-2 : tie.Need-returns-2
-returns-2 c = not-found (c .before .before .before .before .before .before .before .before .before .before .before .before .before .before .args .table .now) (c .before .before .before .before .before .before .before .before .before .before .before .before .before .before .args .old .now) (c .before .before .before .before .before .before .before .before .before .before .before .before .before .before .args .new .now) (c .before .before .before .before .before .before .before .before .before .before .before .before .before .before .args .answer .now) _ (c .before .before .before .before .before .before .before .before .early .ensures) (c .before .before .before .before .before .before .before .if1 .left) (geometryOf (c .before .before .before .before .before .geometry .result)) (c .before .before .before .before .before .geometry .ensures) (sym (c .enum-told .given .1) ∙ c .before .before .find .ensures .0)
+returns-2 c = not-found (c .before .before .before .before .before .before .before .before .before .before .before .before .before .before .args .table .now) (c .before .before .before .before .before .before .before .before .before .before .before .before .before .before .args .old .now) (c .before .before .before .before .before .before .before .before .before .before .before .before .before .before .args .new .now) (c .before .before .before .before .before .before .before .before .before .before .before .before .before .before .args .answer .now) _ (c .before .before .before .before .before .before .before .before .early .ensures) (c .before .before .before .before .before .before .before .if1 .left) (geometryOf (c .before .before .before .before .before .geometry .result)) (c .before .before .before .before .before .geometry .ensures) (ap answerOf (sym (c .enum-told .given .1)) ∙ c .before .before .find .ensures)
 
 -- src/lib.rt:69:8
 on-volume-requires : tie.Need-on-volume-requires
@@ -61,13 +62,13 @@ same-length-3 c = search needs
 
 -- src/lib.rt:70:9
 returns-3 : tie.Need-returns-3
-returns-3 c = duplicate (c .before .before .before .before .before .before .before .before .before .before .before .before .before .before .before .before .before .before .args .table .now) (c .before .before .before .before .before .before .before .before .before .before .before .before .before .before .before .before .before .before .args .old .now) (c .before .before .before .before .before .before .before .before .before .before .before .before .before .before .before .before .before .before .args .new .now) (c .before .before .before .before .before .before .before .before .before .before .before .before .before .before .before .before .before .before .args .answer .now) _ (c .before .before .before .before .before .before .before .before .before .before .before .before .early .ensures) (c .before .before .before .before .before .before .before .before .before .before .before .if1 .left) (geometryOf (c .before .before .before .before .before .before .before .before .before .geometry .result)) (c .before .before .before .before .before .before .before .before .before .geometry .ensures) _ (sym (c .before .before .before .before .k .given .1) ∙ c .before .before .before .before .before .before .find .ensures .0) _ (c .before .on-volume .ensures) (c .if2 .taken)
+returns-3 c = duplicate (c .before .before .before .before .before .before .before .before .before .before .before .before .before .before .before .before .before .before .args .table .now) (c .before .before .before .before .before .before .before .before .before .before .before .before .before .before .before .before .before .before .args .old .now) (c .before .before .before .before .before .before .before .before .before .before .before .before .before .before .before .before .before .before .args .new .now) (c .before .before .before .before .before .before .before .before .before .before .before .before .before .before .before .before .before .before .args .answer .now) _ (c .before .before .before .before .before .before .before .before .before .before .before .before .early .ensures) (c .before .before .before .before .before .before .before .before .before .before .before .if1 .left) (geometryOf (c .before .before .before .before .before .before .before .before .before .geometry .result)) (c .before .before .before .before .before .before .before .before .before .geometry .ensures) _ (ap answerOf (sym (c .before .before .before .before .k .given .1)) ∙ c .before .before .before .before .before .before .find .ensures) _ (c .before .on-volume .ensures) (c .if2 .taken)
 
 -- src/lib.rt:72:5
 put-name-requires : tie.Need-put-name-requires
 put-name-requires c κs =
     let x = is-taken (c .before .before .before .before .before .before .before .before .before .before .before .before .before .before .before .before .before .before .before .args .table .now) (c .before .before .before .before .before .before .before .before .before .before .before .before .before .before .before .before .before .before .before .args .old .now) (c .before .before .before .before .before .before .before .before .before .before .before .before .before .before .before .before .before .before .before .args .new .now) (c .before .before .before .before .before .before .before .before .before .before .before .before .before .before .before .before .before .before .before .args .answer .now) _ (c .before .before .before .before .before .before .before .before .before .before .before .before .before .early .ensures) (c .before .before .before .before .before .before .before .before .before .before .before .before .if1 .left) in
-    (omega (arith, table-long (c .before .before .before .before .before .before .before .before .before .before .before .before .before .before .before .before .before .before .before .args .table .now) x (geometryOf (c .before .before .before .before .before .before .before .before .before .before .geometry .result)) (c .before .before .before .before .before .before .before .before .before .before .geometry .ensures), there-inside (c .before .before .before .before .before .before .before .before .before .before .before .before .before .before .before .before .before .before .before .args .table .now) x (geometryOf (c .before .before .before .before .before .before .before .before .before .before .geometry .result)) (c .before .before .before .before .before .before .before .before .before .before .geometry .ensures) (c .before .before .before .before .before .before .before .before .before .before .before .before .before .before .before .before .before .before .before .args .old .now) _ (sym (c .before .before .before .before .before .k .given .1) ∙ c .before .before .before .before .before .before .before .find .ensures .0)), new-long (c .before .before .before .before .before .before .before .before .before .before .before .before .before .before .before .before .before .before .before .args .table .now) (c .before .before .before .before .before .before .before .before .before .before .before .before .before .before .before .before .before .before .before .args .old .now) (c .before .before .before .before .before .before .before .before .before .before .before .before .before .before .before .before .before .before .before .args .new .now) (c .before .before .before .before .before .before .before .before .before .before .before .before .before .before .before .before .before .before .before .args .answer .now) _ (c .before .before .before .before .before .before .before .before .before .before .before .before .before .early .ensures) (c .before .before .before .before .before .before .before .before .before .before .before .before .if1 .left))
+    (omega (arith, table-long (c .before .before .before .before .before .before .before .before .before .before .before .before .before .before .before .before .before .before .before .args .table .now) x (geometryOf (c .before .before .before .before .before .before .before .before .before .before .geometry .result)) (c .before .before .before .before .before .before .before .before .before .before .geometry .ensures), there-inside (c .before .before .before .before .before .before .before .before .before .before .before .before .before .before .before .before .before .before .before .args .table .now) x (geometryOf (c .before .before .before .before .before .before .before .before .before .before .geometry .result)) (c .before .before .before .before .before .before .before .before .before .before .geometry .ensures) (c .before .before .before .before .before .before .before .before .before .before .before .before .before .before .before .before .before .before .before .args .old .now) _ (ap answerOf (sym (c .before .before .before .before .before .k .given .1)) ∙ c .before .before .before .before .before .before .before .find .ensures)), new-long (c .before .before .before .before .before .before .before .before .before .before .before .before .before .before .before .before .before .before .before .args .table .now) (c .before .before .before .before .before .before .before .before .before .before .before .before .before .before .before .before .before .before .before .args .old .now) (c .before .before .before .before .before .before .before .before .before .before .before .before .before .before .before .before .before .before .before .args .new .now) (c .before .before .before .before .before .before .before .before .before .before .before .before .before .before .before .before .before .before .before .args .answer .now) _ (c .before .before .before .before .before .before .before .before .before .before .before .before .before .early .ensures) (c .before .before .before .before .before .before .before .before .before .before .before .before .if1 .left))
 
 -- src/lib.rt:73:5
 put-nothing-requires : tie.Need-put-nothing-requires
@@ -83,7 +84,7 @@ same-length-5 c = search needs
 
 -- src/lib.rt:57:1
 returns-4 : tie.Need-returns-4
-returns-4 c = done (c .before .before .before .before .before .before .before .before .before .before .before .before .before .before .before .before .before .before .before .before .before .before .before .before .before .before .args .table .now) (c .before .before .before .before .before .before .before .before .before .before .before .before .before .before .before .before .before .before .before .before .before .before .before .before .before .before .args .old .now) (c .before .before .before .before .before .before .before .before .before .before .before .before .before .before .before .before .before .before .before .before .before .before .before .before .before .before .args .new .now) (c .before .before .before .before .before .before .before .before .before .before .before .before .before .before .before .before .before .before .before .before .before .before .before .before .before .before .args .answer .now) _ (c .before .before .before .before .before .before .before .before .before .before .before .before .before .before .before .before .before .before .before .before .early .ensures) (c .before .before .before .before .before .before .before .before .before .before .before .before .before .before .before .before .before .before .before .if1 .left) (geometryOf (c .before .before .before .before .before .before .before .before .before .before .before .before .before .before .before .before .before .geometry .result)) (c .before .before .before .before .before .before .before .before .before .before .before .before .before .before .before .before .before .geometry .ensures) _ (sym (c .before .before .before .before .before .before .before .before .before .before .before .before .k .given .1) ∙ c .before .before .before .before .before .before .before .before .before .before .before .before .before .before .find .ensures .0) _ (c .before .before .before .before .before .before .before .before .before .on-volume .ensures) (c .before .before .before .before .before .before .before .before .if2 .left) _ _ (c .before .before .before .before .before .before .put-name .ensures) (c .before .before .put-nothing .ensures)
+returns-4 c = done (c .before .before .before .before .before .before .before .before .before .before .before .before .before .before .before .before .before .before .before .before .before .before .before .before .before .before .args .table .now) (c .before .before .before .before .before .before .before .before .before .before .before .before .before .before .before .before .before .before .before .before .before .before .before .before .before .before .args .old .now) (c .before .before .before .before .before .before .before .before .before .before .before .before .before .before .before .before .before .before .before .before .before .before .before .before .before .before .args .new .now) (c .before .before .before .before .before .before .before .before .before .before .before .before .before .before .before .before .before .before .before .before .before .before .before .before .before .before .args .answer .now) _ (c .before .before .before .before .before .before .before .before .before .before .before .before .before .before .before .before .before .before .before .before .early .ensures) (c .before .before .before .before .before .before .before .before .before .before .before .before .before .before .before .before .before .before .before .if1 .left) (geometryOf (c .before .before .before .before .before .before .before .before .before .before .before .before .before .before .before .before .before .geometry .result)) (c .before .before .before .before .before .before .before .before .before .before .before .before .before .before .before .before .before .geometry .ensures) _ (ap answerOf (sym (c .before .before .before .before .before .before .before .before .before .before .before .before .k .given .1)) ∙ c .before .before .before .before .before .before .before .before .before .before .before .before .before .before .find .ensures) _ (c .before .before .before .before .before .before .before .before .before .on-volume .ensures) (c .before .before .before .before .before .before .before .before .if2 .left) _ _ (c .before .before .before .before .before .before .put-name .ensures) (c .before .before .put-nothing .ensures)
 
 pub rename-spec : {M : Type 1} → statement M
 rename-spec =

@@ -1,14 +1,10 @@
-use mathlib.Core.List.{List}
-use mathlib.Core.Option.{Option}
 use mathlib.Core.Path.{refl, ap, _∙_}
 use native.Mathlib.Omega.{arith}
-use native.Mathlib.Nat.{mul-le-mul}
 use Rattle.model.specs.Model.{tracks}
 use Rattle.forms.specs.Forms.{geometryOf}
 use borrow.Author.Needs.{needs}
-use Rattle.model.specs.Model.{Run}
 use Rattle.grant.proofs.Choosing.{five-within, five-small, best-within, granted-one, granted-none, granted-more}
-use Rattle.grant.specs.Grant.{replyOf}
+use Rattle.grant.specs.Grant.{grantOf}
 use Rattle.grant.specs.Pass.{padded}
 use Rattle.grant.proofs.choose.Statement.{statement}
 use Rattle.grant.proofs.choose.Tie as tie
@@ -20,44 +16,39 @@ survey-for-requires c κs = let p = c .before .before .pre in ((p .0 .0, p .0 .1
 piece-requires : tie.Need-piece-requires
 piece-requires c κs =
     let top = c .before .before .before .before .before in
-    let w = top .pre .1 .3 in
+    let w = top .pre .1 .1 in
     best-within (w .0) (tracks (geometryOf (top .args .g))) (w .1 .apart) (top .pre .0 .0 .tracksMost) (omega arith) (c .before .before .survey-for .ensures (w .0) (w .1)) (omega arith)
 
-element-set-from-part : tie.Need-element-set-from-part
-element-set-from-part c = search needs
-
-mul-tracks : tie.Need-mul-tracks
-mul-tracks c =
-    let top = c .before .before .before .before .before .before in
-    omega (arith, mul-le-mul (top .pre .1 .1) (top .pre .0 .3))
+array-set-from-pieces : tie.Need-array-set-from-pieces
+array-set-from-pieces c = search needs
 
 returns : tie.Need-returns
 returns c =
     let top = c .before .before .before .before .before .before in
-    λ f x. rw (c .piece .ensures) (granted-one f (tracks (geometryOf (top .args .g))) (x .apart) (top .pre .0 .0 .tracksMost) (omega arith) (c .before .before .before .survey-for .ensures f x) (omega arith) (top .args .pieces .now) (top .pre .1 .2))
+    λ f x. rw (c .piece .ensures) (granted-one f (tracks (geometryOf (top .args .g))) (x .apart) (top .pre .0 .0 .tracksMost) (omega arith) (c .before .before .before .survey-for .ensures f x) (omega arith))
 
 sum-requires : tie.Need-sum-requires
 sum-requires c κs =
     let top = c .before .before .before .before .before in
-    let w = top .pre .1 .3 in
+    let w = top .pre .1 .1 in
     five-small (w .0) (tracks (geometryOf (top .args .g))) (w .1 .apart) (top .pre .0 .0 .tracksMost) (omega arith) (c .before .before .survey-for .ensures (w .0) (w .1)) (omega arith) (omega arith)
 
 returns-2 : tie.Need-returns-2
 returns-2 c =
     let top = c .before .before .before .before .before .before .before in
-    λ f x. granted-none f (tracks (geometryOf (top .args .g))) (x .apart) (top .pre .0 .0 .tracksMost) (omega arith) (c .before .before .before .before .survey-for .ensures f x) (omega arith) (omega arith) (top .args .pieces .now)
+    λ f x. granted-none f (tracks (geometryOf (top .args .g))) (x .apart) (top .pre .0 .0 .tracksMost) (omega arith) (c .before .before .before .before .survey-for .ensures f x) (omega arith) (omega arith)
 
 fill-requires : tie.Need-fill-requires
 fill-requires c κs =
-    let top = c .before .before .before .before .before .before .before .before in
-    let w = top .pre .1 .3 in
-    ((omega arith, omega arith, omega arith, omega arith, omega arith), (five-within (w .0) (tracks (geometryOf (top .args .g))) (w .1 .apart) (top .pre .0 .0 .tracksMost) (omega arith) (c .before .before .before .before .before .survey-for .ensures (w .0) (w .1)) (omega arith), top .pre .1 .2))
+    let top = c .before .before .before .before .before .before .before in
+    let w = top .pre .1 .1 in
+    (omega arith, omega arith, omega arith, omega arith, five-within (w .0) (tracks (geometryOf (top .args .g))) (w .1 .apart) (top .pre .0 .0 .tracksMost) (omega arith) (c .before .before .before .before .survey-for .ensures (w .0) (w .1)) (omega arith))
 
 returns-3 : tie.Need-returns-3
 returns-3 c =
-    let top = c .before .before .before .before .before .before .before .before .before in
+    let top = c .before .before .before .before .before .before .before .before in
     λ f x. c .fill .ensures
-    ∙ ap (λ (o : Option (List Run)). replyOf o (top .args .pieces .now)) (granted-more f (tracks (geometryOf (top .args .g))) (x .apart) (top .pre .0 .0 .tracksMost) (omega arith) (c .before .before .before .before .before .before .survey-for .ensures f x) (omega arith))
+    ∙ ap grantOf (granted-more f (tracks (geometryOf (top .args .g))) (x .apart) (top .pre .0 .0 .tracksMost) (omega arith) (c .before .before .before .before .before .survey-for .ensures f x) (omega arith))
 
 pub choose-spec : {M : Type 1} → statement M
 choose-spec =
@@ -65,8 +56,7 @@ choose-spec =
     (tie.spec
     survey-for-requires
     piece-requires
-    element-set-from-part
-    mul-tracks
+    array-set-from-pieces
     returns
     sum-requires
     returns-2

@@ -2,7 +2,6 @@ use mathlib.Core.Path.{_≡_, refl}
 use mathlib.Core.List.{[]}
 use Prim.Native.Nat.{_-_, _+_}
 use native.Mathlib.Omega.{arith}
-use native.Mathlib.Nat.{mul-le-mul}
 use borrow.Author.Needs.{needs}
 use lib.ListN.{getD, set}
 use Rattle.grant.proofs.Gathering.{Filling, filling-none, filling-next, filling-done}
@@ -11,16 +10,16 @@ use Rattle.grant.proofs.fill.Statement.{statement}
 use Rattle.grant.proofs.fill.Tie as tie
 
 abbrev Inv-loop : tie.InvT-loop
-Inv-loop u amount pieces₀ five rest₀ k₀ next₀ pieces rest k next = (next ≡ getD five k []) × Filling u amount five pieces₀ rest pieces k
+Inv-loop u amount five pieces₀ rest₀ k₀ next₀ pieces rest k next = (next ≡ getD five k []) × Filling u amount five rest pieces k
 
 abbrev μ-loop : tie.MeasureT-loop
-μ-loop u amount pieces₀ five rest₀ k₀ next₀ pieces rest k next = 5 - k
+μ-loop u amount five pieces₀ rest₀ k₀ next₀ pieces rest k next = 5 - k
 
 array-copy-out-next : tie.Need-array-copy-out-next Inv-loop μ-loop
 array-copy-out-next c = search needs
 
 loop-holds : tie.Need-loop-holds Inv-loop μ-loop
-loop-holds c = (refl, filling-none (c .before .args .u) (c .before .args .amount) (c .before .args .t1) (c .before .args .pieces .now) (omega arith) (c .before .pre .0 .4))
+loop-holds c = (refl, filling-none (c .before .args .u) (c .before .args .amount) (c .before .args .t1) (omega arith) (c .before .pre .3))
 
 array-read-loop : tie.Need-array-read-loop Inv-loop μ-loop
 array-read-loop c = search needs
@@ -31,13 +30,13 @@ array-read-piece c = search needs
 piece-requires : tie.Need-piece-requires Inv-loop μ-loop
 piece-requires c κs =
     let top = c .before .before .before in
-    part-within (top .args .u) (top .args .t1) (c .before .loop .k) (c .before .loop .next) (getD (c .before .loop .next) 1 0) (top .pre .1 .0) (c .before .loop .inv .0) (omega arith)
+    part-within (top .args .u) (top .args .t1) (c .before .loop .k) (c .before .loop .next) (getD (c .before .loop .next) 1 0) (top .pre .4) (c .before .loop .inv .0) (omega arith)
 
-mul-all : tie.Need-mul-all Inv-loop μ-loop
-mul-all c = search needs
+mul-pieces : tie.Need-mul-pieces Inv-loop μ-loop
+mul-pieces c = search needs
 
-element-set-from-all : tie.Need-element-set-from-all Inv-loop μ-loop
-element-set-from-all c = search needs
+array-set-from-pieces : tie.Need-array-set-from-pieces Inv-loop μ-loop
+array-set-from-pieces c = search needs
 
 array-read-rest : tie.Need-array-read-rest Inv-loop μ-loop
 array-read-rest c = search needs
@@ -53,7 +52,7 @@ mul-next c = search needs
 
 -- a candidate taken whole
 turn : (c : tie.After-piece Inv-loop μ-loop)
-    → Filling (c .before .before .before .before .args .u) (c .before .before .before .before .args .amount) (c .before .before .before .before .args .t1) (c .before .before .before .before .args .pieces .now)
+    → Filling (c .before .before .before .before .args .u) (c .before .before .before .before .args .amount) (c .before .before .before .before .args .t1)
     (c .before .before .loop .rest - getD (c .before .before .loop .next) 1 0) (set (c .before .before .loop .pieces) (c .before .before .loop .k) (c .piece .result)) (c .before .before .loop .k + 1)
 turn c =
     let top = c .before .before .before .before in
@@ -61,7 +60,7 @@ turn c =
     let k = c .before .before .loop .k in
     let e : c .before .before .loop .next ≡ getD five k [] = c .before .before .loop .inv .0 in
     rw (c .piece .ensures, e)
-    (filling-next (c .before .before .loop .inv .1) (search needs) (top .pre .1 .1) (rw e at (c .before .loop-test .taken)))
+    (filling-next (c .before .before .loop .inv .1) (search needs) (rw e at (c .before .loop-test .taken)))
 
 array-copy-out-next-2 : tie.Need-array-copy-out-next-2 Inv-loop μ-loop
 array-copy-out-next-2 c = turn c .few
@@ -75,21 +74,13 @@ loop-again c = (refl, turn (c .before))
 piece-requires-2 : tie.Need-piece-requires-2 Inv-loop μ-loop
 piece-requires-2 c κs =
     let top = c .before .before .before in
-    part-within (top .args .u) (top .args .t1) (c .before .loop .k) (c .before .loop .next) (c .before .loop .rest) (top .pre .1 .0) (c .before .loop .inv .0) (c .loop-test .left)
+    part-within (top .args .u) (top .args .t1) (c .before .loop .k) (c .before .loop .next) (c .before .loop .rest) (top .pre .4) (c .before .loop .inv .0) (c .loop-test .left)
 
-mul-last : tie.Need-mul-last Inv-loop μ-loop
-mul-last c = search needs
+mul-pieces-2 : tie.Need-mul-pieces-2 Inv-loop μ-loop
+mul-pieces-2 c = search needs
 
-element-set-from-last : tie.Need-element-set-from-last Inv-loop μ-loop
-element-set-from-last c = search needs
-
-add-count : tie.Need-add-count Inv-loop μ-loop
-add-count c = search needs
-
-mul-tracks : tie.Need-mul-tracks Inv-loop μ-loop
-mul-tracks c =
-    let top = c .before .before .before .before in
-    omega (arith, mul-le-mul (top .pre .0 .3) (top .pre .0 .1))
+array-set-from-pieces-2 : tie.Need-array-set-from-pieces-2 Inv-loop μ-loop
+array-set-from-pieces-2 c = search needs
 
 returns : tie.Need-returns Inv-loop μ-loop
 returns c =
@@ -97,7 +88,7 @@ returns c =
     let five = top .args .t1 in
     let k = c .before .before .loop .k in
     let e : c .before .before .loop .next ≡ getD five k [] = c .before .before .loop .inv .0 in
-    rw (c .piece2 .ensures, e) (filling-done (c .before .before .loop .inv .1) (search needs) (top .pre .1 .1) (rw e at (c .before .loop-test .left)))
+    rw (c .piece2 .ensures, e) (filling-done (c .before .before .loop .inv .1) (search needs) (rw e at (c .before .loop-test .left)))
 
 pub fill-spec : {M : Type 1} → statement M
 fill-spec =
@@ -110,8 +101,8 @@ fill-spec =
     array-read-loop
     array-read-piece
     piece-requires
-    mul-all
-    element-set-from-all
+    mul-pieces
+    array-set-from-pieces
     array-read-rest
     sub-rest
     add-k
@@ -120,8 +111,6 @@ fill-spec =
     loop-less
     loop-again
     piece-requires-2
-    mul-last
-    element-set-from-last
-    add-count
-    mul-tracks
+    mul-pieces-2
+    array-set-from-pieces-2
     returns)

@@ -4,7 +4,7 @@ use native.Mathlib.Omega.{arith}
 use Rattle.forms.specs.Forms.{geometryOf}
 use Rattle.label_check.specs.Label.{goodThird}
 use Rattle.label_check.proofs.Shape.{one-few}
-use Rattle.label_check.proofs.Laws.{form-wrong, form-few, form-many, numbered, third-positive}
+use Rattle.label_check.proofs.Laws.{form-wrong, form-few, form-many, third-positive}
 use borrow.Author.Needs.{needs}
 use Rattle.label_check.proofs.shape_of.Statement.{statement}
 use Rattle.label_check.proofs.shape_of.Tie as tie
@@ -26,7 +26,7 @@ one-ok-requires c κs = search needs
 
 -- src/lib.rt:73:9
 returns : tie.Need-returns
-returns c = numbered _ _ _ _ (form-wrong (geometryOf (c .before .before .before .before .args .g)) (c .before .before .before .before .args .table .now) (c .before .before .before .before .args .k) (c .before .before .record-at .result .now) (c .before .before .record-at .ensures .0) (sym (c .before .one-ok .ensures) ∙ c .if1 .left))
+returns c = form-wrong (geometryOf (c .before .before .before .before .args .g)) (c .before .before .before .before .args .table .now) (c .before .before .before .before .args .k) (c .before .before .record-at .result .now) (c .before .before .record-at .ensures .0) (sym (c .before .one-ok .ensures) ∙ c .if1 .left)
 
 -- src/lib.rt:75:26
 shared-slice-read-wide : tie.Need-shared-slice-read-wide
@@ -46,11 +46,11 @@ few-ok-requires c κs = search needs
 
 -- src/lib.rt:78:13
 returns-2 : tie.Need-returns-2
-returns-2 c = numbered _ _ _ _ (form-few (geometryOf (c .before .before .before .before .before .before .before .before .before .args .g)) (c .before .before .before .before .before .before .before .before .before .args .table .now) (c .before .before .before .before .before .before .before .before .before .args .k) (c .before .before .before .before .before .before .before .record-at .result .now) (c .before .before .before .before .before .before .before .record-at .ensures .0) (c .before .before .before .wide .result) (sym (c .before .before .before .before .before .before .one-ok .ensures) ∙ c .before .before .before .before .before .if1 .taken) (c .before .before .before .wide .ensures .0) true (c .before .before .if2 .taken) (sym (c .before .few-ok .ensures) ∙ c .if3 .taken))
+returns-2 c = form-few (geometryOf (c .before .before .before .before .before .before .before .before .before .args .g)) (c .before .before .before .before .before .before .before .before .before .args .table .now) (c .before .before .before .before .before .before .before .before .before .args .k) (c .before .before .before .before .before .before .before .record-at .result .now) (c .before .before .before .before .before .before .before .record-at .ensures .0) (c .before .before .before .wide .result) (sym (c .before .before .before .before .before .before .one-ok .ensures) ∙ c .before .before .before .before .before .if1 .taken) (c .before .before .before .wide .ensures .0) true (c .before .before .if2 .taken) (sym (c .before .few-ok .ensures) ∙ c .if3 .taken)
 
 -- src/lib.rt:80:9
 returns-3 : tie.Need-returns-3
-returns-3 c = numbered _ _ _ _ (form-few (geometryOf (c .before .before .before .before .before .before .before .before .before .args .g)) (c .before .before .before .before .before .before .before .before .before .args .table .now) (c .before .before .before .before .before .before .before .before .before .args .k) (c .before .before .before .before .before .before .before .record-at .result .now) (c .before .before .before .before .before .before .before .record-at .ensures .0) (c .before .before .before .wide .result) (sym (c .before .before .before .before .before .before .one-ok .ensures) ∙ c .before .before .before .before .before .if1 .taken) (c .before .before .before .wide .ensures .0) false (c .before .before .if2 .taken) (sym (c .before .few-ok .ensures) ∙ c .if3 .left))
+returns-3 c = form-few (geometryOf (c .before .before .before .before .before .before .before .before .before .args .g)) (c .before .before .before .before .before .before .before .before .before .args .table .now) (c .before .before .before .before .before .before .before .before .before .args .k) (c .before .before .before .before .before .before .before .record-at .result .now) (c .before .before .before .before .before .before .before .record-at .ensures .0) (c .before .before .before .wide .result) (sym (c .before .before .before .before .before .before .one-ok .ensures) ∙ c .before .before .before .before .before .if1 .taken) (c .before .before .before .wide .ensures .0) false (c .before .before .if2 .taken) (sym (c .before .few-ok .ensures) ∙ c .if3 .left)
 
 -- src/lib.rt:82:9
 third-of-requires : tie.Need-third-of-requires
@@ -60,13 +60,13 @@ third-of-requires c κs = (c .before .before .before .before .before .record-at 
 returns-4 : tie.Need-returns-4
 returns-4 c =
     let m = form-many (geometryOf (c .before .before .before .before .before .before .before .before .before .args .g)) (c .before .before .before .before .before .before .before .before .before .args .table .now) (c .before .before .before .before .before .before .before .before .before .args .k) (c .before .before .before .before .before .before .before .record-at .result .now) (c .before .before .before .before .before .before .before .record-at .ensures .0) (c .before .before .before .wide .result) (sym (c .before .before .before .before .before .before .one-ok .ensures) ∙ c .before .before .before .before .before .if1 .taken) (c .before .before .before .wide .ensures .0) (c .before .third-of .result) (c .before .before .if2 .left) (c .before .third-of .ensures) in
-    numbered _ _ _ _ (ap goodThird (sym (c .if4 .taken)) ∙ m)
+    ap goodThird (sym (c .if4 .taken)) ∙ m
 
 -- src/lib.rt:67:1
 returns-5 : tie.Need-returns-5
 returns-5 c =
     let m = form-many (geometryOf (c .before .before .before .before .before .before .before .before .before .args .g)) (c .before .before .before .before .before .before .before .before .before .args .table .now) (c .before .before .before .before .before .before .before .before .before .args .k) (c .before .before .before .before .before .before .before .record-at .result .now) (c .before .before .before .before .before .before .before .record-at .ensures .0) (c .before .before .before .wide .result) (sym (c .before .before .before .before .before .before .one-ok .ensures) ∙ c .before .before .before .before .before .if1 .taken) (c .before .before .before .wide .ensures .0) (c .before .third-of .result) (c .before .before .if2 .left) (c .before .third-of .ensures) in
-    numbered _ _ _ _ (third-positive (c .before .third-of .result) (c .if4 .left) ∙ m)
+    third-positive (c .before .third-of .result) (c .if4 .left) ∙ m
 
 pub shape-of-spec : {M : Type 1} → statement M
 shape-of-spec =

@@ -1,4 +1,4 @@
-use Rattle.names.proofs.Laws.{hit, miss, done, numbered}
+use Rattle.names.proofs.Laws.{hit, miss, done}
 use Rattle.names.specs.Find.{findSlot, firstNamed}
 use native.Mathlib.Omega.{arith}
 use native.Mathlib.Nat.{sub-zero}
@@ -33,7 +33,7 @@ is-named-requires c κs = search needs
 
 -- src/lib.rt:35:13
 returns : tie.Need-returns Inv-loop μ-loop
-returns c = numbered _ _ _ _ (sym (c .before .before .before .before .loop .inv .0 ∙ hit _ _ _ _ (c .before .before .before .loop-test .taken) cc))
+returns c = sym (c .before .before .before .before .loop .inv .0 ∙ hit _ _ _ _ (c .before .before .before .loop-test .taken) cc)
 
 -- src/lib.rt:37:9
 add-k : tie.Need-add-k Inv-loop μ-loop
@@ -49,7 +49,7 @@ loop-again c = (c .before .before .before .before .loop .inv .0 ∙ miss _ _ _ _
 
 -- src/lib.rt:28:1
 returns-2 : tie.Need-returns-2 Inv-loop μ-loop
-returns-2 c = numbered _ _ _ _ (sym (c .before .loop .inv .0 ∙ done _ _ _ _ (c .loop-test .left)))
+returns-2 c = sym (c .before .loop .inv .0 ∙ done _ _ _ _ (c .loop-test .left))
 
 pub find-spec : {M : Type 1} → statement M
 find-spec =

@@ -1,5 +1,4 @@
-use Rattle.names.specs.Find.{isNothing}
-use Rattle.names.specs.declared.Found.{Found}
+use Rattle.names.specs.Find.{Answer, answerOf, isNothing}
 use mathlib.Core.Bool.{not}
 use mathlib.Core.Path.{sym, ap, _∙_}
 use borrow.Author.Needs.{needs}
@@ -16,10 +15,10 @@ enum-told : tie.Need-enum-told
 enum-told c = search needs
 
 returns : tie.Need-returns
-returns c = ap (λ (x : Found). not (isNothing x)) (sym (c .enum-told .given .1) ∙ c .before .before .find .ensures .0)
+returns c = ap (λ (x : Answer). not (isNothing x)) (ap answerOf (sym (c .enum-told .given .1)) ∙ c .before .before .find .ensures)
 
 returns-2 : tie.Need-returns-2
-returns-2 c = ap (λ (x : Found). not (isNothing x)) (sym (c .before .k .given .1) ∙ c .before .before .before .find .ensures .0)
+returns-2 c = ap (λ (x : Answer). not (isNothing x)) (ap answerOf (sym (c .before .k .given .1)) ∙ c .before .before .before .find .ensures)
 
 pub on-volume-spec : {M : Type 1} → statement M
 on-volume-spec = tie.close (tie.spec find-requires enum-known-k enum-told returns returns-2)

@@ -12,20 +12,20 @@ cast-all-free c = search needs
 all-free-requires : tie.Need-all-free-requires
 all-free-requires c κs = search needs
 
-cast-t9 : tie.Need-cast-t9
-cast-t9 c = search needs
-
 cast-t10 : tie.Need-cast-t10
 cast-t10 c = search needs
 
-element-set-from-pieces : tie.Need-element-set-from-pieces
-element-set-from-pieces c = search needs
+cast-t11 : tie.Need-cast-t11
+cast-t11 c = search needs
+
+array-set-from-pieces : tie.Need-array-set-from-pieces
+array-set-from-pieces c = search needs
 
 returns : tie.Need-returns
-returns c = exact-yes (c .before .before .before .args .map .now) (c .before .before .before .args .start) (c .before .before .before .args .n) (c .before .all-free .result) (c .before .all-free .ensures) (c .before .before .before .args .pieces .now) (c .if1 .taken) (c .before .before .before .pre .3)
+returns c = exact-yes (c .before .before .before .args .map .now) (c .before .before .before .args .start) (c .before .before .before .args .n) (c .before .all-free .result) (c .before .all-free .ensures) (c .if1 .taken)
 
 returns-2 : tie.Need-returns-2
-returns-2 c = exact-no (c .before .before .before .args .map .now) (c .before .before .before .args .start) (c .before .before .before .args .n) (c .before .all-free .result) (c .before .all-free .ensures) (c .before .before .before .args .pieces .now) (c .if1 .left)
+returns-2 c = exact-no (c .before .before .before .args .map .now) (c .before .before .before .args .start) (c .before .before .before .args .n) (c .before .all-free .result) (c .before .all-free .ensures) (c .if1 .left)
 
 pub exact-spec : {M : Type 1} → statement M
 exact-spec =
@@ -34,8 +34,8 @@ exact-spec =
     add-all-free
     cast-all-free
     all-free-requires
-    cast-t9
     cast-t10
-    element-set-from-pieces
+    cast-t11
+    array-set-from-pieces
     returns
     returns-2)
