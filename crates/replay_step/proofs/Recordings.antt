@@ -5,12 +5,12 @@ use mathlib.Core.Bool.{true, false, cond, _&&_}
 use mathlib.Core.List.{List, [], _∷_, _++_}
 use Prim.Native.Nat.{ℕ, _+_, _-_, _*_, _≤_}
 use native.Mathlib.Omega.{arith}
-use borrow.Author.Tests.{eq-eqb, eqb-false}
-use lib.Dec.{T, eqb, leb, leb→le}
+use borrow.Author.Tests.{eq-eqb, eqb-false, ne-eqb}
+use lib.Dec.{T, eqb, leb, eqb→eq, leb→le}
 use lib.ListN.{length, take, drop, length-append, length-drop}
 use lib.Seq.{length-take-le, take-at}
 use Rattle.model.specs.Model.{Geometry, slots}
-use Rattle.model.proofs.Lists.{All, and-l, and-r, by}
+use Rattle.model.proofs.Lists.{All, and-l, and-r, by, true-is}
 use Rattle.rules.specs.Demand3.{Demand3, Did, Ran, initialises, tableAfter, tableThen}
 use Rattle.rules.specs.Entries.{Lent, initialise, perform}
 use Rattle.rules.specs.Table.{limits}
@@ -22,33 +22,99 @@ use Rattle.replay_step.specs.Recording.{Calls, buffers, callOf, deedOf, 
 
 -- ---- one record
 
+-- past a number that it is not
+past : (k n : ℕ) → k ≤ n → eqb n k ≡ false → k + 1 ≤ n
+past k n h e = let z = eqb-false n k e in omega arith
+
+-- no other number is 7
+not-seven : (n k : ℕ) → eqb n k ≡ true → (k ≡ 7 → ⊥) → eqb n 7 ≡ false
+not-seven n k e h = ne-eqb n 7 (λ q. h (sym (eqb→eq n k (true-is e)) ∙ q))
+
 module _ (r t : List ℕ) (some : T (leb 1 (operation r) && leb (operation r) 8)) where
   eight : eqb (operation r) 1 ≡ false → eqb (operation r) 2 ≡ false → eqb (operation r) 3 ≡ false → eqb (operation r) 4 ≡ false
       → eqb (operation r) 5 ≡ false → eqb (operation r) 6 ≡ false → eqb (operation r) 7 ≡ false → eqb (operation r) 8 ≡ true
   eight e₁ e₂ e₃ e₄ e₅ e₆ e₇ =
-      let a = leb→le 1 (operation r) (and-l (leb 1 (operation r)) (leb (operation r) 8) some) in
-      let b = leb→le (operation r) 8 (and-r (leb 1 (operation r)) (leb (operation r) 8) some) in
-      let n₁ = eqb-false (operation r) 1 e₁ in
-      let n₂ = eqb-false (operation r) 2 e₂ in
-      let n₃ = eqb-false (operation r) 3 e₃ in
-      let n₄ = eqb-false (operation r) 4 e₄ in
-      let n₅ = eqb-false (operation r) 5 e₅ in
-      let n₆ = eqb-false (operation r) 6 e₆ in
-      let n₇ = eqb-false (operation r) 7 e₇ in
-      eq-eqb (operation r) 8 (omega arith)
+      let n = operation r in
+      let a : 1 ≤ n = leb→le 1 n (and-l (leb 1 n) (leb n 8) some) in
+      let b : n ≤ 8 = leb→le n 8 (and-r (leb 1 n) (leb n 8) some) in
+      let c : 8 ≤ n = past 7 n (past 6 n (past 5 n (past 4 n (past 3 n (past 2 n (past 1 n a e₁) e₂) e₃) e₄) e₅) e₆) e₇ in
+      eq-eqb n 8 (omega arith)
 
   -- what the record does with the table is what its call does with the lent bytes
   done-table : done r t .after .table ≡ made r t .after .table ++ drop (tableLent r) t
   unfolding done operated laterOp initialised called obtained
   done-table =
-      by (eqb (operation r) 1) (λ e. rw e)
-      (λ e₁. by (eqb (operation r) 2) (λ e. rw (e₁, e))
-      (λ e₂. by (eqb (operation r) 3) (λ e. rw (e₁, e₂, e))
-      (λ e₃. by (eqb (operation r) 4) (λ e. rw (e₁, e₂, e₃, e))
-      (λ e₄. by (eqb (operation r) 5) (λ e. rw (e₁, e₂, e₃, e₄, e))
-      (λ e₅. by (eqb (operation r) 6) (λ e. rw (e₁, e₂, e₃, e₄, e₅, e))
-      (λ e₆. by (eqb (operation r) 7) (λ e. rw (e₁, e₂, e₃, e₄, e₅, e₆, e))
+      let n = operation r in
+      by (eqb n 1) (λ e. rw (e, not-seven n 1 e (λ z. omega arith)))
+      (λ e₁. by (eqb n 2) (λ e. rw (e₁, e, not-seven n 2 e (λ z. omega arith)))
+      (λ e₂. by (eqb n 3) (λ e. rw (e₁, e₂, e, not-seven n 3 e (λ z. omega arith)))
+      (λ e₃. by (eqb n 4) (λ e. rw (e₁, e₂, e₃, e, not-seven n 4 e (λ z. omega arith)))
+      (λ e₄. by (eqb n 5) (λ e. rw (e₁, e₂, e₃, e₄, e, not-seven n 5 e (λ z. omega arith)))
+      (λ e₅. by (eqb n 6) (λ e. rw (e₁, e₂, e₃, e₄, e₅, e, not-seven n 6 e (λ z. omega arith)))
+      (λ e₆. by (eqb n 7) (λ e. rw (e₁, e₂, e₃, e₄, e₅, e₆, e))
       (λ e₇. rw (e₁, e₂, e₃, e₄, e₅, e₆, e₇, eight e₁ e₂ e₃ e₄ e₅ e₆ e₇))))))))
 
 did : (r t : List ℕ) → Did (deedOf r t) (take (tableLent r) t) (eventOf r t)
 did r t = by (eqb (operation r) 1) (λ e. rw e) (λ e. rw e)
+
+-- the table keeps its length, and an initialise that is refused leaves it
+made-length : (r t : List ℕ) → length (made r t .after .table) ≡ length (take (tableLent r) t)
+made-length r t =
+    by (eqb (operation r) 1)
+    (λ e. rw e (initialise-length (geometryAsked r) (buffers r t)))
+    (λ e. rw e (perform-length (buffers r t) (callOf (operation r) r)))
+
+begun-then : (g : Geometry) (b : Lent) → tableThen (initialises (b .table) g) (initialise g b .number) (b .table) (initialise g b .after .table) ≡ initialise g b .after .table
+unfolding initialise
+begun-then g b =
+    by (limits g)
+    (λ l. by (eqb (length (b .table)) (slots g * 140) && eqb (length (b .answer)) 24) (λ u. rw (l, u)) (λ u. rw (l, u)))
+    (λ l. rw l)
+
+made-then : (r t : List ℕ) → tableThen (deedOf r t) (made r t .number) (take (tableLent r) t) (made r t .after .table) ≡ made r t .after .table
+made-then r t = by (eqb (operation r) 1) (λ e. rw e (begun-then (geometryAsked r) (buffers r t))) (λ e. rw e)
+
+module _ (n : ℕ) (r t : List ℕ) (c : Calls n r) (u : n ≤ length t) where
+  after-long : length (made r t .after .table) ≡ n
+  after-long = made-length r t ∙ ap (λ (k : ℕ). length (take k t)) (c .1) ∙ length-take-le n t u
+
+  played-is : played r t .table ≡ made r t .after .table ++ drop n t
+  unfolding played
+  played-is = done-table r t (c .0) ∙ ap (λ (k : ℕ). made r t .after .table ++ drop k t) (c .1)
+
+  played-long : length (played r t .table) ≡ length t
+  played-long =
+      let a = ap length played-is in
+      let b = length-append (made r t .after .table) (drop n t) in
+      let d = after-long in
+      let e = length-drop n t in
+      omega arith
+
+  next-table : tableThen (deedOf r t) (made r t .number) (take n t) (made r t .after .table) ≡ take n (played r t .table)
+  next-table =
+      ap (λ (k : ℕ). tableThen (deedOf r t) (made r t .number) (take k t) (made r t .after .table)) (sym (c .1))
+      ∙ made-then r t
+      ∙ sym (take-at (made r t .after .table) (drop n t) n after-long)
+      ∙ ap (take n) (sym played-is)
+
+-- ---- a recording
+
+pub recording-ran : (n : ℕ) (rs : List (List ℕ)) (t : List ℕ) → n ≤ length t → All (Calls n) rs
+    → Ran (take n t) (eventsOf rs t) × (tableAfter (take n t) (eventsOf rs t) ≡ take n (tableLeft rs t))
+recording-ran n [] t u a = (tt, refl)
+recording-ran n (r ∷ rs) t u a =
+    let next = next-table n r t (a .0) u in
+    let long = played-long n r t (a .0) u in
+    let i = recording-ran n rs (played r t .table) (omega arith) (a .1) in (
+      (
+        subst (λ (k : ℕ). Did (deedOf r t) (take k t) (eventOf r t)) (a .0 .1) (did r t),
+        subst (λ (x : List ℕ). Ran x (eventsOf rs (played r t .table))) (sym next) (i .0),
+      ),
+      ap (λ (x : List ℕ). tableAfter x (eventsOf rs (played r t .table))) next ∙ i .1,
+    )
+
+-- WHAT REPLAY LEAVES HAS THE THEOREM'S FACTS
+pub recording-holds : (n : ℕ) (rs : List (List ℕ)) (t : List ℕ) → n ≤ length t → All (Calls n) rs
+    → Demand3 (take n t) (eventsOf rs t) × (tableAfter (take n t) (eventsOf rs t) ≡ take n (tableLeft rs t))
+recording-holds n rs t u a =
+    let x = recording-ran n rs t u a in (any-list (take n t) (eventsOf rs t) (x .0), x .1)
