@@ -22,9 +22,9 @@ pub extern "C" fn vtoc_initialise(
     call_initialise::initialise(table, c, h, d, s, v, answer)
 }
 
-// Allocates tracks to a new data set. The refusals, in the order of `perform` and `allocate₁`: 2 length, 3 VTOC unsound,
+// Allocates tracks to a new data set. The refusals, in the order of `perform` and `rule`: 2 length, 3 VTOC unsound,
 // 4 name, 7 amount, 6 duplicate, 9 no space, 11 VTOC full. The pieces are those of `grant`, the table that of the volume
-// which `settleWith` leaves, the answer `answer (granted pieces)`.
+// which `added` leaves, the answer `answer (granted pieces)`.
 #[no_mangle]
 pub extern "C" fn vtoc_allocate(
     table: &mut [u8],
@@ -50,7 +50,7 @@ pub extern "C" fn vtoc_allocate(
     )
 }
 
-// Extends a data set by its secondary amount. The refusals, in the order of `perform` and `extend₁`: 2, 3, 4, 5 not found,
+// Extends a data set by its secondary amount. The refusals, in the order of `perform` and `rule`: 2, 3, 4, 5 not found,
 // 8 no secondary, 9 no space, 10 extents, 11 VTOC full. Pieces, table and answer as for allocate.
 #[no_mangle]
 pub extern "C" fn vtoc_extend(table: &mut [u8], name: &[u8], answer: &mut [u8]) -> u32
@@ -59,8 +59,8 @@ pub extern "C" fn vtoc_extend(table: &mut [u8], name: &[u8], answer: &mut [u8]) 
     call_extend::extend(table, name, answer)
 }
 
-// Releases the tracks behind the last block, ttr. The refusals, in the order of `perform` and `release₁`: 2, 3, 4, 5 not
-// found, 12 TTR, 11 VTOC full. The extents are those that `keep` leaves, the table that of the volume which `settleWith`
+// Releases the tracks behind the last block, ttr. The refusals, in the order of `perform` and `rule`: 2, 3, 4, 5 not
+// found, 12 TTR, 11 VTOC full. The extents are those that `keep` leaves, the table that of the volume which `changed`
 // leaves, the answer `answer (givenBack n)`, n being the tracks of the set less TT + 1.
 #[no_mangle]
 pub extern "C" fn vtoc_release(table: &mut [u8], name: &[u8], ttr: u32, answer: &mut [u8]) -> u32
@@ -69,8 +69,8 @@ pub extern "C" fn vtoc_release(table: &mut [u8], name: &[u8], ttr: u32, answer: 
     call_release::release(table, name, ttr, answer)
 }
 
-// Scratches a data set. The refusals, in the order of `perform` and `scratch₁`: 2, 3, 4, 5 not found. The table is that of the
-// volume which `settle` leaves without the set, the answer `answer (givenBack n)`, n being all its tracks.
+// Scratches a data set. The refusals, in the order of `perform` and `rule`: 2, 3, 4, 5 not found. The table is that of the
+// volume that `removed` leaves, the answer `answer (givenBack n)`, n being all its tracks.
 #[no_mangle]
 pub extern "C" fn vtoc_scratch(table: &mut [u8], name: &[u8], answer: &mut [u8]) -> u32
     ensures { λ r. ⌜ Scratches (now (table .entry)) (now (name .entry)) (now (answer .entry)) r (now (table .exit)) (now (answer .exit)) ⌝ }
@@ -78,7 +78,7 @@ pub extern "C" fn vtoc_scratch(table: &mut [u8], name: &[u8], answer: &mut [u8])
     call_scratch::scratch(table, name, answer)
 }
 
-// Renames a data set. The refusals, in the order of `perform` and `rename₁`: 2, 3, 4 (either name), 5 not found (the old one),
+// Renames a data set. The refusals, in the order of `perform` and `rule`: 2, 3, 4 (either name), 5 not found (the old one),
 // 6 duplicate. The table is that of the volume whose label is `withName new`: its 44 name bytes are the new name's, and no
 // other byte changes. The answer is 24 zeros.
 #[no_mangle]
@@ -88,8 +88,8 @@ pub extern "C" fn vtoc_rename(table: &mut [u8], old: &[u8], new: &[u8], answer: 
     call_rename::rename(table, old, new, answer)
 }
 
-// Obtains the labels of a data set. The refusals, in the order of `perform` and `obtain₁`: 2, 3, 4, 5 not found. The 280 label
-// bytes are those of `labelsAfter`: `format1` of the label, then its `format3` or zeros. The answer is 24 zeros; the table is
+// Obtains the labels of a data set. The refusals, in the order of `perform` and `rule`: 2, 3, 4, 5 not found. The 280 label
+// bytes are those of `extraAfter`: `format1` of the label, then its `format3` or zeros. The answer is 24 zeros; the table is
 // only read.
 #[no_mangle]
 pub extern "C" fn vtoc_obtain(
