@@ -1,9 +1,9 @@
 -- The records of a recording make a list of demand 3, so that the table which replay leaves has the theorem's facts.
 -- Assumes nothing.
 use mathlib.Core.Path.{_≡_, refl, sym, ap, _∙_, subst}
-use mathlib.Core.Bool.{true, false, cond, _&&_}
+use mathlib.Core.Bool.{true, false, _&&_}
 use mathlib.Core.List.{List, [], _∷_, _++_}
-use Prim.Native.Nat.{ℕ, _+_, _-_, _*_, _≤_}
+use Prim.Native.Nat.{ℕ, _+_, _*_, _≤_}
 use native.Mathlib.Omega.{arith}
 use borrow.Author.Tests.{eq-eqb, eqb-false, ne-eqb}
 use lib.Dec.{T, eqb, leb, eqb→eq, leb→le}
@@ -12,7 +12,7 @@ use lib.Seq.{length-take-le, take-at}
 use Rattle.model.specs.Model.{Geometry, slots}
 use Rattle.model.proofs.Lists.{All, and-l, and-r, by, true-is}
 use Rattle.rules.specs.Demand3.{Demand3, Did, Ran, initialises, tableAfter, tableThen}
-use Rattle.rules.specs.Entries.{Lent, initialise, perform}
+use Rattle.rules.specs.Entries.{Lent, initialise}
 use Rattle.rules.specs.Table.{limits}
 use Rattle.rules.proofs.Performed.{initialise-length, perform-length}
 use Rattle.rules.proofs.Theorem.{any-list}

@@ -8,7 +8,6 @@ use lib.Dec.{T, eqb}
 use lib.ListN.{getD, take}
 use Rattle.model.specs.Basics.{within}
 use Rattle.model.specs.Model.{Geometry}
-use Rattle.model.proofs.Lists.{All}
 use Rattle.rules.specs.Calls.{Call, allocate, extend, lspace, obtain, release, rename, scratch}
 use Rattle.rules.specs.Contracts.{geometry}
 use Rattle.rules.specs.Demand3.{Deed, Event, initialises, performs}

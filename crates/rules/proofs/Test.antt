@@ -181,13 +181,13 @@ test→ v t =
       slotOnce = λ k. elim (decLe 1 (tally k (v .chain))) [
         | yes u ↦ (let x = member (OwnSlot v) (v .chain) own k u .0 in omega arith)
         | no u ↦ elim (decLe (slots g) k) [
-            | yes w ↦ (let z = inside k w in omega arith)
-            | no w ↦
-                let z = leb→le (tally k us) 1 (All-range (λ k. T (leb (tally k us) 1)) 0 (slots g) (all→ (λ k. leb (tally k us) 1) (upFrom 0 (slots g)) d) k (omega arith) (let w′ = lt-of-not-le w in omega arith)) in
-                let x = split-used v k in
-                let u′ = lt-of-not-le u in
-                omega arith
-          ]
+          | yes w ↦ (let z = inside k w in omega arith)
+          | no w ↦
+              let z = leb→le (tally k us) 1 (All-range (λ k. T (leb (tally k us) 1)) 0 (slots g) (all→ (λ k. leb (tally k us) 1) (upFrom 0 (slots g)) d) k (omega arith) (let w′ = lt-of-not-le w in omega arith)) in
+              let x = split-used v k in
+              let u′ = lt-of-not-le u in
+              omega arith
+        ]
       ];
       slotIn = inside;
       ascending = ascending→ ls f;
