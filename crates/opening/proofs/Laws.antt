@@ -11,7 +11,7 @@ use Rattle.model.proofs.Lists.{find-All, same→eq, true-is}
 use Rattle.rules.specs.Layout.{encode, format1, format3, link}
 use Rattle.rules.specs.Reading.{chop, read, readGeometry}
 use Rattle.rules.specs.Slots.{found}
-use Rattle.rules.specs.Table.{taken}
+use Rattle.rules.specs.Table.{named, taken}
 use Rattle.rules.proofs.Keyed.{find-pass}
 use Rattle.rules.proofs.LabelBack.{length-1}
 use Rattle.rules.proofs.Taken.{taken-is}
