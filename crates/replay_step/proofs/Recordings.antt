@@ -18,7 +18,7 @@ use Rattle.rules.proofs.Performed.{initialise-length, perform-length}
 use Rattle.rules.proofs.Theorem.{any-list}
 use Rattle.recorded.specs.Asked.{tableLent}
 use Rattle.replay_step.specs.Play.{called, done, initialised, laterOp, obtained, operated, played}
-use Rattle.replay_step.specs.Recording.{Calls, buffers, callOf, deedOf, eventOf, eventsOf, geometryAsked, made, operation, tableLeft}
+use Rattle.replay_step.specs.Recording.{MakesCall, buffers, callOf, deedOf, eventOf, eventsOf, geometryAsked, made, operation, tableLeft}
 
 -- ---- one record
 
@@ -74,7 +74,7 @@ begun-then g b =
 made-then : (r t : List ℕ) → tableThen (deedOf r t) (made r t .number) (take (tableLent r) t) (made r t .after .table) ≡ made r t .after .table
 made-then r t = by (eqb (operation r) 1) (λ e. rw e (begun-then (geometryAsked r) (buffers r t))) (λ e. rw e)
 
-module _ (n : ℕ) (r t : List ℕ) (c : Calls n r) (u : n ≤ length t) where
+module _ (n : ℕ) (r t : List ℕ) (c : MakesCall n r) (u : n ≤ length t) where
   after-long : length (made r t .after .table) ≡ n
   after-long = made-length r t ∙ ap (λ (k : ℕ). length (take k t)) (c .1) ∙ length-take-le n t u
 
@@ -99,7 +99,7 @@ module _ (n : ℕ) (r t : List ℕ) (c : Calls n r) (u : n ≤ length t) where
 
 -- ---- a recording
 
-pub recording-ran : (n : ℕ) (rs : List (List ℕ)) (t : List ℕ) → n ≤ length t → All (Calls n) rs
+pub recording-ran : (n : ℕ) (rs : List (List ℕ)) (t : List ℕ) → n ≤ length t → All (MakesCall n) rs
     → Ran (take n t) (eventsOf rs t) × (tableAfter (take n t) (eventsOf rs t) ≡ take n (tableLeft rs t))
 recording-ran n [] t u a = (tt, refl)
 recording-ran n (r ∷ rs) t u a =
@@ -114,7 +114,7 @@ recording-ran n (r ∷ rs) t u a =
     )
 
 -- WHAT REPLAY LEAVES HAS THE THEOREM'S FACTS
-pub recording-holds : (n : ℕ) (rs : List (List ℕ)) (t : List ℕ) → n ≤ length t → All (Calls n) rs
+pub recording-holds : (n : ℕ) (rs : List (List ℕ)) (t : List ℕ) → n ≤ length t → All (MakesCall n) rs
     → Demand3 (take n t) (eventsOf rs t) × (tableAfter (take n t) (eventsOf rs t) ≡ take n (tableLeft rs t))
 recording-holds n rs t u a =
     let x = recording-ran n rs t u a in (any-list (take n t) (eventsOf rs t) (x .0), x .1)

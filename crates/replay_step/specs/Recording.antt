@@ -62,8 +62,8 @@ eventOf r t =
 
 -- ---- a recording: each record makes a call, with the first n bytes of the table
 
-abbrev pub Calls : ℕ → List ℕ → Type 0
-Calls n r = T (within 1 8 (operation r)) × (tableLent r ≡ n)
+abbrev pub MakesCall : ℕ → List ℕ → Type 0
+MakesCall n r = T (within 1 8 (operation r)) × (tableLent r ≡ n)
 
 abbrev pub eventsOf : List (List ℕ) → List ℕ → List Event
 eventsOf [] t = []

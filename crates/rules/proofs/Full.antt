@@ -3,16 +3,17 @@ use mathlib.Core.Path.{_≡_, refl, sym, ap, _∙_}
 use mathlib.Core.Bool.{Bool, true, false, cond}
 use mathlib.Core.Option.{Option, none, some}
 use mathlib.Core.List.{List, _∷_, _++_, append-nil}
-use Prim.Native.Nat.{ℕ, zero, suc, _+_, _-_, _≤_, _<_}
+use Prim.Native.Nat.{ℕ, zero, suc, _+_, _-_, _/_, _≤_, _<_}
 use native.Mathlib.Nat.{le-trans}
 use native.Mathlib.Omega.{arith}
 use lib.ListN.{length, length-append, length-take}
 use lib.Dec.{leb, ltb, eqb}
 use borrow.Author.Tests.{leb-true, leb-false, le-leb, lt-leb, ltb-true}
 use Rattle.model.specs.Basics.{bit, flat, sumOf}
-use Rattle.model.specs.Model.{Extent, Geometry, Label, Run, Volume, fivesFor, format0s, free, held, oneSlot, slots, slotsOf, tally, times, unused, used}
+use Rattle.model.specs.Model.{Extent, Geometry, Label, Run, Volume, fivesFor, format0s, free, held, oneSlot, overs, runsOf, slots, slotsOf, tally, times, total, unused, used}
 use Rattle.model.proofs.Lists.{All, by, find-All, sum-take}
-use Rattle.rules.specs.Full.{NoneExactly, fivesNeeded, format1s, format3s, freed, full, members, needed}
+use Rattle.rules.specs.Calls.{Amount, Reply, Request, allocatePieces, extendPieces, givenBack, goodTtr, granted, keep, newSet, releaseSet, settled}
+use Rattle.rules.specs.Full.{NoneExactly, RefusedExactly, fivesNeeded, format1s, format3s, freed, full, members, needed}
 use Rattle.rules.specs.Slots.{added, askedBy, asks, changed, fewExtents, found, insertLabel, kept3, keptFives, placed, removed, settle, settleWith, stillUsed, withExtents, without}
 use Rattle.rules.specs.Table.{named}
 use Rattle.rules.proofs.Counted.{slotsIn, unused-length, used-length}
@@ -229,3 +230,33 @@ module _ (v : Volume) (h : Valid v) (n : List ℕ) (l : Label) (f : found v n �
       let c = without-sum (λ m. tally k (slotsOf m)) n (v .labels) l (h .differ) f in
       omega arith)
       (omega arith)
+
+-- ---- IN THE WORDS OF THE CALLS: where the tests before have passed, the answer is 11 exactly then
+
+settled-exactly : (r : Reply) (o : Option Volume) (b : Bool) → NoneExactly o b → RefusedExactly (settled r o) 11 b
+settled-exactly r none b x = (λ e. x .0 refl, λ e. refl)
+settled-exactly r (some w) b x = (
+  λ e. absurd (let z : _≡_ {A = ℕ} 0 1 = cc in omega arith),
+  λ e. absurd (let q = x .1 e in let z : _≡_ {A = ℕ} 0 1 = cc in omega arith),
+)
+
+pub allocate-11 : (v : Volume) → Valid v → (q : Request) (a : Amount) (es : List Extent)
+    → RefusedExactly (allocatePieces v q a es) 11 (full v (v .labels) none (some (newSet q a es)))
+allocate-11 v h q a es = settled-exactly (granted (overs es)) (added v (newSet q a es)) _ (allocate-full v h (newSet q a es) refl refl)
+
+module _ (v : Volume) (h : Valid v) (n : List ℕ) (l : Label) (f : found v n ≡ some l) where
+  abbrev others : List Label
+  others = without n (v .labels)
+
+  pub extend-11 : (es : List Extent) → leb (length (l .extents) + length es) 16 ≡ true
+      → RefusedExactly (extendPieces v n l es) 11 (full v others (some l) (some (withExtents (l .extents ++ es) (l .ttr) l)))
+  extend-11 es e =
+      rw e
+      (settled-exactly (granted (overs es)) (changed v n (withExtents (l .extents ++ es) (l .ttr) l)) _ (changed-full v h n l f (l .extents ++ es) (l .ttr)))
+
+  pub release-11 : (ttr : ℕ) → goodTtr ttr (total (runsOf l)) ≡ true
+      → RefusedExactly (releaseSet v n ttr l) 11 (full v others (some l) (some (withExtents (keep (ttr / 256 + 1) (l .extents)) ttr l)))
+  release-11 ttr e =
+      rw e
+      (settled-exactly (givenBack (total (runsOf l) - (ttr / 256 + 1))) (changed v n (withExtents (keep (ttr / 256 + 1) (l .extents)) ttr l)) _
+      (changed-full v h n l f (keep (ttr / 256 + 1) (l .extents)) ttr))

@@ -9,6 +9,7 @@ use lib.ListN.{length}
 use lib.Dec.{ltb}
 use Rattle.model.specs.Basics.{bit}
 use Rattle.model.specs.Model.{Label, Volume, fivesFor, format0s, free}
+use Rattle.rules.specs.Calls.{Outcome, refuse}
 
 -- ---- the data set that a call changes, before and after it: none before an allocate, none after a scratch
 
@@ -47,3 +48,7 @@ module _ (v : Volume) (others : List Label) (before after : Option Label) where
 -- nothing was settled exactly when the test passes
 abbrev pub NoneExactly : Option Volume → Bool → Type 0
 NoneExactly o b = (o ≡ none → b ≡ true) × (b ≡ true → o ≡ none)
+
+-- refused with this number exactly when the test passes
+abbrev pub RefusedExactly : Outcome → ℕ → Bool → Type 0
+RefusedExactly o n b = (o ≡ refuse n → b ≡ true) × (b ≡ true → o ≡ refuse n)

@@ -1,4 +1,5 @@
--- Which refusals each call may answer, in the order in which document 01 checks them: proofs/Refusals. Assumes nothing.
+-- Which refusals each call may answer, written in the order in which document 01 checks them. The law (proofs/Refusals) is
+-- that a call answers no other; the order is the nesting in Calls and Entries. Assumes nothing.
 use mathlib.Core.Path.{_≡_}
 use Prim.Native.Nat.{ℕ}
 use mathlib.Core.Bool.{true}
