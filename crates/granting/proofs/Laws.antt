@@ -22,6 +22,7 @@ use Rattle.grant.specs.Grant.{row}
 use Rattle.request.proofs.Laws.{pieces-room}
 use Rattle.set_change.specs.Change.{InRecords, NoneBelow, Piece, TookPieces}
 use Rattle.set_change.specs.Change.{granted as more}
+use Rattle.set_change.proofs.Laws.{pieces-good}
 use Rattle.commit.specs.Commit.{Becomes, Committed, Draft}
 use Rattle.commit.proofs.Sets.{slots-shown}
 use Rattle.granting.specs.Granting.{Granted, Grants}
