@@ -7,7 +7,8 @@ use lib.Dec.{leb}
 use lib.ListN.{length, take}
 use Rattle.model.specs.Model.{Extent, Geometry, Label, Run, runsOf}
 use Rattle.rules.specs.Calls.{keep}
-use Rattle.rules.specs.Slots.{fewExtents, withExtents}
+use Rattle.rules.specs.Slots.{withExtents}
+use Rattle.rules.specs.Table.{fewExtents}
 use Rattle.tracks.specs.Map.{Shows}
 use Rattle.labels.specs.Labels.{withTtr}
 use Rattle.set_change.specs.Change.{InRecords, partOf, shortened}

@@ -16,7 +16,8 @@ use Rattle.model.specs.Model.{Geometry, Label, Run, Volume, fivesFor, format0s,
 use Rattle.model.proofs.Lists.{All, All-drop, All-map, clash, sum-append}
 use Rattle.rules.specs.Layout.{encode, fives, format3}
 use Rattle.rules.specs.Reading.{chop}
-use Rattle.rules.specs.Slots.{askedBy, asks, fewExtents, insertLabel, kept3, placed, settle, settleWith, slotOr, withSlots}
+use Rattle.rules.specs.Slots.{askedBy, asks, insertLabel, kept3, placed, settle, settleWith, slotOr, withSlots}
+use Rattle.rules.specs.Table.{fewExtents}
 use Rattle.rules.proofs.Labels.{insert-sum}
 use Rattle.rules.proofs.Placed.{Fits, fits, tally-nonzero}
 use Rattle.rules.proofs.Settle.{free-same, used-tally}

@@ -6,7 +6,8 @@ use mathlib.Core.Option.{Option, none, some}
 use mathlib.Core.List.{List, _∷_}
 use Rattle.model.specs.Model.{Geometry, Label, Volume, held, slots, slotsOf, tally, tracks, used}
 use Rattle.rules.specs.Layout.{encode}
-use Rattle.rules.specs.Slots.{fewExtents, kept3, settle, settleWith}
+use Rattle.rules.specs.Slots.{kept3, settle, settleWith}
+use Rattle.rules.specs.Table.{fewExtents}
 use Rattle.rules.proofs.Valid.{Valid}
 use Rattle.tracks.specs.Map.{Shows}
 use Rattle.label_check.specs.Marks.{units}

@@ -12,7 +12,8 @@ use Rattle.model.specs.Model.{Extent, Geometry, Label, Run, Volume, covers, ext
 use Rattle.model.proofs.Lists.{All, sum-append, true-is}
 use Rattle.rules.specs.Calls.{answer, granted, settled}
 use Rattle.rules.specs.Entries.{lent, result, written}
-use Rattle.rules.specs.Slots.{fewExtents, kept3, settleWith}
+use Rattle.rules.specs.Slots.{kept3, settleWith}
+use Rattle.rules.specs.Table.{fewExtents}
 use Rattle.rules.proofs.Settle.{used-tally}
 use Rattle.rules.proofs.Valid.{held-times, slots-tally}
 use Rattle.tracks.specs.Map.{Shows}

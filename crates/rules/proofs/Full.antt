@@ -14,8 +14,8 @@ use Rattle.model.specs.Model.{Extent, Geometry, Label, Run, Volume, fivesFor, f
 use Rattle.model.proofs.Lists.{All, by, find-All, sum-take}
 use Rattle.rules.specs.Calls.{Amount, Reply, Request, allocatePieces, extendPieces, givenBack, goodTtr, granted, keep, newSet, releaseSet, settled}
 use Rattle.rules.specs.Full.{NoneExactly, RefusedExactly, fivesNeeded, format1s, format3s, freed, full, members, needed}
-use Rattle.rules.specs.Slots.{added, askedBy, asks, changed, fewExtents, found, insertLabel, kept3, keptFives, placed, removed, settle, settleWith, stillUsed, withExtents, without}
-use Rattle.rules.specs.Table.{named}
+use Rattle.rules.specs.Slots.{added, askedBy, asks, changed, found, insertLabel, kept3, keptFives, placed, removed, settle, settleWith, stillUsed, withExtents, without}
+use Rattle.rules.specs.Table.{fewExtents, named}
 use Rattle.rules.proofs.Counted.{slotsIn, unused-length, used-length}
 use Rattle.rules.proofs.Labels.{without-sum}
 use Rattle.rules.proofs.Placed.{kept-le}
