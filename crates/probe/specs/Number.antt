@@ -4,11 +4,11 @@ use mathlib.Core.Bool.{cond}
 use mathlib.Core.List.{List}
 use lib.ListN.{getD}
 use Rattle.rules.specs.Layout.{extentPart}
-use Rattle.rules.specs.Table.{goodLength, goodName, taken}
+use Rattle.rules.specs.Table.{goodLength, goodName, tableRefusal}
 
--- refusal 2 is for a table's length, refusal 3 for a table that is not taken; 0 is none
+-- refusal 2 is for a table's length, then what refuses the table; 0 is none
 unfoldable pub checkNumber : List ℕ → ℕ
-checkNumber t = cond (goodLength t) (cond (taken t) 0 3) 2
+checkNumber t = cond (goodLength t) (tableRefusal t) 2
 
 -- the name rule as a number: 1 where it is obeyed
 unfoldable pub nameNumber : List ℕ → ℕ
