@@ -6,23 +6,18 @@ use borrow.Author.Needs.{needs}
 use Rattle.answers.proofs.put_back.Statement.{statement}
 use Rattle.answers.proofs.put_back.Tie as tie
 
--- src/lib.rt:56:15
 put-two-requires : tie.Need-put-two-requires
 put-two-requires c κs = search needs
 
--- src/lib.rt:57:17
 slice-aggregate-copy : tie.Need-slice-aggregate-copy
 slice-aggregate-copy c = search needs
 
--- src/lib.rt:57:5
 copy-requires : tie.Need-copy-requires
 copy-requires c κs = search needs
 
--- src/lib.rt:51:1
 same-length : tie.Need-same-length
 same-length c = search needs
 
--- src/lib.rt:51:1
 returns : tie.Need-returns
 returns c = let n : length (c .before .before .before .before .before .put-two .result) ≡ 24 = search needs in c .before .before .copy .ensures .1 ∙ copied (c .before .before .before .before .before .put-two .result) (c .before .before .before .before .before .before .before .args .out .now) (c .before .before .before .before .before .before .before .pre .0 ∙ sym n) ∙ c .before .before .before .before .before .put-two .ensures ∙ back-is (c .before .before .before .before .before .before .before .args .n)
 

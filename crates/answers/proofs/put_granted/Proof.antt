@@ -14,67 +14,51 @@ Inv-loop out count tracks pieces all₀ i₀ all i = (i ≤ count) × (length al
 abbrev μ-loop : tie.MeasureT-loop
 μ-loop out count tracks pieces all₀ i₀ all i = count - i
 
--- src/lib.rt:81:19
 put-two-requires : tie.Need-put-two-requires Inv-loop μ-loop
 put-two-requires c κs = search needs
 
--- src/lib.rt:82:14
 cast-all : tie.Need-cast-all Inv-loop μ-loop
 cast-all c = search needs
 
--- src/lib.rt:82:5
 array-write-all : tie.Need-array-write-all Inv-loop μ-loop
 array-write-all c = search needs
 
--- src/lib.rt:84:5
 loop-holds : tie.Need-loop-holds Inv-loop μ-loop
 loop-holds c = (omega arith, search needs, rw (c .put-two .ensures) (pieces-none (c .before .before .args .tracks) (c .before .before .args .count) (c .before .before .args .t2)))
 
--- src/lib.rt:85:39
 mul-put-piece : tie.Need-mul-put-piece Inv-loop μ-loop
 mul-put-piece c = search needs
 
--- src/lib.rt:85:35
 add-put-piece : tie.Need-add-put-piece Inv-loop μ-loop
 add-put-piece c = search needs
 
--- src/lib.rt:85:46
 mul-put-piece-2 : tie.Need-mul-put-piece-2 Inv-loop μ-loop
 mul-put-piece-2 c = search needs
 
--- src/lib.rt:85:46
 array-copy-out-put-piece : tie.Need-array-copy-out-put-piece Inv-loop μ-loop
 array-copy-out-put-piece c = search needs
 
--- src/lib.rt:85:13
 put-piece-requires : tie.Need-put-piece-requires Inv-loop μ-loop
 put-piece-requires c κs = search needs
 
--- src/lib.rt:87:9
 add-i : tie.Need-add-i Inv-loop μ-loop
 add-i c = search needs
 
--- src/lib.rt:84:5
 loop-less : tie.Need-loop-less Inv-loop μ-loop
 loop-less c = search needs
 
--- src/lib.rt:84:5
 loop-again : tie.Need-loop-again Inv-loop μ-loop
 loop-again c = let n : length (c .before .before .before .before .before .before .args .t2) ≡ 5 = search needs in (omega arith, search needs, c .put-piece .ensures ∙ rw (c .before .before .before .loop .inv .2) (pieces-next (c .before .before .before .before .before .before .args .tracks) (c .before .before .before .before .before .before .args .count) (c .before .before .before .before .before .before .args .t2) (c .before .before .before .loop .i) (omega arith) n))
 
--- src/lib.rt:89:17
 slice-aggregate-copy : tie.Need-slice-aggregate-copy Inv-loop μ-loop
 slice-aggregate-copy c = search needs
 
--- src/lib.rt:89:5
 copy-requires : tie.Need-copy-requires Inv-loop μ-loop
 copy-requires c κs = search needs
 
--- src/lib.rt:76:1
 same-length : tie.Need-same-length Inv-loop μ-loop
 same-length c = search needs
 
--- src/lib.rt:76:1
 returns : tie.Need-returns Inv-loop μ-loop
 returns c = λ ps l e h. c .before .before .copy .ensures .1 ∙ copied (c .before .before .before .before .before .before .loop .all) (c .before .before .before .before .before .before .before .before .before .args .out .now) (c .before .before .before .before .before .before .before .before .before .pre .0 ∙ sym (c .before .before .before .before .before .before .loop .inv .1)) ∙ c .before .before .before .before .before .before .loop .inv .2 ∙ pieces-all (c .before .before .before .before .before .before .before .before .before .args .tracks) (c .before .before .before .before .before .before .before .before .before .args .count) (c .before .before .before .before .before .before .before .before .before .args .t2) (c .before .before .before .before .before .before .loop .i) (omega arith) (omega arith) ps l e h
 

@@ -7,35 +7,27 @@ use borrow.Author.Needs.{needs}
 use Rattle.answers.proofs.put_piece.Statement.{statement}
 use Rattle.answers.proofs.put_piece.Tie as tie
 
--- src/lib.rt:37:39
 array-read-wide : tie.Need-array-read-wide
 array-read-wide c = search needs
 
--- src/lib.rt:37:34
 wide-requires : tie.Need-wide-requires
 wide-requires c κs = search needs
 
--- src/lib.rt:37:9
 put-two-requires : tie.Need-put-two-requires
 put-two-requires c κs = search needs
 
--- src/lib.rt:38:20
 add-put-two : tie.Need-add-put-two
 add-put-two c = search needs
 
--- src/lib.rt:38:33
 array-read-wide-2 : tie.Need-array-read-wide-2
 array-read-wide-2 c = search needs
 
--- src/lib.rt:38:28
 wide-requires-2 : tie.Need-wide-requires-2
 wide-requires-2 c κs = search needs
 
--- src/lib.rt:38:5
 put-two-requires-2 : tie.Need-put-two-requires-2
 put-two-requires-2 c κs = search needs
 
--- src/lib.rt:33:1
 returns : tie.Need-returns
 returns c = rw (c .put-two2 .ensures, c .before .wide2 .ensures .0, c .before .before .put-two .ensures, c .before .before .before .wide .ensures .0) (put-then (c .before .before .before .before .args .all) (c .before .before .before .before .args .at) (be2 (lib.ListN.getD (c .before .before .before .before .args .t3) 0 0)) (be2 (lib.ListN.getD (c .before .before .before .before .args .t3) 1 0)) (c .before .before .before .before .args .at + 2) (omega arith))
 

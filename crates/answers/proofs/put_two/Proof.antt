@@ -3,27 +3,21 @@ use borrow.Author.Needs.{needs}
 use Rattle.answers.proofs.put_two.Statement.{statement}
 use Rattle.answers.proofs.put_two.Tie as tie
 
--- src/lib.rt:27:13
 cast-r : tie.Need-cast-r
 cast-r c = search needs
 
--- src/lib.rt:27:5
 array-write-r : tie.Need-array-write-r
 array-write-r c = search needs
 
--- src/lib.rt:28:17
 cast-r-2 : tie.Need-cast-r-2
 cast-r-2 c = search needs
 
--- src/lib.rt:28:7
 add-r : tie.Need-add-r
 add-r c = search needs
 
--- src/lib.rt:28:5
 array-write-r-2 : tie.Need-array-write-r-2
 array-write-r-2 c = search needs
 
--- src/lib.rt:22:1
 returns : tie.Need-returns
 unfolding putAt
 returns c = search needs

@@ -13,7 +13,9 @@ use Rattle.request.proofs.type_byte.Reads as type-byte-reads
 use Rattle.request.proofs.unit_byte.Reads as unit-byte-reads
 
 fulfil-requires : tie.Need-fulfil-requires
-fulfil-requires c κs = (limits (c .before .before .before .before .before .before .before .before .pre), c .before .before .before .before .before .before .before .before .pre .mapFits, asks (c .before .before .before .before .before .before .before .before .pre), long (c .before .before .before .before .before .before .before .before .pre), (_, lists (c .before .before .before .before .before .before .before .before .pre)))
+fulfil-requires c κs =
+    let top = c .before .before .before .before .before .before .before .before in
+    (limits (top .pre), top .pre .mapFits, asks (top .pre), long (top .pre), (_, lists (top .pre)))
 
 count-pieces-requires : tie.Need-count-pieces-requires
 count-pieces-requires c κs = search needs
@@ -25,7 +27,10 @@ same-length-2 : tie.Need-same-length-2
 same-length-2 c = search needs
 
 returns : tie.Need-returns
-returns c = no-space (c .before .before .before .before .before .before .before .before .before .before .before .before .pre) _ (c .before .before .before .fulfil .ensures) _ _ (c .before .before .count-pieces .ensures) (c .if1 .taken)
+returns c =
+    let at-fulfil = c .before .before .before in
+    let top = at-fulfil .before .before .before .before .before .before .before .before .before in
+    no-space (top .pre) _ (at-fulfil .fulfil .ensures) _ _ (c .before .before .count-pieces .ensures) (c .if1 .taken)
 
 unit-byte-requires : tie.Need-unit-byte-requires
 unit-byte-requires c κs = search needs
@@ -34,7 +39,9 @@ type-byte-requires : tie.Need-type-byte-requires
 type-byte-requires c κs = search needs
 
 new-label-requires : tie.Need-new-label-requires
-new-label-requires c κs = (c .before .before .before .before .before .before .before .before .before .before .before .before .before .before .pre .longName, c .before .before .before .before .before .before .before .before .before .before .before .before .before .before .pre .longAttributes, secondary-fits (c .before .before .before .before .before .before .before .before .before .before .before .before .before .before .pre))
+new-label-requires c κs =
+    let top = c .before .before .before .before .before .before .before .before .before .before .before .before .before .before in
+    (top .pre .longName, top .pre .longAttributes, secondary-fits (top .pre))
 
 empty-three-requires : tie.Need-empty-three-requires
 empty-three-requires c κs = search needs
@@ -61,8 +68,17 @@ same-length-6 c = search needs
 
 returns-2 : tie.Need-returns-2
 returns-2 c =
-    put (c .before .before .before .before .before .before .before .before .before .before .before .before .before .before .before .before .before .before .before .before .before .before .before .before .before .before .before .before .before .before .before .pre) _ (c .before .before .before .before .before .before .before .before .before .before .before .before .before .before .before .before .before .before .before .before .before .before .fulfil .ensures) _ _ (c .before .before .before .before .before .before .before .before .before .before .before .before .before .before .before .before .before .before .before .before .before .count-pieces .ensures) (c .before .before .before .before .before .before .before .before .before .before .before .before .before .before .before .before .before .before .before .if1 .left) _ _ (c .before .before .before .before .before .before .before .before .before .before .before .before .before .before .before .before .before .before .unit-byte .ensures) (c .before .before .before .before .before .before .before .before .before .before .before .before .before .before .before .before .before .type-byte .ensures) _ _ (c .before .before .before .before .before .before .before .before .before .before .before .before .before .before .before .before .new-label .ensures) (c .before .before .before .before .before .before .before .before .before .before .before .before .before .before .before .empty-three .ensures) _ _ _
-    (c .before .before .before .before .before .before .before .before .put-grant .ensures (grants (c .before .before .before .before .before .before .before .before .before .before .before .before .before .before .before .before .before .before .before .before .before .before .before .before .before .before .before .before .before .before .before .pre) _ (c .before .before .before .before .before .before .before .before .before .before .before .before .before .before .before .before .before .before .before .before .before .before .fulfil .ensures) _ _ (c .before .before .before .before .before .before .before .before .before .before .before .before .before .before .before .before .before .before .before .before .before .count-pieces .ensures) (c .before .before .before .before .before .before .before .before .before .before .before .before .before .before .before .before .before .before .before .if1 .left) _ _ (c .before .before .before .before .before .before .before .before .before .before .before .before .before .before .before .before .before .before .unit-byte .ensures) (c .before .before .before .before .before .before .before .before .before .before .before .before .before .before .before .before .before .type-byte .ensures) _ _ (c .before .before .before .before .before .before .before .before .before .before .before .before .before .before .before .before .new-label .ensures) (c .before .before .before .before .before .before .before .before .before .before .before .before .before .before .before .empty-three .ensures)))
+    let at-put-grant = c .before .before .before .before .before .before .before .before in
+    let at-empty-three = at-put-grant .before .before .before .before .before .before .before in
+    let at-new-label = at-empty-three .before in
+    let at-type-byte = at-new-label .before in
+    let at-unit-byte = at-type-byte .before in
+    let at-if1 = at-unit-byte .before in
+    let at-count-pieces = at-if1 .before .before in
+    let at-fulfil = at-count-pieces .before in
+    let top = at-fulfil .before .before .before .before .before .before .before .before .before in
+    put (top .pre) _ (at-fulfil .fulfil .ensures) _ _ (at-count-pieces .count-pieces .ensures) (at-if1 .if1 .left) _ _ (at-unit-byte .unit-byte .ensures) (at-type-byte .type-byte .ensures) _ _ (at-new-label .new-label .ensures) (at-empty-three .empty-three .ensures) _ _ _
+    (at-put-grant .put-grant .ensures (grants (top .pre) _ (at-fulfil .fulfil .ensures) _ _ (at-count-pieces .count-pieces .ensures) (at-if1 .if1 .left) _ _ (at-unit-byte .unit-byte .ensures) (at-type-byte .type-byte .ensures) _ _ (at-new-label .new-label .ensures) (at-empty-three .empty-three .ensures)))
 
 pub place-spec : {M : Type 1} → statement M
 place-spec =

@@ -14,7 +14,9 @@ use Rattle.request.proofs.type_byte.Reads as type-byte-reads
 use Rattle.set_at.proofs.set_at.Reads as set-at-reads
 
 set-at-requires : tie.Need-set-at-requires
-set-at-requires c κs = (limits (c .before .before .before .before .before .pre), long (c .before .before .before .before .before .pre), inside (c .before .before .before .before .before .pre))
+set-at-requires c κs =
+    let top = c .before .before .before .before .before in
+    (limits (top .pre), long (top .pre), inside (top .pre))
 
 slice-aggregate-three : tie.Need-slice-aggregate-three
 slice-aggregate-three c = search needs
@@ -26,7 +28,9 @@ same-length : tie.Need-same-length
 same-length c = search needs
 
 returns : tie.Need-returns
-returns c = λ d. no-secondary d (c .before .before .before .before .before .set-at .ensures) _ (c .before .three2 .ensures .0) (c .if1 .taken)
+returns c =
+    let at-set-at = c .before .before .before .before .before in
+    λ d. no-secondary d (at-set-at .set-at .ensures) _ (c .before .three2 .ensures .0) (c .if1 .taken)
 
 array-read-secondary-of : tie.Need-array-read-secondary-of
 array-read-secondary-of c = search needs
@@ -35,7 +39,12 @@ secondary-of-requires : tie.Need-secondary-of-requires
 secondary-of-requires c κs = search needs
 
 fulfil-requires : tie.Need-fulfil-requires
-fulfil-requires c κs = (limits (c .before .before .before .before .before .before .before .before .before .before .before .before .before .before .pre), c .before .before .before .before .before .before .before .before .before .before .before .before .before .before .pre .mapFits, asks (c .before .before .before .before .before .before .before .before .before .before .before .before .before .before .pre) (c .before .before .before .before .before .before .before .before .set-at .ensures) _ (c .before .before .before .before .three2 .ensures .0) (c .before .before .before .if1 .left) _ refl _ (c .before .before .secondary-of .ensures), long (c .before .before .before .before .before .before .before .before .before .before .before .before .before .before .pre), (_, lists (c .before .before .before .before .before .before .before .before .before .before .before .before .before .before .pre)))
+fulfil-requires c κs =
+    let at-if1 = c .before .before .before in
+    let at-three2 = at-if1 .before in
+    let at-set-at = at-three2 .before .before .before .before in
+    let top = at-set-at .before .before .before .before .before .before in
+    (limits (top .pre), top .pre .mapFits, asks (top .pre) (at-set-at .set-at .ensures) _ (at-three2 .three2 .ensures .0) (at-if1 .if1 .left) _ refl _ (c .before .before .secondary-of .ensures), long (top .pre), (_, lists (top .pre)))
 
 count-pieces-requires : tie.Need-count-pieces-requires
 count-pieces-requires c κs = search needs
@@ -47,7 +56,13 @@ same-length-3 : tie.Need-same-length-3
 same-length-3 c = search needs
 
 returns-2 : tie.Need-returns-2
-returns-2 c = λ d. no-space d (c .before .before .before .before .before .before .before .before .before .before .before .before .set-at .ensures) _ (c .before .before .before .before .before .before .before .before .three2 .ensures .0) (c .before .before .before .before .before .before .before .if1 .left) _ refl _ (c .before .before .before .before .before .before .secondary-of .ensures) _ (c .before .before .before .fulfil .ensures) _ _ (c .before .before .count-pieces .ensures) (c .if2 .taken)
+returns-2 c =
+    let at-fulfil = c .before .before .before in
+    let at-secondary-of = at-fulfil .before .before .before in
+    let at-if1 = at-secondary-of .before in
+    let at-three2 = at-if1 .before in
+    let at-set-at = at-three2 .before .before .before .before in
+    λ d. no-space d (at-set-at .set-at .ensures) _ (at-three2 .three2 .ensures .0) (at-if1 .if1 .left) _ refl _ (at-secondary-of .secondary-of .ensures) _ (at-fulfil .fulfil .ensures) _ _ (c .before .before .count-pieces .ensures) (c .if2 .taken)
 
 add-if3 : tie.Need-add-if3
 add-if3 c = omega (arith, extents-most (c .before .before .before .before .before .before .before .before .before .before .before .before .before .before .before .before .before .before .before .before .pre) (c .before .before .before .before .before .before .before .before .before .before .before .before .before .before .set-at .ensures), pieces-most (c .before .before .before .before .before .before .before .before .before .before .before .before .before .before .before .before .before .before .before .before .pre) (c .before .before .before .before .before .before .before .before .before .before .before .before .before .before .set-at .ensures) _ (c .before .before .before .before .before .before .before .before .before .before .three2 .ensures .0) (c .before .before .before .before .before .before .before .before .before .if1 .left) _ refl _ (c .before .before .before .before .before .before .before .before .secondary-of .ensures) _ (c .before .before .before .before .before .fulfil .ensures) _ _ (c .before .before .before .before .count-pieces .ensures) (c .before .before .if2 .left))
@@ -59,16 +74,34 @@ same-length-5 : tie.Need-same-length-5
 same-length-5 c = search needs
 
 returns-3 : tie.Need-returns-3
-returns-3 c = λ d. too-many d (c .before .before .before .before .before .before .before .before .before .before .before .before .before .before .before .set-at .ensures) _ (c .before .before .before .before .before .before .before .before .before .before .before .three2 .ensures .0) (c .before .before .before .before .before .before .before .before .before .before .if1 .left) _ refl _ (c .before .before .before .before .before .before .before .before .before .secondary-of .ensures) _ (c .before .before .before .before .before .before .fulfil .ensures) _ _ (c .before .before .before .before .before .count-pieces .ensures) (c .before .before .before .if2 .left) (c .if3 .taken)
+returns-3 c =
+    let at-if2 = c .before .before .before in
+    let at-count-pieces = at-if2 .before .before in
+    let at-fulfil = at-count-pieces .before in
+    let at-secondary-of = at-fulfil .before .before .before in
+    let at-if1 = at-secondary-of .before in
+    let at-three2 = at-if1 .before in
+    let at-set-at = at-three2 .before .before .before .before in
+    λ d. too-many d (at-set-at .set-at .ensures) _ (at-three2 .three2 .ensures .0) (at-if1 .if1 .left) _ refl _ (at-secondary-of .secondary-of .ensures) _ (at-fulfil .fulfil .ensures) _ _ (at-count-pieces .count-pieces .ensures) (at-if2 .if2 .left) (c .if3 .taken)
 
 type-byte-requires : tie.Need-type-byte-requires
 type-byte-requires c κs = search needs
 
 put-grant-requires : tie.Need-put-grant-requires
-put-grant-requires c κs = (
-  (limits (c .before .before .before .before .before .before .before .before .before .before .before .before .before .before .before .before .before .before .before .before .before .before .before .before .before .before .before .before .pre), long (c .before .before .before .before .before .before .before .before .before .before .before .before .before .before .before .before .before .before .before .before .before .before .before .before .before .before .before .before .pre), c .before .before .before .before .before .before .before .before .before .before .before .before .before .before .before .before .before .before .before .before .before .before .before .before .before .before .before .before .pre .mapFits, c .before .before .before .before .before .before .before .before .before .before .before .before .before .before .before .before .before .before .before .before .before .before .before .before .before .before .before .before .pre .longSlots, c .before .before .before .before .before .before .before .before .before .before .before .before .before .before .before .before .before .before .before .before .before .before .before .before .before .before .before .before .pre .longAnswer, inside (c .before .before .before .before .before .before .before .before .before .before .before .before .before .before .before .before .before .before .before .before .before .before .before .before .before .before .before .before .pre), third-inside (c .before .before .before .before .before .before .before .before .before .before .before .before .before .before .before .before .before .before .before .before .before .before .before .before .before .before .before .before .pre) (c .before .before .before .before .before .before .before .before .before .before .before .before .before .before .before .before .before .before .before .before .before .before .set-at .ensures), pieces-most (c .before .before .before .before .before .before .before .before .before .before .before .before .before .before .before .before .before .before .before .before .before .before .before .before .before .before .before .before .pre) (c .before .before .before .before .before .before .before .before .before .before .before .before .before .before .before .before .before .before .before .before .before .before .set-at .ensures) _ (c .before .before .before .before .before .before .before .before .before .before .before .before .before .before .before .before .before .before .three2 .ensures .0) (c .before .before .before .before .before .before .before .before .before .before .before .before .before .before .before .before .before .if1 .left) _ refl _ (c .before .before .before .before .before .before .before .before .before .before .before .before .before .before .before .before .secondary-of .ensures) _ (c .before .before .before .before .before .before .before .before .before .before .before .before .before .fulfil .ensures) _ _ (c .before .before .before .before .before .before .before .before .before .before .before .before .count-pieces .ensures) (c .before .before .before .before .before .before .before .before .before .before .if2 .left), c .before .before .before .before .before .before .before .if3 .left, sum-most (c .before .before .before .before .before .before .before .before .before .before .before .before .before .before .before .before .before .before .before .before .before .before .before .before .before .before .before .before .pre) (c .before .before .before .before .before .before .before .before .before .before .before .before .before .before .before .before .before .before .before .before .before .before .set-at .ensures) _ (c .before .before .before .before .before .before .before .before .before .before .before .before .before .before .before .before .before .before .three2 .ensures .0) (c .before .before .before .before .before .before .before .before .before .before .before .before .before .before .before .before .before .if1 .left) _ refl _ (c .before .before .before .before .before .before .before .before .before .before .before .before .before .before .before .before .secondary-of .ensures) _ (c .before .before .before .before .before .before .before .before .before .before .before .before .before .fulfil .ensures) _ _ (c .before .before .before .before .before .before .before .before .before .before .before .before .count-pieces .ensures) (c .before .before .before .before .before .before .before .before .before .before .if2 .left), one-long (c .before .before .before .before .before .before .before .before .before .before .before .before .before .before .before .before .before .before .before .before .before .before .before .before .before .before .before .before .pre) (c .before .before .before .before .before .before .before .before .before .before .before .before .before .before .before .before .before .before .before .before .before .before .set-at .ensures), three-long (c .before .before .before .before .before .before .before .before .before .before .before .before .before .before .before .before .before .before .before .before .before .before .before .before .before .before .before .before .pre) (c .before .before .before .before .before .before .before .before .before .before .before .before .before .before .before .before .before .before .before .before .before .before .set-at .ensures)),
-  grants (c .before .before .before .before .before .before .before .before .before .before .before .before .before .before .before .before .before .before .before .before .before .before .before .before .before .before .before .before .pre) (c .before .before .before .before .before .before .before .before .before .before .before .before .before .before .before .before .before .before .before .before .before .before .set-at .ensures) _ (c .before .before .before .before .before .before .before .before .before .before .before .before .before .before .before .before .before .before .three2 .ensures .0) (c .before .before .before .before .before .before .before .before .before .before .before .before .before .before .before .before .before .if1 .left) _ refl _ (c .before .before .before .before .before .before .before .before .before .before .before .before .before .before .before .before .secondary-of .ensures) _ (c .before .before .before .before .before .before .before .before .before .before .before .before .before .fulfil .ensures) _ _ (c .before .before .before .before .before .before .before .before .before .before .before .before .count-pieces .ensures) (c .before .before .before .before .before .before .before .before .before .before .if2 .left) (c .before .before .before .before .before .before .before .if3 .left) _ (c .before .before .before .before .before .before .type-byte .ensures),
-)
+put-grant-requires c κs =
+    let at-type-byte = c .before .before .before .before .before .before in
+    let at-if3 = at-type-byte .before in
+    let at-if2 = at-if3 .before .before .before in
+    let at-count-pieces = at-if2 .before .before in
+    let at-fulfil = at-count-pieces .before in
+    let at-secondary-of = at-fulfil .before .before .before in
+    let at-if1 = at-secondary-of .before in
+    let at-three2 = at-if1 .before in
+    let at-set-at = at-three2 .before .before .before .before in
+    let top = at-set-at .before .before .before .before .before .before in (
+      (limits (top .pre), long (top .pre), top .pre .mapFits, top .pre .longSlots, top .pre .longAnswer, inside (top .pre), third-inside (top .pre) (at-set-at .set-at .ensures), pieces-most (top .pre) (at-set-at .set-at .ensures) _ (at-three2 .three2 .ensures .0) (at-if1 .if1 .left) _ refl _ (at-secondary-of .secondary-of .ensures) _ (at-fulfil .fulfil .ensures) _ _ (at-count-pieces .count-pieces .ensures) (at-if2 .if2 .left), at-if3 .if3 .left, sum-most (top .pre) (at-set-at .set-at .ensures) _ (at-three2 .three2 .ensures .0) (at-if1 .if1 .left) _ refl _ (at-secondary-of .secondary-of .ensures) _ (at-fulfil .fulfil .ensures) _ _ (at-count-pieces .count-pieces .ensures) (at-if2 .if2 .left), one-long (top .pre) (at-set-at .set-at .ensures), three-long (top .pre) (at-set-at .set-at .ensures)),
+      grants (top .pre) (at-set-at .set-at .ensures) _ (at-three2 .three2 .ensures .0) (at-if1 .if1 .left) _ refl _ (at-secondary-of .secondary-of .ensures) _ (at-fulfil .fulfil .ensures) _ _ (at-count-pieces .count-pieces .ensures) (at-if2 .if2 .left) (at-if3 .if3 .left) _ (at-type-byte .type-byte .ensures),
+    )
 
 same-length-6 : tie.Need-same-length-6
 same-length-6 c = search needs
@@ -83,7 +116,18 @@ same-length-9 : tie.Need-same-length-9
 same-length-9 c = search needs
 
 returns-4 : tie.Need-returns-4
-returns-4 c = λ d. put d (c .before .before .before .before .before .before .before .before .before .before .before .before .before .before .before .before .before .before .before .before .before .before .before .before .before .before .before .before .before .before .before .set-at .ensures) _ (c .before .before .before .before .before .before .before .before .before .before .before .before .before .before .before .before .before .before .before .before .before .before .before .before .before .before .before .three2 .ensures .0) (c .before .before .before .before .before .before .before .before .before .before .before .before .before .before .before .before .before .before .before .before .before .before .before .before .before .before .if1 .left) _ refl _ (c .before .before .before .before .before .before .before .before .before .before .before .before .before .before .before .before .before .before .before .before .before .before .before .before .before .secondary-of .ensures) _ (c .before .before .before .before .before .before .before .before .before .before .before .before .before .before .before .before .before .before .before .before .before .before .fulfil .ensures) _ _ (c .before .before .before .before .before .before .before .before .before .before .before .before .before .before .before .before .before .before .before .before .before .count-pieces .ensures) (c .before .before .before .before .before .before .before .before .before .before .before .before .before .before .before .before .before .before .before .if2 .left) (c .before .before .before .before .before .before .before .before .before .before .before .before .before .before .before .before .if3 .left) _ (c .before .before .before .before .before .before .before .before .before .before .before .before .before .before .before .type-byte .ensures) _ _ _ (c .before .before .before .before .before .before .before .before .put-grant .ensures (grants d (c .before .before .before .before .before .before .before .before .before .before .before .before .before .before .before .before .before .before .before .before .before .before .before .before .before .before .before .before .before .before .before .set-at .ensures) _ (c .before .before .before .before .before .before .before .before .before .before .before .before .before .before .before .before .before .before .before .before .before .before .before .before .before .before .before .three2 .ensures .0) (c .before .before .before .before .before .before .before .before .before .before .before .before .before .before .before .before .before .before .before .before .before .before .before .before .before .before .if1 .left) _ refl _ (c .before .before .before .before .before .before .before .before .before .before .before .before .before .before .before .before .before .before .before .before .before .before .before .before .before .secondary-of .ensures) _ (c .before .before .before .before .before .before .before .before .before .before .before .before .before .before .before .before .before .before .before .before .before .before .fulfil .ensures) _ _ (c .before .before .before .before .before .before .before .before .before .before .before .before .before .before .before .before .before .before .before .before .before .count-pieces .ensures) (c .before .before .before .before .before .before .before .before .before .before .before .before .before .before .before .before .before .before .before .if2 .left) (c .before .before .before .before .before .before .before .before .before .before .before .before .before .before .before .before .if3 .left) _ (c .before .before .before .before .before .before .before .before .before .before .before .before .before .before .before .type-byte .ensures)))
+returns-4 c =
+    let at-put-grant = c .before .before .before .before .before .before .before .before in
+    let at-type-byte = at-put-grant .before .before .before .before .before .before .before in
+    let at-if3 = at-type-byte .before in
+    let at-if2 = at-if3 .before .before .before in
+    let at-count-pieces = at-if2 .before .before in
+    let at-fulfil = at-count-pieces .before in
+    let at-secondary-of = at-fulfil .before .before .before in
+    let at-if1 = at-secondary-of .before in
+    let at-three2 = at-if1 .before in
+    let at-set-at = at-three2 .before .before .before .before in
+    λ d. put d (at-set-at .set-at .ensures) _ (at-three2 .three2 .ensures .0) (at-if1 .if1 .left) _ refl _ (at-secondary-of .secondary-of .ensures) _ (at-fulfil .fulfil .ensures) _ _ (at-count-pieces .count-pieces .ensures) (at-if2 .if2 .left) (at-if3 .if3 .left) _ (at-type-byte .type-byte .ensures) _ _ _ (at-put-grant .put-grant .ensures (grants d (at-set-at .set-at .ensures) _ (at-three2 .three2 .ensures .0) (at-if1 .if1 .left) _ refl _ (at-secondary-of .secondary-of .ensures) _ (at-fulfil .fulfil .ensures) _ _ (at-count-pieces .count-pieces .ensures) (at-if2 .if2 .left) (at-if3 .if3 .left) _ (at-type-byte .type-byte .ensures)))
 
 pub lengthen-spec : {M : Type 1} → statement M
 lengthen-spec =

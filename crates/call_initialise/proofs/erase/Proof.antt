@@ -18,31 +18,24 @@ Inv-loop table₀ i₀ table i = (i ≤ length table₀) × (length table ≡ le
 abbrev μ-loop : tie.MeasureT-loop
 μ-loop table₀ i₀ table i = length table₀ - i
 
--- src/lib.rt:19:5
 loop-holds : tie.Need-loop-holds Inv-loop μ-loop
 loop-holds c = (omega arith, refl, same-none (c .args .table .now) 0 0)
 
--- src/lib.rt:20:9
 slice-write-table : tie.Need-slice-write-table Inv-loop μ-loop
 slice-write-table c = search needs
 
--- src/lib.rt:21:9
 add-i : tie.Need-add-i Inv-loop μ-loop
 add-i c = search needs
 
--- src/lib.rt:19:5
 loop-less : tie.Need-loop-less Inv-loop μ-loop
 loop-less c = search needs
 
--- src/lib.rt:19:5
 loop-again : tie.Need-loop-again Inv-loop μ-loop
 loop-again c = (omega arith, length-set (c .before .loop .table) (c .before .loop .i) 0 ∙ c .before .loop .inv .1, ap (λ (x : List ℕ). set x (c .before .loop .i) 0) (c .before .loop .inv .2) ∙ same-more (c .before .before .args .table .now) 0 (c .before .loop .i) 0 (omega arith))
 
--- src/lib.rt:15:1
 same-length : tie.Need-same-length Inv-loop μ-loop
 same-length c = search needs
 
--- src/lib.rt:15:1
 returns : tie.Need-returns Inv-loop μ-loop
 returns c = c .before .loop .inv .2 ∙ all-erased (c .before .before .args .table .now) (c .before .loop .i) (c .before .loop .inv .0) (omega (arith, c .loop-test .left, c .before .loop .inv .1))
 

@@ -9,39 +9,30 @@ use Rattle.call_initialise.proofs.fresh_five.Lts as lts
 use Rattle.call_initialise.proofs.put_some.Reads as put-some-reads
 use Rattle.records.proofs.blank.Reads as blank-reads
 
--- src/lib.rt:45:19
 blank-requires : tie.Need-blank-requires
 blank-requires c κs = search needs
 
--- src/lib.rt:46:18
 add-behind : tie.Need-add-behind
 add-behind c = search needs
 
--- src/lib.rt:47:22
 slice-aggregate-put-some : tie.Need-slice-aggregate-put-some
 slice-aggregate-put-some c = search needs
 
--- src/lib.rt:47:41
 sub-put-some : tie.Need-sub-put-some
 sub-put-some c = search needs
 
--- src/lib.rt:47:9
 put-some-requires : tie.Need-put-some-requires
 put-some-requires c κs = search needs
 
--- src/lib.rt:48:14
 slice-aggregate-put-some-2 : tie.Need-slice-aggregate-put-some-2
 slice-aggregate-put-some-2 c = search needs
 
--- src/lib.rt:48:38
 mul-put-some : tie.Need-mul-put-some
 mul-put-some c = search needs
 
--- src/lib.rt:48:38
 sub-put-some-2 : tie.Need-sub-put-some-2
 sub-put-some-2 c = search needs
 
--- src/lib.rt:48:5
 put-some-requires-2 : tie.Need-put-some-requires-2
 put-some-requires-2 c κs =
     let lim = c .before .before .before .before .before .before .before .before .pre in
@@ -50,9 +41,12 @@ put-some-requires-2 c κs =
     let e = room (geometryOf (c .before .before .before .before .before .before .before .before .args .g)) (c .before .before .before .before .before .before .before .blank .result) _ (c .before .before .before .put-some .result) _ _ (c .before .before .before .before .before .before .before .blank .ensures) (c .before .before .before .put-some .ensures) in
     (e .0, e .1, omega arith, lim)
 
--- src/lib.rt:41:1
 returns : tie.Need-returns
-returns c = both (geometryOf (c .before .before .before .before .before .before .before .before .before .before .args .g)) (c .before .before .before .before .before .before .before .before .before .before .pre) (c .before .before .before .before .before .before .before .before .before .blank .result) _ _ (c .before .before .before .before .before .put-some .result) (c .before .put-some2 .result) (c .before .before .before .before .before .before .before .before .before .blank .ensures) (c .before .before .before .before .before .put-some .ensures) (c .before .put-some2 .ensures)
+returns c =
+    let at-put-some = c .before .before .before .before .before in
+    let at-blank = at-put-some .before .before .before .before in
+    let top = at-blank .before in
+    both (geometryOf (top .args .g)) (top .pre) (at-blank .blank .result) _ _ (at-put-some .put-some .result) (c .before .put-some2 .result) (at-blank .blank .ensures) (at-put-some .put-some .ensures) (c .before .put-some2 .ensures)
 
 pub fresh-five-spec : {M : Type 1} → statement M
 fresh-five-spec =

@@ -6,43 +6,33 @@ use borrow.Author.Needs.{needs}
 use Rattle.call_initialise.proofs.write_fresh.Statement.{statement}
 use Rattle.call_initialise.proofs.write_fresh.Tie as tie
 
--- src/lib.rt:56:5
 erase-requires : tie.Need-erase-requires
 erase-requires c κs = search needs
 
--- src/lib.rt:57:16
 fresh-five-requires : tie.Need-fresh-five-requires
 fresh-five-requires c κs = search needs
 
--- src/lib.rt:58:5
 put-record-requires : tie.Need-put-record-requires
 put-record-requires c κs = search needs
 
--- src/lib.rt:59:37
 mul-four : tie.Need-mul-four
 mul-four c = search needs
 
--- src/lib.rt:59:36
 cast-four : tie.Need-cast-four
 cast-four c = search needs
 
--- src/lib.rt:59:36
 sub-four : tie.Need-sub-four
 sub-four c = search needs
 
--- src/lib.rt:59:16
 four-requires : tie.Need-four-requires
 four-requires c κs = search needs
 
--- src/lib.rt:60:5
 put-record-requires-2 : tie.Need-put-record-requires-2
 put-record-requires-2 c κs = search needs
 
--- src/lib.rt:52:1
 same-length : tie.Need-same-length
 same-length c = search needs
 
--- src/lib.rt:52:1
 returns : tie.Need-returns
 returns c =
     let n : length (c .before .before .before .before .before .before .before .before .before .before .before .before .fresh-five .result) ≡ 140 = search needs in

@@ -26,15 +26,12 @@ Inv-loop table g s₀ k₀ left₀ s k left =
 abbrev μ-loop : tie.MeasureT-loop
 μ-loop table g s₀ k₀ left₀ s k left = left
 
--- src/lib.rt:65:21
 mul-left : tie.Need-mul-left Inv-loop μ-loop
 mul-left c = search needs
 
--- src/lib.rt:65:20
 cast-left : tie.Need-cast-left Inv-loop μ-loop
 cast-left c = search needs
 
--- src/lib.rt:66:5
 loop-holds : tie.Need-loop-holds Inv-loop μ-loop
 loop-holds c =
     let a = c .before .before .args in
@@ -45,18 +42,16 @@ loop-holds c =
       λ f x. going-all (geometryOf (a .g)) (a .table .now) _ f x (λ r y. y),
     )
 
--- src/lib.rt:68:13
 returns : tie.Need-returns Inv-loop μ-loop
 returns c =
-    let a = c .before .before .before .before .before .args in
+    let top = c .before .before .before .before .before in
+    let a = top .args in
     let l = c .before .before .loop in
     λ f x. going-none (geometryOf (a .g)) (a .table .now) _ (l .left) (l .k) (l .inv .3 f x) (c .if1 .taken) (l .s) (summed-empty (a .g .heads) [] (l .s) refl)
 
--- src/lib.rt:70:24
 record-at-requires : tie.Need-record-at-requires Inv-loop μ-loop
 record-at-requires c κs = omega (arith, c .before .before .loop .inv .0, c .before .before .before .before .before .pre .1)
 
--- src/lib.rt:70:9
 add-member-requires : tie.Need-add-member-requires Inv-loop μ-loop
 add-member-requires c κs =
     let p = c .before .before .before .before .before .before .pre in
@@ -65,21 +60,19 @@ add-member-requires c κs =
     let m = p .0 .most in
     (c .record-at .ensures .1, p .0 .heads, p .0 .headsMost, below-more _ 203347722240 (l .s) (omega (arith, l .inv .1)) (l .inv .2))
 
--- src/lib.rt:71:9
 member-after-requires : tie.Need-member-after-requires Inv-loop μ-loop
 member-after-requires c κs =
-    let p = c .before .before .before .before .before .before .before .pre in
-    (p .0, p .1, c .before .before .before .before .loop .inv .0)
+    let at-loop = c .before .before .before .before in
+    let top = at-loop .before .before .before in
+    let p = top .pre in
+    (p .0, p .1, at-loop .loop .inv .0)
 
--- src/lib.rt:72:9
 sub-left : tie.Need-sub-left Inv-loop μ-loop
 sub-left c = search needs
 
--- src/lib.rt:66:5
 loop-less : tie.Need-loop-less Inv-loop μ-loop
 loop-less c = search needs
 
--- src/lib.rt:66:5
 loop-again : tie.Need-loop-again Inv-loop μ-loop
 loop-again c =
     let top = c .before .before .before .before .before .before .before .before in
@@ -96,7 +89,6 @@ loop-again c =
           (c .member-after .ensures .1),
     )
 
--- src/lib.rt:54:1
 returns-2 : tie.Need-returns-2 Inv-loop μ-loop
 returns-2 c =
     let a = c .before .before .before .before .args in

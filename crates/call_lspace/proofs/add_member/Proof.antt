@@ -26,15 +26,12 @@ Inv-loop rec h s₀ j₀ s j =
 abbrev μ-loop : tie.MeasureT-loop
 μ-loop rec h s₀ j₀ s j = 26 - j
 
--- src/lib.rt:39:5
 loop-holds : tie.Need-loop-holds Inv-loop μ-loop
 loop-holds c = (omega arith, (λ n l b. below-more n (n + 0) (c .before .args .sums) (omega arith) b), λ f r e x. x)
 
--- src/lib.rt:40:13
 entry-requires : tie.Need-entry-requires Inv-loop μ-loop
 entry-requires c κs = search needs
 
--- src/lib.rt:42:13
 returns : tie.Need-returns Inv-loop μ-loop
 returns c =
     let at-loop = c .before .before .before .before in
@@ -47,11 +44,9 @@ returns c =
           (summed-empty (a .h) _ _ (entry-none x (at-loop .loop .j) (hole .result .start) (hole .result .count) (omega arith) (hole .ensures .0) (c .if1 .taken)));
     }
 
--- src/lib.rt:44:37
 cast-s : tie.Need-cast-s Inv-loop μ-loop
 cast-s c = search needs
 
--- src/lib.rt:44:23
 add-s : tie.Need-add-s Inv-loop μ-loop
 add-s c =
     let b = c .before .before .before .before .before .before .loop .inv .1 203347722240 (omega arith) (c .before .before .before .before .before .before .before .before .pre .3) in
@@ -60,11 +55,9 @@ add-s c =
     let w = mod-le (c .before .before .before .before .entry .result .count) (c .before .before .before .before .before .before .before .before .args .h) in
     omega (arith, c .before .before .before .before .entry .ensures)
 
--- src/lib.rt:45:25
 cast-s-2 : tie.Need-cast-s-2 Inv-loop μ-loop
 cast-s-2 c = search needs
 
--- src/lib.rt:45:17
 add-s-2 : tie.Need-add-s-2 Inv-loop μ-loop
 add-s-2 c =
     let b = c .before .before .before .before .before .before .before .before .loop .inv .1 203347722240 (omega arith) (c .before .before .before .before .before .before .before .before .before .before .pre .3) in
@@ -73,7 +66,6 @@ add-s-2 c =
     let w = mod-le (c .before .before .before .before .before .before .entry .result .count) (c .before .before .before .before .before .before .before .before .before .before .args .h) in
     omega (arith, c .before .before .before .before .before .before .entry .ensures)
 
--- src/lib.rt:46:18
 add-s-3 : tie.Need-add-s-3 Inv-loop μ-loop
 add-s-3 c =
     let b = c .before .before .before .before .before .before .before .before .before .loop .inv .1 203347722240 (omega arith) (c .before .before .before .before .before .before .before .before .before .before .before .pre .3) in
@@ -82,23 +74,18 @@ add-s-3 c =
     let w = mod-le (c .before .before .before .before .before .before .before .entry .result .count) (c .before .before .before .before .before .before .before .before .before .before .before .args .h) in
     omega (arith, c .before .before .before .before .before .before .before .entry .ensures)
 
--- src/lib.rt:47:33
 cast-larger : tie.Need-cast-larger Inv-loop μ-loop
 cast-larger c = search needs
 
--- src/lib.rt:47:9
 larger-requires : tie.Need-larger-requires Inv-loop μ-loop
 larger-requires c κs = search needs
 
--- src/lib.rt:48:9
 add-j : tie.Need-add-j Inv-loop μ-loop
 add-j c = search needs
 
--- src/lib.rt:39:5
 loop-less : tie.Need-loop-less Inv-loop μ-loop
 loop-less c = search needs
 
--- src/lib.rt:39:5
 loop-again : tie.Need-loop-again Inv-loop μ-loop
 loop-again c =
     let at-loop = c .before .before .before .before .before .before .before .before .before .before .before in
@@ -118,7 +105,6 @@ loop-again c =
           (entry-next e j (hole .result .start) (hole .result .count) (omega (arith, t)) (x .0) (c .before .before .before .before .before .before .before .if1 .left)) ec eo refl (c .larger .ensures) y),
     )
 
--- src/lib.rt:33:1
 returns-2 : tie.Need-returns-2 Inv-loop μ-loop
 returns-2 c =
     let a = c .before .before .before .args in

@@ -11,7 +11,6 @@ use Rattle.call_lspace.proofs.space.Reads as reads
 use Rattle.call_lspace.proofs.space.Lts as lts
 use Rattle.call_lspace.proofs.add_all.Reads as add-all-reads
 
--- src/lib.rt:82:9
 add-all-requires : tie.Need-add-all-requires
 add-all-requires c κs = search needs
 
@@ -22,39 +21,30 @@ small c =
     let w = top .pre .3 in
     six-small (top .args .g .heads) (w .0) (c .before .add-all .result) (c .before .add-all .ensures (w .0) (w .1)) (tracks (geometryOf (top .args .g))) (w .1 .apart) (top .pre .0 .tracksMost)
 
--- src/lib.rt:83:13
 cast-h : tie.Need-cast-h
 cast-h c = search needs
 
--- src/lib.rt:84:6
 cast-t6 : tie.Need-cast-t6
 cast-t6 c = omega (arith, small (c .before) .cylinders)
 
--- src/lib.rt:84:26
 cast-t7 : tie.Need-cast-t7
 cast-t7 c = omega (arith, small (c .before .before) .odd)
 
--- src/lib.rt:84:40
 cast-t8 : tie.Need-cast-t8
 cast-t8 c = omega (arith, small (c .before .before .before) .many)
 
--- src/lib.rt:84:56
 div-t9 : tie.Need-div-t9
 div-t9 c = search needs
 
--- src/lib.rt:84:55
 cast-t10 : tie.Need-cast-t10
 cast-t10 c = omega (arith, small (c .before .before .before .before) .long, div-le-self (c .before .before .before .before .before .add-all .result .long) (c .before .before .before .before .before .before .before .args .g .heads))
 
--- src/lib.rt:84:77
 rem-t11 : tie.Need-rem-t11
 rem-t11 c = search needs
 
--- src/lib.rt:84:76
 cast-t12 : tie.Need-cast-t12
 cast-t12 c = omega (arith, small (c .before .before .before .before .before) .long, mod-le (c .before .before .before .before .before .before .add-all .result .long) (c .before .before .before .before .before .before .before .before .args .g .heads))
 
--- src/lib.rt:78:1
 returns : tie.Need-returns
 returns c =
     let top = c .before .before .before .before .before .before .before .before in

@@ -10,35 +10,27 @@ use borrow.Author.Needs.{needs}
 use Rattle.call_obtain.proofs.put_labels.Statement.{statement}
 use Rattle.call_obtain.proofs.put_labels.Tie as tie
 
--- src/lib.rt:32:9
 record-at-requires : tie.Need-record-at-requires
 record-at-requires c κs = search needs
 
--- src/lib.rt:33:18
 record-of-requires : tie.Need-record-of-requires
 record-of-requires c κs = search needs
 
--- src/lib.rt:34:40
 third-requires : tie.Need-third-requires
 third-requires c κs = search needs
 
--- src/lib.rt:34:17
 record-or-zeros-requires : tie.Need-record-or-zeros-requires
 record-or-zeros-requires c κs = search needs
 
--- src/lib.rt:35:5
 put-record-requires : tie.Need-put-record-requires
 put-record-requires c κs = search needs
 
--- src/lib.rt:36:5
 put-record-requires-2 : tie.Need-put-record-requires-2
 put-record-requires-2 c κs = search needs
 
--- src/lib.rt:28:1
 same-length : tie.Need-same-length
 same-length c = search needs
 
--- src/lib.rt:28:1
 returns : tie.Need-returns
 returns c =
     let a : length (c .before .before .before .before .before .before .before .before .before .before .before .before .record-of .result) ≡ 140 = search needs in

@@ -4,21 +4,19 @@ use borrow.Author.Needs.{needs}
 use Rattle.call_obtain.proofs.record_or_zeros.Statement.{statement}
 use Rattle.call_obtain.proofs.record_or_zeros.Tie as tie
 
--- src/lib.rt:22:9
 returns : tie.Need-returns
 returns c = no-third (c .before .before .args .table .now) (c .before .before .args .q) (c .if1 .taken)
 
--- src/lib.rt:24:24
 record-at-requires : tie.Need-record-at-requires
 record-at-requires c κs = search needs
 
--- src/lib.rt:24:5
 record-of-requires : tie.Need-record-of-requires
 record-of-requires c κs = search needs
 
--- src/lib.rt:17:1
 returns-2 : tie.Need-returns-2
-returns-2 c = c .record-of .ensures ∙ c .before .record-at .ensures .0 ∙ some-third (c .before .before .before .before .args .table .now) (c .before .before .before .before .args .q) (c .before .before .if1 .left)
+returns-2 c =
+    let top = c .before .before .before .before in
+    c .record-of .ensures ∙ c .before .record-at .ensures .0 ∙ some-third (top .args .table .now) (top .args .q) (c .before .before .if1 .left)
 
 pub record-or-zeros-spec : {M : Type 1} → statement M
 record-or-zeros-spec = tie.close (tie.spec returns record-at-requires record-of-requires returns-2)

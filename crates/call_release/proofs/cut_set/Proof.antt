@@ -9,23 +9,21 @@ use Rattle.call_release.proofs.few_stay.Reads as few-stay-reads
 use Rattle.labels.proofs.set_ttr.Reads as set-ttr-reads
 use Rattle.set_change.proofs.cut_records.Reads as cut-records-reads
 
--- src/lib.rt:54:5
 cut-records-requires : tie.Need-cut-records-requires
 cut-records-requires c κs = search needs
 
--- src/lib.rt:55:5
 set-ttr-requires : tie.Need-set-ttr-requires
 set-ttr-requires c κs = search needs
 
--- src/lib.rt:56:5
 few-stay-requires : tie.Need-few-stay-requires
 few-stay-requires c κs = search needs
 
--- src/lib.rt:50:1
 returns : tie.Need-returns
 returns c =
-    let a = c .before .before .before .before .before .before .args in
-    let cut = c .before .before .before .cut-records .ensures in
+    let at-cut-records = c .before .before .before in
+    let top = at-cut-records .before .before .before in
+    let a = top .args in
+    let cut = at-cut-records .cut-records .ensures in
     let end = c .before .set-ttr .ensures in
     record {
       long = end .1;

@@ -7,23 +7,18 @@ use Rattle.call_release.proofs.good_ttr.Tie as tie
 use Rattle.call_release.proofs.good_ttr.Reads as reads
 use Rattle.call_release.proofs.good_ttr.Lts as lts
 
--- src/lib.rt:30:9
 returns : tie.Need-returns
 returns c = too-wide (c .before .args .ttr) (c .before .args .all) (c .if1 .taken)
 
--- src/lib.rt:32:8
 add-if2 : tie.Need-add-if2
 add-if2 c = search needs
 
--- src/lib.rt:33:9
 returns-2 : tie.Need-returns-2
 returns-2 c = too-far (c .before .before .args .ttr) (c .before .before .args .all) (let u = c .before .if1 .left in omega arith) (c .if2 .taken)
 
--- src/lib.rt:36:9
 returns-3 : tie.Need-returns-3
 returns-3 c = block-there (c .before .before .before .args .ttr) (c .before .before .before .args .all) (let u = c .before .before .if1 .left in omega arith) (let u = c .before .if2 .left in omega arith) (c .if3 .taken)
 
--- src/lib.rt:26:1
 returns-4 : tie.Need-returns-4
 returns-4 c = no-block (c .before .before .before .args .ttr) (c .before .before .before .args .all) (let u = c .before .before .if1 .left in omega arith) (let u = c .before .if2 .left in omega arith) (let u = c .if3 .left in omega arith) _ refl
 

@@ -19,49 +19,41 @@ use Rattle.giving.proofs.measure.Reads as measure-reads
 use Rattle.records.proofs.record_of.Reads as record-of-reads
 use Rattle.set_at.proofs.third_record.Reads as third-record-reads
 
--- src/lib.rt:73:9
 measure-requires : tie.Need-measure-requires
 measure-requires c κs = search needs
 
--- src/lib.rt:74:8
 good-ttr-requires : tie.Need-good-ttr-requires
 good-ttr-requires c κs = search needs
 
--- src/lib.rt:75:9
 same-length : tie.Need-same-length
 same-length c = search needs
 
--- src/lib.rt:75:9
 returns : tie.Need-returns
-returns c = λ d. bad-ttr _ _ _ _ _ d (c .before .before .before .before .before .before .before .before .args .ttr) _ _ _ _ (c .before .before .measure .ensures _ _ d) _ (sym (c .before .good-ttr .ensures) ∙ c .if1 .left)
+returns c =
+    let top = c .before .before .before .before .before .before .before .before in
+    λ d. bad-ttr _ _ _ _ _ d (top .args .ttr) _ _ _ _ (c .before .before .measure .ensures _ _ d) _ (sym (c .before .good-ttr .ensures) ∙ c .if1 .left)
 
--- src/lib.rt:77:50
 add-give-back : tie.Need-add-give-back
 add-give-back c = search needs
 
--- src/lib.rt:77:9
 give-back-requires : tie.Need-give-back-requires
 give-back-requires c κs =
     let top = c .before .before .before .before .before .before .before .before .before .before in
     let x = c .before .before .before .before .measure .ensures _ _ (top .pre .1) in
     ((top .pre .0 .1, top .pre .0 .4, third-inside _ _ _ _ _ (top .pre .1) _ _ _ _ x, top .pre .0 .2), x .stored .set)
 
--- src/lib.rt:78:38
 record-at-requires : tie.Need-record-at-requires
 record-at-requires c κs = search needs
 
--- src/lib.rt:78:19
 record-of-requires : tie.Need-record-of-requires
 record-of-requires c κs = search needs
 
--- src/lib.rt:79:21
 third-record-requires : tie.Need-third-record-requires
 third-record-requires c κs =
     let top = c .before .before .before .before .before .before .before .before .before .before .before .before .before .before .before .before .before in
     let a = third-inside _ _ _ _ _ (top .pre .1) _ _ _ _ (c .before .before .before .before .before .before .before .before .before .before .before .measure .ensures _ _ (top .pre .1)) in
     omega (arith, top .pre .0 .1)
 
--- src/lib.rt:80:9
 cut-set-requires : tie.Need-cut-set-requires
 cut-set-requires c κs =
     let top = c .before .before .before .before .before .before .before .before .before .before .before .before .before .before .before .before .before .before .before .before in
@@ -69,22 +61,18 @@ cut-set-requires c κs =
     let z = cut-fits _ _ _ _ _ _ (x .stored) _ _ _ _ _ (c .before .before .before .before .before .before .before .before .before .give-back .ensures .1) (top .pre .0 .0 .tracksMost) in
     (search needs, c .before .before .third-record .ensures .long, z .0, z .1, z .2, top .pre .0 .0, ttr-fits (top .args .ttr) (c .before .before .before .before .before .before .before .before .before .before .before .before .before .before .measure .result .tracks) (sym (c .before .before .before .before .before .before .before .before .before .before .before .before .before .good-ttr .ensures) ∙ c .before .before .before .before .before .before .before .before .before .before .before .before .if1 .taken) .0)
 
--- src/lib.rt:81:30
 if-few-requires : tie.Need-if-few-requires
 if-few-requires c κs = search needs
 
--- src/lib.rt:81:5
 free-slot-requires : tie.Need-free-slot-requires
 free-slot-requires c κs =
     let top = c .before .before .before .before .before .before .before .before .before .before .before .before .before .before .before .before .before .before .before .before .before .before .before in
     let x = c .before .before .before .before .before .before .before .before .before .before .before .before .before .before .before .before .before .measure .ensures _ _ (top .pre .1) in
     (top .pre .0 .3, freed-small (c .before .before .cut-set .result) (c .before .before .before .before .before .before .before .before .before .before .before .before .before .before .before .before .before .measure .result .third) (c .if-few .result) _ (c .if-few .ensures) (third-inside _ _ _ _ _ (top .pre .1) _ _ _ _ x) (top .pre .0 .0 .most))
 
--- src/lib.rt:87:9
 cast-put-set : tie.Need-cast-put-set
 cast-put-set c = search needs
 
--- src/lib.rt:82:8
 put-set-requires : tie.Need-put-set-requires
 put-set-requires c κs =
     let top = c .before .before .before .before .before .before .before .before .before .before .before .before .before .before .before .before .before .before .before .before .before .before .before .before .before .before .before .before .before .before .before .before in
@@ -95,19 +83,17 @@ put-set-requires c κs =
       draft _ _ _ _ _ (top .pre .1) (top .args .ttr) _ _ _ _ x (sym (c .before .before .before .before .before .before .before .before .before .before .before .before .before .before .before .before .before .before .before .before .before .before .before .before .before .good-ttr .ensures) ∙ c .before .before .before .before .before .before .before .before .before .before .before .before .before .before .before .before .before .before .before .before .before .before .before .before .if1 .taken) _ _ _ _ y _ _ (c .before .before .before .before .before .before .before .before .before .if-few .ensures) (c .before .before .before .before .before .before .before .before .free-slot .ensures),
     )
 
--- src/lib.rt:94:9
 same-length-2 : tie.Need-same-length-2
 same-length-2 c = search needs
 
--- src/lib.rt:94:9
 same-length-3 : tie.Need-same-length-3
-same-length-3 c = c .before .before .before .before .before .before .before .before .before .before .before .before .before .before .before .before .before .before .before .before .before .before .before .before .before .before .before .give-back .ensures .0 .long
+same-length-3 c =
+    let at-give-back = c .before .before .before .before .before .before .before .before .before .before .before .before .before .before .before .before .before .before .before .before .before .before .before .before .before .before .before in
+    at-give-back .give-back .ensures .0 .long
 
--- src/lib.rt:94:9
 same-length-4 : tie.Need-same-length-4
 same-length-4 c = search needs
 
--- src/lib.rt:94:9
 returns-2 : tie.Need-returns-2
 returns-2 c =
     let top = c .before .before .before .before .before .before .before .before .before .before .before .before .before .before .before .before .before .before .before .before .before .before .before .before .before .before .before .before .before .before .before .before .before .before .before .before .before .before in
@@ -116,15 +102,12 @@ returns-2 c =
     let y = cut _ _ _ _ _ d (top .args .ttr) _ _ _ _ x _ _ _ _ _ (c .before .before .before .before .before .before .before .before .before .before .before .before .before .before .before .before .before .before .before .before .before .before .before .before .before .before .before .give-back .ensures) _ _ (c .before .before .before .before .before .before .before .before .before .before .before .before .before .before .before .before .before .before .before .before .before .before .record-of .ensures ∙ c .before .before .before .before .before .before .before .before .before .before .before .before .before .before .before .before .before .before .before .before .before .before .before .record-at .ensures .0) (c .before .before .before .before .before .before .before .before .before .before .before .before .before .before .before .before .before .before .before .before .third-record .ensures) _ _ _ (c .before .before .before .before .before .before .before .before .before .before .before .before .before .before .before .before .before .cut-set .ensures) in
     full _ _ _ _ _ d (top .args .ttr) _ _ _ _ x (sym (c .before .before .before .before .before .before .before .before .before .before .before .before .before .before .before .before .before .before .before .before .before .before .before .before .before .before .before .before .before .before .before .good-ttr .ensures) ∙ c .before .before .before .before .before .before .before .before .before .before .before .before .before .before .before .before .before .before .before .before .before .before .before .before .before .before .before .before .before .before .if1 .taken) _ _ _ _ y _ _ (c .before .before .before .before .before .before .before .before .before .before .before .before .before .before .before .if-few .ensures) (c .before .before .before .before .before .before .before .before .before .before .before .before .before .before .free-slot .ensures) _ _ _ (c .before .before .before .before .before .put-set .ensures) (c .if2 .left)
 
--- src/lib.rt:96:43
 add-put-back : tie.Need-add-put-back
 add-put-back c = omega (arith, ttr-fits (c .before .before .before .before .before .before .before .before .before .before .before .before .before .before .before .before .before .before .before .before .before .before .before .before .before .before .before .before .before .before .before .before .before .before .before .before .before .before .before .args .ttr) (c .before .before .before .before .before .before .before .before .before .before .before .before .before .before .before .before .before .before .before .before .before .before .before .before .before .before .before .before .before .before .before .before .before .measure .result .tracks) (sym (c .before .before .before .before .before .before .before .before .before .before .before .before .before .before .before .before .before .before .before .before .before .before .before .before .before .before .before .before .before .before .before .before .good-ttr .ensures) ∙ c .before .before .before .before .before .before .before .before .before .before .before .before .before .before .before .before .before .before .before .before .before .before .before .before .before .before .before .before .before .before .before .if1 .taken) .0)
 
--- src/lib.rt:96:31
 sub-put-back : tie.Need-sub-put-back
 sub-put-back c = omega (arith, ttr-fits (c .before .before .before .before .before .before .before .before .before .before .before .before .before .before .before .before .before .before .before .before .before .before .before .before .before .before .before .before .before .before .before .before .before .before .before .before .before .before .before .before .args .ttr) (c .before .before .before .before .before .before .before .before .before .before .before .before .before .before .before .before .before .before .before .before .before .before .before .before .before .before .before .before .before .before .before .before .before .before .measure .result .tracks) (sym (c .before .before .before .before .before .before .before .before .before .before .before .before .before .before .before .before .before .before .before .before .before .before .before .before .before .before .before .before .before .before .before .before .before .good-ttr .ensures) ∙ c .before .before .before .before .before .before .before .before .before .before .before .before .before .before .before .before .before .before .before .before .before .before .before .before .before .before .before .before .before .before .before .before .if1 .taken) .1)
 
--- src/lib.rt:96:5
 put-back-requires : tie.Need-put-back-requires
 put-back-requires c κs =
     let top = c .before .before .before .before .before .before .before .before .before .before .before .before .before .before .before .before .before .before .before .before .before .before .before .before .before .before .before .before .before .before .before .before .before .before .before .before .before .before .before .before in
@@ -132,23 +115,20 @@ put-back-requires c κs =
     let b = c .before .before .before .before .before .before .before .before .before .before .before .before .before .before .before .before .before .before .before .before .before .before .before .before .before .before .before .before .before .before .before .before .before .before .measure .ensures _ _ (top .pre .1) .spread .sum in
     (top .pre .0 .5, omega arith)
 
--- src/lib.rt:60:1
 same-length-5 : tie.Need-same-length-5
 same-length-5 c = search needs
 
--- src/lib.rt:60:1
 same-length-6 : tie.Need-same-length-6
-same-length-6 c = c .before .before .before .before .before .before .before .before .before .before .before .before .before .before .before .before .before .before .before .before .before .before .before .before .before .before .before .before .before .before .before .before .give-back .ensures .0 .long
+same-length-6 c =
+    let at-give-back = c .before .before .before .before .before .before .before .before .before .before .before .before .before .before .before .before .before .before .before .before .before .before .before .before .before .before .before .before .before .before .before .before in
+    at-give-back .give-back .ensures .0 .long
 
--- src/lib.rt:60:1
 same-length-7 : tie.Need-same-length-7
 same-length-7 c = search needs
 
--- src/lib.rt:60:1
 same-length-8 : tie.Need-same-length-8
 same-length-8 c = search needs
 
--- src/lib.rt:60:1
 returns-3 : tie.Need-returns-3
 returns-3 c =
     let top = c .before .before .before .before .before .before .before .before .before .before .before .before .before .before .before .before .before .before .before .before .before .before .before .before .before .before .before .before .before .before .before .before .before .before .before .before .before .before .before .before .before .before .before in

@@ -13,22 +13,18 @@ use Rattle.giving.proofs.free_slot.Reads as free-slot-reads
 use Rattle.giving.proofs.give_back.Reads as give-back-reads
 use Rattle.giving.proofs.measure.Reads as measure-reads
 
--- src/lib.rt:31:9
 measure-requires : tie.Need-measure-requires
 measure-requires c κs = search needs
 
--- src/lib.rt:32:5
 give-back-requires : tie.Need-give-back-requires
 give-back-requires c κs =
     let top = c .before .before .before .before .before .before .before .before in
     let x = c .before .before .measure .ensures _ _ (top .pre .1) in
     ((top .pre .0 .1, top .pre .0 .4, third-inside _ _ _ _ _ (top .pre .1) _ _ _ _ x, top .pre .0 .2), x .stored .set)
 
--- src/lib.rt:33:5
 free-slot-requires : tie.Need-free-slot-requires
 free-slot-requires c κs = search needs
 
--- src/lib.rt:34:5
 free-slot-requires-2 : tie.Need-free-slot-requires-2
 free-slot-requires-2 c κs =
     let top = c .before .before .before .before .before .before .before .before .before .before .before .before .before .before .before .before in
@@ -36,11 +32,9 @@ free-slot-requires-2 c κs =
     let e = top .pre .0 .0 .most in
     (c .before .before .before .free-slot .ensures .long ∙ top .pre .0 .3, omega arith)
 
--- src/lib.rt:35:47
 cast-drop-set : tie.Need-cast-drop-set
 cast-drop-set c = search needs
 
--- src/lib.rt:35:8
 drop-set-requires : tie.Need-drop-set-requires
 drop-set-requires c κs =
     let top = c .before .before .before .before .before .before .before .before .before .before .before .before .before .before .before .before .before .before .before .before .before .before .before in
@@ -49,23 +43,24 @@ drop-set-requires c κs =
       left _ _ _ _ _ (top .pre .1) _ _ _ _ x _ _ _ (c .before .before .before .before .before .before .before .before .before .before .before .before .before .before .give-back .ensures .0) (c .before .before .before .before .before .before .before .before .before .before .free-slot .ensures) (c .before .before .before .before .before .before .free-slot2 .ensures),
     )
 
--- src/lib.rt:36:9
 same-length : tie.Need-same-length
 same-length c = search needs
 
--- src/lib.rt:36:9
 same-length-2 : tie.Need-same-length-2
 same-length-2 c = search needs
 
--- src/lib.rt:36:9
 same-length-3 : tie.Need-same-length-3
 same-length-3 c = search needs
 
--- src/lib.rt:36:9
 returns : tie.Need-returns
-returns c = λ d. full _ _ _ _ _ d _ _ _ _ (c .before .before .before .before .before .before .before .before .before .before .before .before .before .before .before .before .before .before .before .before .before .before .before .measure .ensures _ _ d) _ _ _ (c .before .before .before .before .before .before .before .before .before .before .before .before .before .before .before .before .before .before .before .before .give-back .ensures .0) (c .before .before .before .before .before .before .before .before .before .before .before .before .before .before .before .before .free-slot .ensures) (c .before .before .before .before .before .before .before .before .before .before .before .before .free-slot2 .ensures) _ _ _ (c .before .before .before .before .before .drop-set .ensures) (c .if1 .left)
+returns c =
+    let at-drop-set = c .before .before .before .before .before in
+    let at-free-slot2 = at-drop-set .before .before .before .before .before .before .before in
+    let at-free-slot = at-free-slot2 .before .before .before .before in
+    let at-give-back = at-free-slot .before .before .before .before in
+    let at-measure = at-give-back .before .before .before in
+    λ d. full _ _ _ _ _ d _ _ _ _ (at-measure .measure .ensures _ _ d) _ _ _ (at-give-back .give-back .ensures .0) (at-free-slot .free-slot .ensures) (at-free-slot2 .free-slot2 .ensures) _ _ _ (at-drop-set .drop-set .ensures) (c .if1 .left)
 
--- src/lib.rt:38:5
 put-back-requires : tie.Need-put-back-requires
 put-back-requires c κs =
     let top = c .before .before .before .before .before .before .before .before .before .before .before .before .before .before .before .before .before .before .before .before .before .before .before .before .before .before .before .before .before .before in
@@ -73,25 +68,27 @@ put-back-requires c κs =
     let b = c .before .before .before .before .before .before .before .before .before .before .before .before .before .before .before .before .before .before .before .before .before .before .before .before .measure .ensures _ _ (top .pre .1) .spread .sum in
     (top .pre .0 .5, omega arith)
 
--- src/lib.rt:19:1
 same-length-4 : tie.Need-same-length-4
 same-length-4 c = search needs
 
--- src/lib.rt:19:1
 same-length-5 : tie.Need-same-length-5
 same-length-5 c = search needs
 
--- src/lib.rt:19:1
 same-length-6 : tie.Need-same-length-6
 same-length-6 c = search needs
 
--- src/lib.rt:19:1
 same-length-7 : tie.Need-same-length-7
 same-length-7 c = search needs
 
--- src/lib.rt:19:1
 returns-2 : tie.Need-returns-2
-returns-2 c = λ d. gone _ _ _ _ _ d _ _ _ _ (c .before .before .before .before .before .before .before .before .before .before .before .before .before .before .before .before .before .before .before .before .before .before .before .before .before .before .before .measure .ensures _ _ d) _ _ _ (c .before .before .before .before .before .before .before .before .before .before .before .before .before .before .before .before .before .before .before .before .before .before .before .before .give-back .ensures .0) (c .before .before .before .before .before .before .before .before .before .before .before .before .before .before .before .before .before .before .before .before .free-slot .ensures) (c .before .before .before .before .before .before .before .before .before .before .before .before .before .before .before .before .free-slot2 .ensures) _ _ _ (c .before .before .before .before .before .before .before .before .before .drop-set .ensures) (c .before .before .before .before .if1 .taken) _ (c .before .before .put-back .ensures)
+returns-2 c =
+    let at-if1 = c .before .before .before .before in
+    let at-drop-set = at-if1 .before .before .before .before .before in
+    let at-free-slot2 = at-drop-set .before .before .before .before .before .before .before in
+    let at-free-slot = at-free-slot2 .before .before .before .before in
+    let at-give-back = at-free-slot .before .before .before .before in
+    let at-measure = at-give-back .before .before .before in
+    λ d. gone _ _ _ _ _ d _ _ _ _ (at-measure .measure .ensures _ _ d) _ _ _ (at-give-back .give-back .ensures .0) (at-free-slot .free-slot .ensures) (at-free-slot2 .free-slot2 .ensures) _ _ _ (at-drop-set .drop-set .ensures) (at-if1 .if1 .taken) _ (c .before .before .put-back .ensures)
 
 pub scratch-set-spec : {M : Type 1} → statement M
 scratch-set-spec =

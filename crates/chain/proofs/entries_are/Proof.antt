@@ -26,84 +26,70 @@ Inv-loop x w map n at g t₀ seen₀ j₀ t seen j = (j ≤ w) × Going (geometr
 abbrev μ-loop : tie.MeasureT-loop
 μ-loop x w map n at g t₀ seen₀ j₀ t seen j = w - j
 
--- src/lib.rt:64:5
 rest-of-requires : tie.Need-rest-of-requires Inv-loop μ-loop
 rest-of-requires c κs = search needs
 
 loop-holds : tie.Need-loop-holds Inv-loop μ-loop
 loop-holds c = (omega arith, going-none (geometryOf (c .before .before .before .args .g)) (c .before .before .before .args .map .now) (c .before .before .before .args .n) (c .before .before .before .args .at) (c .before .before .before .args .w) (c .before .before .before .args .x .now) (c .before .before .before .pre .2), c .rest-of .ensures)
 
--- src/lib.rt:65:13
 run-ahead-requires : tie.Need-run-ahead-requires Inv-loop μ-loop
-run-ahead-requires c κs = (c .before .loop .inv .1 .upTo, c .before .before .before .before .before .pre .3, c .before .loop .inv .2)
+run-ahead-requires c κs =
+    let top = c .before .before .before .before .before in
+    (c .before .loop .inv .1 .upTo, top .pre .3, c .before .loop .inv .2)
 
--- src/lib.rt:68:17
 mul-p : tie.Need-mul-p Inv-loop μ-loop
 mul-p c = search needs
 
--- src/lib.rt:70:38
 sub-all-are : tie.Need-sub-all-are Inv-loop μ-loop
 sub-all-are c = search needs
 
--- src/lib.rt:70:38
 part-all-are-start : tie.Need-part-all-are-start Inv-loop μ-loop
 part-all-are-start c = search needs
 
--- src/lib.rt:70:38
 part-all-are-end : tie.Need-part-all-are-end Inv-loop μ-loop
 part-all-are-end c = search needs
 
--- src/lib.rt:70:17
 all-are-requires : tie.Need-all-are-requires Inv-loop μ-loop
 all-are-requires c κs = search needs
 
--- src/lib.rt:71:13
 returns : tie.Need-returns Inv-loop μ-loop
 returns c =
-    going-ends (geometryOf (c .before .before .before .before .before .before .before .before .before .args .g)) (c .before .before .before .before .before .before .before .before .before .args .map .now) (c .before .before .before .before .before .before .before .before .before .args .n) (c .before .before .before .before .before .before .before .before .before .args .at) (c .before .before .before .before .before .before .before .before .before .args .w) (c .before .before .before .before .before .before .before .before .before .args .x .now) (c .before .before .before .before .before .loop .j) (c .before .before .before .before .before .loop .t) (c .before .before .before .run-ahead .result .from) (c .before .before .before .run-ahead .result .to) (c .all-are .result) (c .before .before .before .before .before .loop .inv .0) (c .before .before .before .before .before .before .before .before .before .pre .0) (c .before .before .before .before .before .loop .inv .1) (c .before .before .before .run-ahead .ensures .0) (c .before .before .if1 .taken)
-    (rw (from-place (c .before .before .before .before .before .before .before .before .before .args .x .now) (5 * c .before .before .before .before .before .loop .j)) at (c .all-are .ensures))
+    let at-run-ahead = c .before .before .before in
+    let at-loop = at-run-ahead .before .before in
+    let top = at-loop .before .before .before .before in
+    going-ends (geometryOf (top .args .g)) (top .args .map .now) (top .args .n) (top .args .at) (top .args .w) (top .args .x .now) (at-loop .loop .j) (at-loop .loop .t) (at-run-ahead .run-ahead .result .from) (at-run-ahead .run-ahead .result .to) (c .all-are .result) (at-loop .loop .inv .0) (top .pre .0) (at-loop .loop .inv .1) (at-run-ahead .run-ahead .ensures .0) (c .before .before .if1 .taken)
+    (rw (from-place (top .args .x .now) (5 * at-loop .loop .j)) at (c .all-are .ensures))
 
--- src/lib.rt:73:17
 add-e : tie.Need-add-e Inv-loop μ-loop
 add-e c = search needs
 
--- src/lib.rt:74:21
 sub-is-entry : tie.Need-sub-is-entry Inv-loop μ-loop
 sub-is-entry c = search needs
 
--- src/lib.rt:74:21
 part-is-entry-start : tie.Need-part-is-entry-start Inv-loop μ-loop
 part-is-entry-start c = search needs
 
--- src/lib.rt:74:21
 part-is-entry-end : tie.Need-part-is-entry-end Inv-loop μ-loop
 part-is-entry-end c = search needs
 
--- src/lib.rt:74:40
 cast-is-entry : tie.Need-cast-is-entry Inv-loop μ-loop
 cast-is-entry c = search needs
 
--- src/lib.rt:74:54
 sub-is-entry-2 : tie.Need-sub-is-entry-2 Inv-loop μ-loop
 sub-is-entry-2 c = search needs
 
--- src/lib.rt:74:53
 cast-is-entry-2 : tie.Need-cast-is-entry-2 Inv-loop μ-loop
 cast-is-entry-2 c = search needs
 
--- src/lib.rt:74:12
 is-entry-requires : tie.Need-is-entry-requires Inv-loop μ-loop
 is-entry-requires c κs = (simp (length-take, length-drop) (omega (arith, c .before .before .before .before .before .before .before .before .pre .0)), c .before .before .before .before .before .before .before .before .pre .5 .headsMost)
 
--- src/lib.rt:76:13
 add-j : tie.Need-add-j Inv-loop μ-loop
 add-j c = search needs
 
--- src/lib.rt:64:5
 loop-less : tie.Need-loop-less Inv-loop μ-loop
 loop-less c = search needs
 
--- src/lib.rt:64:5
 loop-again : tie.Need-loop-again Inv-loop μ-loop
 loop-again c =
     let j = c .before .before .before .before .before .before .loop .j in
@@ -116,7 +102,6 @@ loop-again c =
       c .before .before .before .before .run-ahead .ensures .1,
     )
 
--- src/lib.rt:78:13
 returns-2 : tie.Need-returns-2 Inv-loop μ-loop
 returns-2 c =
     let j = c .before .before .before .before .before .before .loop .j in
@@ -127,9 +112,10 @@ returns-2 c =
     (going-bad (geometryOf (c .before .before .before .before .before .before .before .before .before .before .args .g)) (c .before .before .before .before .before .before .before .before .before .before .args .map .now) (c .before .before .before .before .before .before .before .before .before .before .args .n) (c .before .before .before .before .before .before .before .before .before .before .args .at) (c .before .before .before .before .before .before .before .before .before .before .args .w) x j (c .before .before .before .before .before .before .loop .t) (c .before .before .before .before .run-ahead .result .from) (c .before .before .before .before .run-ahead .result .to) (c .before .before .before .before .before .loop-test .taken) (c .before .before .before .before .before .before .loop .inv .1) (c .before .before .before .before .run-ahead .ensures .0) (c .before .before .before .if1 .left)
     (entry-no (geometryOf (c .before .before .before .before .before .before .before .before .before .before .args .g)) (c .before .before .before .before .before .before .before .before .before .before .pre .5 .heads) (c .before .before .before .before .run-ahead .result .from) (c .before .before .before .before .run-ahead .result .to - c .before .before .before .before .run-ahead .result .from) (part (5 * j) 5 x) (sym r ∙ c .if2 .left)))
 
--- src/lib.rt:58:1
 returns-3 : tie.Need-returns-3 Inv-loop μ-loop
-returns-3 c = going-done (geometryOf (c .before .before .before .before .before .args .g)) (c .before .before .before .before .before .args .map .now) (c .before .before .before .before .before .args .n) (c .before .before .before .before .before .args .at) (c .before .before .before .before .before .args .w) (c .before .before .before .before .before .args .x .now) (c .before .loop .j) (c .before .loop .t) (c .loop-test .left) (c .before .loop .inv .0) (c .before .before .before .before .before .pre .0) (c .before .loop .inv .1)
+returns-3 c =
+    let top = c .before .before .before .before .before in
+    going-done (geometryOf (top .args .g)) (top .args .map .now) (top .args .n) (top .args .at) (top .args .w) (top .args .x .now) (c .before .loop .j) (c .before .loop .t) (c .loop-test .left) (c .before .loop .inv .0) (top .pre .0) (c .before .loop .inv .1)
 
 pub entries-are-spec : {M : Type 1} → statement M
 entries-are-spec =

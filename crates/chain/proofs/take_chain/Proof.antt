@@ -24,48 +24,54 @@ Inv-loop table g map empty₀ k₀ at₀ empty k at =
 abbrev μ-loop : tie.MeasureT-loop
 μ-loop table g map empty₀ k₀ at₀ empty k at = length (freeFrom map (tracks (geometryOf g)) at)
 
--- src/lib.rt:54:5
 loop-holds : tie.Need-loop-holds Inv-loop μ-loop
 loop-holds c = (omega (arith, c .before .before .before .pre .0 .least), omega arith, refl, λ s r x. x)
 
--- src/lib.rt:55:13
 take-member-requires : tie.Need-take-member-requires Inv-loop μ-loop
 take-member-requires c κs =
+    let top = c .before .before .before .before .before in
     let l = c .before .loop .inv in
-    (c .before .before .before .before .before .pre .0, c .before .before .before .before .before .pre .1, l .0, l .1, c .before .before .before .before .before .pre .2, l .2 ∙ c .before .before .before .before .before .pre .3)
+    (top .pre .0, top .pre .1, l .0, l .1, top .pre .2, l .2 ∙ top .pre .3)
 
--- src/lib.rt:57:13
 same-length : tie.Need-same-length Inv-loop μ-loop
 same-length c = search needs
 
--- src/lib.rt:57:13
 returns : tie.Need-returns Inv-loop μ-loop
 returns c =
-    let l = c .before .before .before .before .before .loop .inv in
-    l .3 _ false (gone-bad (geometryOf (c .before .before .before .before .before .before .before .before .before .args .g)) (c .before .before .before .before .before .before .before .before .before .args .table .now) (c .before .before .before .before .before .before .before .before .before .args .map .now) _ (c .before .before .before .before .before .loop .k) (l .0) (c .before .before .before .before .before .loop .empty) _ (c .before .before .before .take-member .result) (c .before .before .before .take-member .ensures) (c .if1 .left))
+    let at-take-member = c .before .before .before in
+    let at-loop = at-take-member .before .before in
+    let top = at-loop .before .before .before .before in
+    let l = at-loop .loop .inv in
+    l .3 _ false (gone-bad (geometryOf (top .args .g)) (top .args .table .now) (top .args .map .now) _ (at-loop .loop .k) (l .0) (at-loop .loop .empty) _ (at-take-member .take-member .result) (at-take-member .take-member .ensures) (c .if1 .left))
 
--- src/lib.rt:60:13
 same-length-2 : tie.Need-same-length-2 Inv-loop μ-loop
 same-length-2 c = search needs
 
--- src/lib.rt:60:13
 returns-2 : tie.Need-returns-2 Inv-loop μ-loop
 returns-2 c =
-    let l = c .before .before .before .before .before .before .loop .inv in
-    l .3 _ true (gone-last (geometryOf (c .before .before .before .before .before .before .before .before .before .before .args .g)) (c .before .before .before .before .before .before .before .before .before .before .args .table .now) (c .before .before .before .before .before .before .before .before .before .before .args .map .now) _ (c .before .before .before .before .before .before .loop .k) (l .0) (c .before .before .before .before .before .before .loop .empty) _ (c .before .before .before .before .take-member .result) (c .before .before .before .before .take-member .ensures) (c .before .if1 .taken) (c .if2 .taken))
+    let at-take-member = c .before .before .before .before in
+    let at-loop = at-take-member .before .before in
+    let top = at-loop .before .before .before .before in
+    let l = at-loop .loop .inv in
+    l .3 _ true (gone-last (geometryOf (top .args .g)) (top .args .table .now) (top .args .map .now) _ (at-loop .loop .k) (l .0) (at-loop .loop .empty) _ (at-take-member .take-member .result) (at-take-member .take-member .ensures) (c .before .if1 .taken) (c .if2 .taken))
 
--- src/lib.rt:54:5
 loop-less : tie.Need-loop-less Inv-loop μ-loop
-loop-less c = fewer (geometryOf (c .before .before .before .before .before .before .before .before .before .before .args .g)) (c .before .before .before .before .before .before .before .before .before .before .args .table .now) (c .before .before .before .before .before .before .before .before .before .before .args .map .now) _ (c .before .before .before .before .before .before .loop .k) (c .before .before .before .before .before .before .loop .empty) _ (c .before .before .before .before .take-member .result) (c .before .before .before .before .take-member .ensures) (c .before .if1 .taken) (c .if2 .left)
+loop-less c =
+    let at-take-member = c .before .before .before .before in
+    let at-loop = at-take-member .before .before in
+    let top = at-loop .before .before .before .before in
+    fewer (geometryOf (top .args .g)) (top .args .table .now) (top .args .map .now) _ (at-loop .loop .k) (at-loop .loop .empty) _ (at-take-member .take-member .result) (at-take-member .take-member .ensures) (c .before .if1 .taken) (c .if2 .left)
 
--- src/lib.rt:54:5
 loop-again : tie.Need-loop-again Inv-loop μ-loop
 loop-again c =
-    let l = c .before .before .before .before .before .before .loop .inv in (
-      c .before .before .before .before .take-member .ensures .inside (c .before .if1 .taken),
-      c .before .before .before .before .take-member .ensures .upTo (c .before .if1 .taken),
-      c .before .before .before .before .take-member .ensures .long ∙ l .2,
-      λ s r x. l .3 s r (go-on (geometryOf (c .before .before .before .before .before .before .before .before .before .before .args .g)) (c .before .before .before .before .before .before .before .before .before .before .args .table .now) (c .before .before .before .before .before .before .before .before .before .before .args .map .now) _ (c .before .before .before .before .before .before .loop .k) (l .0) (c .before .before .before .before .before .before .loop .empty) _ (c .before .before .before .before .take-member .result) (c .before .before .before .before .take-member .ensures) (c .before .if1 .taken) (c .if2 .left) s r x),
+    let at-take-member = c .before .before .before .before in
+    let at-loop = at-take-member .before .before in
+    let top = at-loop .before .before .before .before in
+    let l = at-loop .loop .inv in (
+      at-take-member .take-member .ensures .inside (c .before .if1 .taken),
+      at-take-member .take-member .ensures .upTo (c .before .if1 .taken),
+      at-take-member .take-member .ensures .long ∙ l .2,
+      λ s r x. l .3 s r (go-on (geometryOf (top .args .g)) (top .args .table .now) (top .args .map .now) _ (at-loop .loop .k) (l .0) (at-loop .loop .empty) _ (at-take-member .take-member .result) (at-take-member .take-member .ensures) (c .before .if1 .taken) (c .if2 .left) s r x),
     )
 
 pub take-chain-spec : {M : Type 1} → statement M

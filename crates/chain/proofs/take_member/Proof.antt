@@ -27,109 +27,101 @@ use Rattle.fields.proofs.slot_of.Reads as slot-of-reads
 use Rattle.tracks.proofs.next_run.Reads as next-run-reads
 use Rattle.tracks.proofs.take_range.Reads as take-range-reads
 
--- src/lib.rt:133:37
 add-take-range : tie.Need-add-take-range
 add-take-range c = search needs
 
--- src/lib.rt:133:8
 take-range-requires : tie.Need-take-range-requires
 take-range-requires c κs = search needs
 
--- src/lib.rt:134:9
 refused-requires : tie.Need-refused-requires
 refused-requires c κs = search needs
 
--- src/lib.rt:134:9
 same-length : tie.Need-same-length
 same-length c = search needs
 
--- src/lib.rt:134:9
 returns : tie.Need-returns
-returns c = held-hit (geometryOf (c .before .before .before .before .before .before .before .before .before .args .g)) (c .before .before .before .before .before .before .before .before .before .args .table .now) (c .before .before .before .before .before .before .before .before .before .args .map .now) _ (c .before .before .before .before .before .before .before .before .before .args .k) (c .before .before .before .before .before .before .before .before .before .args .empty .now) _ _ (c .before .before .before .before .before .before .before .before .before .pre .2) (c .before .before .before .before .take-range .result) (c .before .if1 .left) (c .before .before .before .before .take-range .ensures) (c .refused .ensures)
+returns c =
+    let at-take-range = c .before .before .before .before in
+    let top = at-take-range .before .before .before .before .before in
+    held-hit (geometryOf (top .args .g)) (top .args .table .now) (top .args .map .now) _ (top .args .k) (top .args .empty .now) _ _ (top .pre .2) (at-take-range .take-range .result) (c .before .if1 .left) (at-take-range .take-range .ensures) (c .refused .ensures)
 
--- src/lib.rt:136:14
 mul-t : tie.Need-mul-t
 mul-t c = search needs
 
--- src/lib.rt:136:13
 cast-t : tie.Need-cast-t
 cast-t c = search needs
 
--- src/lib.rt:137:9
 record-at-requires : tie.Need-record-at-requires
 record-at-requires c κs = search needs
 
--- src/lib.rt:138:9
 compare-requires : tie.Need-compare-requires
 compare-requires c κs = search needs
 
--- src/lib.rt:140:9
 refused-requires-2 : tie.Need-refused-requires-2
 refused-requires-2 c κs = search needs
 
--- src/lib.rt:140:9
 same-length-2 : tie.Need-same-length-2
 same-length-2 c = search needs
 
--- src/lib.rt:140:9
 returns-2 : tie.Need-returns-2
 returns-2 c =
-    held-bad (geometryOf (c .before .before .before .before .before .before .before .before .before .before .before .before .before .args .g)) (c .before .before .before .before .before .before .before .before .before .before .before .before .before .pre .0) (c .before .before .before .before .before .before .before .before .before .before .before .before .before .args .table .now) (c .before .before .before .before .before .before .before .before .before .before .before .before .before .args .map .now) (c .before .before .before .before .before .before .before .before .before .before .before .before .before .args .at) (c .before .before .before .before .before .before .before .before .before .before .before .before .before .args .k) (c .before .before .before .before .before .before .before .before .before .before .before .before .before .args .empty .now) _ (c .before .before .before .before .before .before .before .before .take-range .result) (c .before .before .before .before .before .if1 .taken) (c .before .before .before .before .before .before .before .before .take-range .ensures)
-    _ (c .before .before .before .record-at .result .now) (c .before .before .compare .result .ok) (c .before .before .compare .result .next) (c .before .before .before .record-at .ensures .0) (c .before .before .compare .ensures) (c .before .if2 .left) (c .refused2 .ensures)
+    let at-record-at = c .before .before .before in
+    let at-if1 = at-record-at .before .before in
+    let at-take-range = at-if1 .before .before .before in
+    let top = at-take-range .before .before .before .before .before in
+    held-bad (geometryOf (top .args .g)) (top .pre .0) (top .args .table .now) (top .args .map .now) (top .args .at) (top .args .k) (top .args .empty .now) _ (at-take-range .take-range .result) (at-if1 .if1 .taken) (at-take-range .take-range .ensures)
+    _ (at-record-at .record-at .result .now) (c .before .before .compare .result .ok) (c .before .before .compare .result .next) (at-record-at .record-at .ensures .0) (c .before .before .compare .ensures) (c .before .if2 .left) (c .refused2 .ensures)
 
--- src/lib.rt:143:9
 next-run-requires : tie.Need-next-run-requires
-next-run-requires c κs = (c .before .compare .ensures .upTo (c .if2 .taken), c .before .before .before .before .before .before .before .before .before .before .before .before .pre .4)
+next-run-requires c κs =
+    let top = c .before .before .before .before .before .before .before .before .before .before .before .before in
+    (c .before .compare .ensures .upTo (c .if2 .taken), top .pre .4)
 
--- src/lib.rt:145:13
 part-is-requires : tie.Need-part-is-requires
 part-is-requires c κs = search needs
 
--- src/lib.rt:146:9
 same-length-3 : tie.Need-same-length-3
 same-length-3 c = search needs
 
--- src/lib.rt:146:9
 returns-3 : tie.Need-returns-3
 returns-3 c =
-    held-last (geometryOf (c .before .before .before .before .before .before .before .before .before .before .before .before .before .before .before .before .args .g)) (c .before .before .before .before .before .before .before .before .before .before .before .before .before .before .before .before .pre .0) (c .before .before .before .before .before .before .before .before .before .before .before .before .before .before .before .before .args .table .now) (c .before .before .before .before .before .before .before .before .before .before .before .before .before .before .before .before .args .map .now) (c .before .before .before .before .before .before .before .before .before .before .before .before .before .before .before .before .args .at) (c .before .before .before .before .before .before .before .before .before .before .before .before .before .before .before .before .args .k) (c .before .before .before .before .before .before .before .before .before .before .before .before .before .before .before .before .args .empty .now) _ (c .before .before .before .before .before .before .before .before .before .before .before .take-range .result) (c .before .before .before .before .before .before .before .before .if1 .taken) (c .before .before .before .before .before .before .before .before .before .before .before .take-range .ensures)
-    (λ j. c .before .before .before .before .before .before .before .before .before .before .before .before .before .before .before .shared-slice-known .given j .fits) (sym (ap length (c .before .before .before .before .before .before .record-at .ensures .0)) ∙ c .before .before .before .before .before .before .record-at .ensures .1) (c .before .before .before .before .before .compare .result .next)
-    (listed-at (geometryOf (c .before .before .before .before .before .before .before .before .before .before .before .before .before .before .before .before .args .g)) (c .before .before .before .before .before .before .before .before .before .before .before .before .before .before .before .before .args .map .now) (tracks (geometryOf (c .before .before .before .before .before .before .before .before .before .before .before .before .before .before .before .before .args .g))) (c .before .before .before .before .before .before .before .before .before .before .before .before .before .before .before .before .args .at) (c .before .before .before .before .before .before .record-at .result .now) (slotBytes (c .before .before .before .before .before .before .before .before .before .before .before .before .before .before .before .before .args .table .now) (c .before .before .before .before .before .before .before .before .before .before .before .before .before .before .before .before .args .k)) (c .before .before .before .before .before .compare .result .ok) true (c .before .before .before .before .before .compare .result .next) (c .before .before .before .before .before .before .record-at .ensures .0) (c .before .before .before .before .if2 .taken) (c .before .before .before .before .before .compare .ensures))
-    _ (c .before .before .before .next-run .ensures .done (c .before .if3 .taken)) (c .part-is .ensures ∙ ap (λ (x : List ℕ). allAre 0 (part 135 5 x)) (c .before .before .before .before .before .before .record-at .ensures .0)) refl refl refl
+    let at-next-run = c .before .before .before in
+    let at-if2 = at-next-run .before in
+    let at-compare = at-if2 .before in
+    let at-record-at = at-compare .before in
+    let at-if1 = at-record-at .before .before in
+    let at-take-range = at-if1 .before .before .before in
+    let at-shared-slice-known = at-take-range .before .before .before .before in
+    let top = at-shared-slice-known .before in
+    held-last (geometryOf (top .args .g)) (top .pre .0) (top .args .table .now) (top .args .map .now) (top .args .at) (top .args .k) (top .args .empty .now) _ (at-take-range .take-range .result) (at-if1 .if1 .taken) (at-take-range .take-range .ensures)
+    (λ j. at-shared-slice-known .shared-slice-known .given j .fits) (sym (ap length (at-record-at .record-at .ensures .0)) ∙ at-record-at .record-at .ensures .1) (at-compare .compare .result .next)
+    (listed-at (geometryOf (top .args .g)) (top .args .map .now) (tracks (geometryOf (top .args .g))) (top .args .at) (at-record-at .record-at .result .now) (slotBytes (top .args .table .now) (top .args .k)) (at-compare .compare .result .ok) true (at-compare .compare .result .next) (at-record-at .record-at .ensures .0) (at-if2 .if2 .taken) (at-compare .compare .ensures))
+    _ (at-next-run .next-run .ensures .done (c .before .if3 .taken)) (c .part-is .ensures ∙ ap (λ (x : List ℕ). allAre 0 (part 135 5 x)) (at-record-at .record-at .ensures .0)) refl refl refl
 
--- src/lib.rt:153:14
 mul-n : tie.Need-mul-n
 mul-n c = search needs
 
--- src/lib.rt:153:13
 cast-n : tie.Need-cast-n
 cast-n c = search needs
 
--- src/lib.rt:154:32
 sub-slot-of : tie.Need-sub-slot-of
 sub-slot-of c = search needs
 
--- src/lib.rt:154:32
 part-slot-of-start : tie.Need-part-slot-of-start
 part-slot-of-start c = search needs
 
--- src/lib.rt:154:32
 part-slot-of-end : tie.Need-part-slot-of-end
 part-slot-of-end c = search needs
 
--- src/lib.rt:154:9
 slot-of-requires : tie.Need-slot-of-requires
 slot-of-requires c κs = (length-part 135 5 (c .before .before .before .before .before .before .before .record-at .result .now) (omega (arith, c .before .before .before .before .before .before .before .record-at .ensures .1)), c .before .before .before .before .before .before .before .before .before .before .before .before .before .before .before .before .before .pre .0 .headsMost, c .before .before .before .before .before .before .before .before .before .before .before .before .before .before .before .before .before .pre .0 .recordsMost)
 
--- src/lib.rt:155:9
 is-linked-requires : tie.Need-is-linked-requires
 is-linked-requires c κs = search needs
 
--- src/lib.rt:122:1
 same-length-4 : tie.Need-same-length-4
 same-length-4 c = search needs
 
--- src/lib.rt:122:1
 returns-4 : tie.Need-returns-4
 returns-4 c =
     held-more (geometryOf (c .before .before .before .before .before .before .before .before .before .before .before .before .before .before .before .before .before .before .before .args .g)) (c .before .before .before .before .before .before .before .before .before .before .before .before .before .before .before .before .before .before .before .pre .0) (c .before .before .before .before .before .before .before .before .before .before .before .before .before .before .before .before .before .before .before .args .table .now) (c .before .before .before .before .before .before .before .before .before .before .before .before .before .before .before .before .before .before .before .args .map .now) (c .before .before .before .before .before .before .before .before .before .before .before .before .before .before .before .before .before .before .before .args .at) (c .before .before .before .before .before .before .before .before .before .before .before .before .before .before .before .before .before .before .before .args .k) (c .before .before .before .before .before .before .before .before .before .before .before .before .before .before .before .before .before .before .before .args .empty .now) _ (c .before .before .before .before .before .before .before .before .before .before .before .before .before .before .take-range .result) (c .before .before .before .before .before .before .before .before .before .before .before .if1 .taken) (c .before .before .before .before .before .before .before .before .before .before .before .before .before .before .take-range .ensures)

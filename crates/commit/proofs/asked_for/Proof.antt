@@ -6,25 +6,22 @@ use Rattle.commit.proofs.asked_for.Reads as reads
 use Rattle.commit.proofs.asked_for.Lts as lts
 use Rattle.commit.proofs.asks.Reads as asks-reads
 
--- src/lib.rt:32:9
 asks-requires : tie.Need-asks-requires
 asks-requires c κs = search needs
 
--- src/lib.rt:34:9
 returns : tie.Need-returns
 returns c = asked-few (c .before .before .args .slot) (c .before .before .args .third) _ (c .before .before .args .few) (c .if1 .taken) (c .before .asks .ensures .0) (c .before .asks .ensures .1)
 
--- src/lib.rt:36:13
 asks-requires-2 : tie.Need-asks-requires-2
 asks-requires-2 c κs = search needs
 
--- src/lib.rt:36:5
 add-result : tie.Need-add-result
 add-result c = search needs
 
--- src/lib.rt:29:1
 returns-2 : tie.Need-returns-2
-returns-2 c = asked-many (c .before .before .before .args .slot) (c .before .before .before .args .third) _ _ (c .before .before .before .args .few) (c .before .if1 .left) (c .before .before .asks .ensures .0) (c .before .before .asks .ensures .1) (c .asks2 .ensures .0) (c .asks2 .ensures .1)
+returns-2 c =
+    let top = c .before .before .before in
+    asked-many (top .args .slot) (top .args .third) _ _ (top .args .few) (c .before .if1 .left) (c .before .before .asks .ensures .0) (c .before .before .asks .ensures .1) (c .asks2 .ensures .0) (c .asks2 .ensures .1)
 
 pub asked-for-spec : {M : Type 1} → statement M
 asked-for-spec = tie.close (tie.spec asks-requires returns asks-requires-2 add-result returns-2)

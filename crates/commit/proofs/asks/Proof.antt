@@ -5,11 +5,9 @@ use Rattle.commit.proofs.asks.Tie as tie
 use Rattle.commit.proofs.asks.Reads as reads
 use Rattle.commit.proofs.asks.Lts as lts
 
--- src/lib.rt:23:9
 returns : tie.Need-returns
 returns c = asks-none (c .before .args .k) (c .if1 .taken)
 
--- src/lib.rt:19:1
 returns-2 : tie.Need-returns-2
 returns-2 c = asks-some (c .before .args .k) (c .if1 .left)
 

@@ -7,18 +7,16 @@ use Rattle.commit.proofs.chain_from.Lts as lts
 use Rattle.commit.proofs.lesser.Reads as lesser-reads
 use Rattle.writing.proofs.begin.Reads as begin-reads
 
--- src/lib.rt:86:37
 lesser-requires : tie.Need-lesser-requires
 lesser-requires c κs = search needs
 
--- src/lib.rt:86:5
 begin-requires : tie.Need-begin-requires
 begin-requires c κs =
-    let p = c .before .before .before .pre in
+    let top = c .before .before .before in
+    let p = top .pre in
     let q = common-low _ _ _ _ _ (c .lesser .ensures) (p .2) (p .3) in
     (p .0, p .1, q .0, q .1)
 
--- src/lib.rt:82:1
 returns : tie.Need-returns
 returns c = reached-common _ _ _ _ _ _ _ _ (c .before .lesser .ensures) (c .begin .ensures)
 

@@ -30,65 +30,57 @@ use Rattle.writing.proofs.clear.Reads as clear-reads
 use Rattle.writing.proofs.clear_slot.Reads as clear-slot-reads
 use Rattle.writing.proofs.put_label.Reads as put-label-reads
 
--- src/lib.rt:101:14
 mul-n : tie.Need-mul-n
 mul-n c = search needs
 
--- src/lib.rt:101:13
 cast-n : tie.Need-cast-n
 cast-n c = search needs
 
--- src/lib.rt:103:41
 slice-aggregate-read-chain : tie.Need-slice-aggregate-read-chain
 slice-aggregate-read-chain c = search needs
 
--- src/lib.rt:103:5
 read-chain-requires : tie.Need-read-chain-requires
 read-chain-requires c κs = search needs
 
--- src/lib.rt:104:41
 mul-count-runs : tie.Need-mul-count-runs
 mul-count-runs c = search needs
 
--- src/lib.rt:104:40
 cast-count-runs : tie.Need-cast-count-runs
 cast-count-runs c = search needs
 
--- src/lib.rt:104:9
 count-runs-requires : tie.Need-count-runs-requires
 count-runs-requires c κs = search needs
 
--- src/lib.rt:105:9
 fives-for-requires : tie.Need-fives-for-requires
 fives-for-requires c κs = search needs
 
--- src/lib.rt:107:9
 asked-for-requires : tie.Need-asked-for-requires
 asked-for-requires c κs = search needs
 
--- src/lib.rt:108:35
 slice-aggregate-settle : tie.Need-slice-aggregate-settle
 slice-aggregate-settle c = search needs
 
--- src/lib.rt:108:58
 slice-aggregate-settle-2 : tie.Need-slice-aggregate-settle-2
 slice-aggregate-settle-2 c = search needs
 
--- src/lib.rt:108:8
 settle-requires : tie.Need-settle-requires
 settle-requires c κs = (omega (arith, c .before .before .before .before .before .before .before .before .before .before .before .before .before .before .before .pre .0 .0 .most), omega (arith, c .before .before .before .before .before .before .before .before .before .before .before .before .before .before .before .pre .0 .0 .most, c .before .before .before .before .before .before .before .before .before .before .before .before .before .before .before .pre .0 .3), omega (arith, c .before .before .before .before .before .before .before .before .before .before .before .before .before .before .before .pre .0 .0 .most, c .before .before .before .before .before .before .before .before .read-chain .ensures .long), omega (arith, c .before .before .before .before .before .before .before .before .before .before .before .before .before .before .before .pre .0 .0 .most, c .before .before .before .before .before .before .before .before .read-chain .ensures .few, c .before .before .before .before .before .before .before .before .read-chain .ensures .long), c .before .before .before .asked-for .ensures .1, refl, c .before .before .before .before .before .before .before .before .read-chain .ensures .inside)
 
--- src/lib.rt:109:9
 same-length : tie.Need-same-length
 same-length c = search needs
 
--- src/lib.rt:109:9
 same-length-2 : tie.Need-same-length-2
 same-length-2 c = search needs
 
--- src/lib.rt:109:9
 returns : tie.Need-returns
-returns c = λ d. put-full (geometryOf (c .before .before .before .before .before .before .before .before .before .before .before .before .before .before .before .before .before .before .before .before .before .args .g)) _ _ _ _ _ _ _ _ _ d _ _ _ _ _ _ _ _ _ _ (c .before .before .before .before .before .before .before .before .before .before .before .before .before .before .read-chain .ensures) (c .before .before .before .before .before .before .before .before .before .before .fives-for .ensures ∙ ap fivesFor (c .before .before .before .before .before .before .before .before .before .before .before .count-runs .ensures .0)) (c .before .before .before .before .before .before .before .before .before .asked-for .ensures .0) refl (c .before .before .before .before .before .settle .ensures (geometryOf (c .before .before .before .before .before .before .before .before .before .before .before .before .before .before .before .before .before .before .before .before .before .args .g)) refl) (c .if1 .left)
+returns c =
+    let at-settle = c .before .before .before .before .before in
+    let at-asked-for = at-settle .before .before .before .before in
+    let at-fives-for = at-asked-for .before in
+    let at-count-runs = at-fives-for .before in
+    let at-read-chain = at-count-runs .before .before .before in
+    let top = at-read-chain .before .before .before .before .before .before .before in
+    λ d. put-full (geometryOf (top .args .g)) _ _ _ _ _ _ _ _ _ d _ _ _ _ _ _ _ _ _ _ (at-read-chain .read-chain .ensures) (at-fives-for .fives-for .ensures ∙ ap fivesFor (at-count-runs .count-runs .ensures .0)) (at-asked-for .asked-for .ensures .0) refl (at-settle .settle .ensures (geometryOf (top .args .g)) refl) (c .if1 .left)
 
 -- chain_from
 slice-aggregate-chain-from : tie.Need-slice-aggregate-chain-from
@@ -97,57 +89,62 @@ slice-aggregate-chain-from c = search needs
 chain-from-requires : tie.Need-chain-from-requires
 chain-from-requires c κs = (c .before .before .before .before .before .before .before .before .before .before .before .before .before .before .before .before .before .before .before .before .before .before .before .pre .0 .0, c .before .before .before .before .before .before .before .before .before .before .before .before .before .before .before .before .before .before .before .before .before .before .before .pre .0 .1, omega (arith, c .before .before .before .before .before .before .before .before .before .before .before .before .before .before .before .before .before .before .before .before .before .before .before .pre .0 .0 .most, c .before .before .before .before .before .before .before .before .before .before .before .before .before .before .before .before .read-chain .ensures .long, c .before .before .before .before .before .before .before .settle .ensures (geometryOf (c .before .before .before .before .before .before .before .before .before .before .before .before .before .before .before .before .before .before .before .before .before .before .before .args .g)) refl .longChain, c .before .before .before .before .before .before .before .settle .ensures (geometryOf (c .before .before .before .before .before .before .before .before .before .before .before .before .before .before .before .before .before .before .before .before .before .before .before .args .g)) refl .most (c .before .before .if1 .taken)), c .before .before .before .before .before .before .before .settle .ensures (geometryOf (c .before .before .before .before .before .before .before .before .before .before .before .before .before .before .before .before .before .before .before .before .before .before .before .args .g)) refl .inside (c .before .before .if1 .taken) _ (shown (geometryOf (c .before .before .before .before .before .before .before .before .before .before .before .before .before .before .before .before .before .before .before .before .before .before .before .args .g)) _ _ _ _ _ _ _ _ _ (c .before .before .before .before .before .before .before .before .before .before .before .before .before .before .before .before .before .before .before .before .before .before .before .pre .1) _ _ _ _ _ _ _ _ _ _ (c .before .before .before .before .before .before .before .before .before .before .before .before .before .before .before .before .read-chain .ensures) (c .before .before .before .before .before .before .before .before .before .before .before .before .fives-for .ensures ∙ ap fivesFor (c .before .before .before .before .before .before .before .before .before .before .before .before .before .count-runs .ensures .0)) (c .before .before .before .before .before .before .before .before .before .before .before .asked-for .ensures .0) refl (c .before .before .before .before .before .before .before .settle .ensures (geometryOf (c .before .before .before .before .before .before .before .before .before .before .before .before .before .before .before .before .before .before .before .before .before .before .before .args .g)) refl)))
 
--- src/lib.rt:111:27
 slice-aggregate-clear : tie.Need-slice-aggregate-clear
 slice-aggregate-clear c = search needs
 
--- src/lib.rt:111:5
 clear-requires : tie.Need-clear-requires
 clear-requires c κs = (omega (arith, c .before .before .before .before .before .before .before .before .before .before .before .before .before .before .before .before .before .before .before .before .before .before .before .before .before .before .pre .0 .0 .most, c .before .before .before .before .before .before .before .before .before .before .before .before .before .before .before .before .before .before .before .read-chain .ensures .few, c .before .before .before .before .before .before .before .before .before .before .before .before .before .before .before .before .before .before .before .read-chain .ensures .long, c .before .before .before .before .before .before .before .before .before .before .settle .ensures (geometryOf (c .before .before .before .before .before .before .before .before .before .before .before .before .before .before .before .before .before .before .before .before .before .before .before .before .before .before .args .g)) refl .longChain), tail-inside _ _ (c .before .before .before .before .before .before .before .before .before .before .before .before .before .before .before .before .before .before .before .read-chain .result) _ (slots (geometryOf (c .before .before .before .before .before .before .before .before .before .before .before .before .before .before .before .before .before .before .before .before .before .before .before .before .before .before .args .g))) _ (c .before .before .before .before .before .before .before .before .before .before .settle .ensures (geometryOf (c .before .before .before .before .before .before .before .before .before .before .before .before .before .before .before .before .before .before .before .before .before .before .before .before .before .before .args .g)) refl .tail) (c .before .before .before .before .before .before .before .before .before .before .before .before .before .before .before .before .before .before .before .read-chain .ensures .inside) (c .before .before .before .before .before .before .before .before .before .before .before .before .before .before .before .before .before .before .before .before .before .before .before .before .before .before .pre .0 .1))
 
--- src/lib.rt:112:32
 if-few-requires : tie.Need-if-few-requires
 if-few-requires c κs = search needs
 
--- src/lib.rt:112:5
 clear-slot-requires : tie.Need-clear-slot-requires
 clear-slot-requires c κs = let h = freed-below (c .before .before .before .before .before .before .before .before .before .before .before .before .before .before .before .before .before .before .before .before .before .before .before .before .before .before .before .before .before .before .before .args .few) (c .before .before .before .before .before .before .before .before .before .before .before .before .before .before .before .before .before .before .before .before .before .before .before .before .before .before .before .before .before .before .before .args .third) (slots (geometryOf (c .before .before .before .before .before .before .before .before .before .before .before .before .before .before .before .before .before .before .before .before .before .before .before .before .before .before .before .before .before .before .before .args .g))) (140 * slots (geometryOf (c .before .before .before .before .before .before .before .before .before .before .before .before .before .before .before .before .before .before .before .before .before .before .before .before .before .before .before .before .before .before .before .args .g))) _ (c .if-few .ensures) (c .before .before .before .before .before .before .before .before .before .before .before .before .before .before .before .before .before .before .before .before .before .before .before .before .before .before .before .before .before .before .before .pre .0 .6) refl in let l = c .before .before .before .before .before .before .before .before .before .before .before .before .before .before .before .before .before .before .before .before .before .before .before .before .before .before .before .before .before .before .before .pre .0 .1 in search needs
 
--- src/lib.rt:113:31
 array-read-slot-or : tie.Need-array-read-slot-or
 array-read-slot-or c = search needs
 
--- src/lib.rt:113:9
 slot-or-requires : tie.Need-slot-or-requires
 slot-or-requires c κs = search needs
 
--- src/lib.rt:114:9
 third-slot-requires : tie.Need-third-slot-requires
 third-slot-requires c κs = search needs
 
--- src/lib.rt:115:5
 put-label-requires : tie.Need-put-label-requires
 put-label-requires c κs = (c .before .before .before .before .before .before .before .before .before .before .before .before .before .before .before .before .before .before .before .before .before .before .before .before .before .before .before .before .before .before .before .before .before .before .before .before .before .before .pre .0 .0, (let l = c .before .before .before .before .before .before .before .before .before .before .before .before .before .before .before .before .before .before .before .before .before .before .before .before .before .before .before .before .before .before .before .before .before .before .before .before .before .before .pre .0 .1 in search needs), subst (λ (x : ℕ). x < slots (geometryOf (c .before .before .before .before .before .before .before .before .before .before .before .before .before .before .before .before .before .before .before .before .before .before .before .before .before .before .before .before .before .before .before .before .before .before .before .before .before .before .args .g))) (sym (c .before .before .before .slot-or .ensures)) (first-inside (geometryOf (c .before .before .before .before .before .before .before .before .before .before .before .before .before .before .before .before .before .before .before .before .before .before .before .before .before .before .before .before .before .before .before .before .before .before .before .before .before .before .args .g)) _ _ _ _ _ _ _ _ _ (c .before .before .before .before .before .before .before .before .before .before .before .before .before .before .before .before .before .before .before .before .before .before .before .before .before .before .before .before .before .before .before .before .before .before .before .before .before .before .pre .1) _ _ _ _ _ _ _ _ _ _ (c .before .before .before .before .before .before .before .before .before .before .before .before .before .before .before .before .before .before .before .before .before .before .before .before .before .before .before .before .before .before .before .read-chain .ensures) (c .before .before .before .before .before .before .before .before .before .before .before .before .before .before .before .before .before .before .before .before .before .before .before .before .before .before .before .fives-for .ensures ∙ ap fivesFor (c .before .before .before .before .before .before .before .before .before .before .before .before .before .before .before .before .before .before .before .before .before .before .before .before .before .before .before .before .count-runs .ensures .0)) (c .before .before .before .before .before .before .before .before .before .before .before .before .before .before .before .before .before .before .before .before .before .before .before .before .before .before .asked-for .ensures .0) refl (c .before .before .before .before .before .before .before .before .before .before .before .before .before .before .before .before .before .before .before .before .before .before .settle .ensures (geometryOf (c .before .before .before .before .before .before .before .before .before .before .before .before .before .before .before .before .before .before .before .before .before .before .before .before .before .before .before .before .before .before .before .before .before .before .before .before .before .before .args .g)) refl) (c .before .before .before .before .before .before .before .before .before .before .before .before .before .before .before .before .before .if1 .taken)), subst (λ (x : ℕ). x < slots (geometryOf (c .before .before .before .before .before .before .before .before .before .before .before .before .before .before .before .before .before .before .before .before .before .before .before .before .before .before .before .before .before .before .before .before .before .before .before .before .before .before .args .g))) (sym (c .before .before .third-slot .ensures)) (third-inside (geometryOf (c .before .before .before .before .before .before .before .before .before .before .before .before .before .before .before .before .before .before .before .before .before .before .before .before .before .before .before .before .before .before .before .before .before .before .before .before .before .before .args .g)) _ _ _ _ _ _ _ _ _ (c .before .before .before .before .before .before .before .before .before .before .before .before .before .before .before .before .before .before .before .before .before .before .before .before .before .before .before .before .before .before .before .before .before .before .before .before .before .before .pre .1) _ _ _ _ _ _ _ _ _ _ (c .before .before .before .before .before .before .before .before .before .before .before .before .before .before .before .before .before .before .before .before .before .before .before .before .before .before .before .before .before .before .before .read-chain .ensures) (c .before .before .before .before .before .before .before .before .before .before .before .before .before .before .before .before .before .before .before .before .before .before .before .before .before .before .before .fives-for .ensures ∙ ap fivesFor (c .before .before .before .before .before .before .before .before .before .before .before .before .before .before .before .before .before .before .before .before .before .before .before .before .before .before .before .before .count-runs .ensures .0)) (c .before .before .before .before .before .before .before .before .before .before .before .before .before .before .before .before .before .before .before .before .before .before .before .before .before .before .asked-for .ensures .0) refl (c .before .before .before .before .before .before .before .before .before .before .before .before .before .before .before .before .before .before .before .before .before .before .settle .ensures (geometryOf (c .before .before .before .before .before .before .before .before .before .before .before .before .before .before .before .before .before .before .before .before .before .before .before .before .before .before .before .before .before .before .before .before .before .before .before .before .before .before .args .g)) refl) (c .before .before .before .before .before .before .before .before .before .before .before .before .before .before .before .before .before .if1 .taken)), c .before .before .before .before .before .before .before .before .before .before .before .before .before .before .before .before .before .before .before .before .before .before .before .before .before .before .before .before .before .before .before .before .before .before .before .before .before .before .pre .0 .7)
 
--- src/lib.rt:116:34
 slice-aggregate-finish : tie.Need-slice-aggregate-finish
 slice-aggregate-finish c = search needs
 
--- src/lib.rt:116:5
 finish-requires : tie.Need-finish-requires
 finish-requires c κs = ((c .before .before .before .before .before .before .before .before .before .before .before .before .before .before .before .before .before .before .before .before .before .before .before .before .before .before .before .before .before .before .before .before .before .before .before .before .before .before .before .before .before .before .before .before .pre .0 .0, (let l = c .before .before .before .before .before .before .before .before .before .before .before .before .before .before .before .before .before .before .before .before .before .before .before .before .before .before .before .before .before .before .before .before .before .before .before .before .before .before .before .before .before .before .before .before .pre .0 .1 in search needs), c .before .before .before .before .before .before .before .before .before .before .before .before .before .before .before .before .before .before .before .before .before .before .before .before .before .before .before .before .before .before .before .before .before .before .before .before .before .before .before .before .before .before .before .before .pre .0 .2, (let l = c .before .before .before .before .before .before .before .before .before .before .before .before .before .before .before .before .before .before .before .before .before .before .before .before .before .before .before .before .before .before .before .before .before .before .before .before .before .before .before .before .before .before .before .before .pre .0 .3 in let e = c .before .before .before .before .before .before .before .before .before .before .before .before .before .before .before .before .before .before .before .before .before .before .before .before .before .before .before .before .settle .ensures (geometryOf (c .before .before .before .before .before .before .before .before .before .before .before .before .before .before .before .before .before .before .before .before .before .before .before .before .before .before .before .before .before .before .before .before .before .before .before .before .before .before .before .before .before .before .before .before .args .g)) refl .longMap in search needs)), (omega (arith, c .before .before .before .before .before .before .before .before .before .before .before .before .before .before .before .before .before .before .before .before .before .before .before .before .before .before .before .before .before .before .before .before .before .before .before .before .before .before .before .before .before .before .before .before .pre .0 .0 .most, c .before .before .before .before .before .before .before .before .before .before .before .before .before .before .before .before .before .before .before .before .before .before .before .before .before .before .before .before .before .before .before .before .before .before .before .before .before .read-chain .ensures .long, c .before .before .before .before .before .before .before .before .before .before .before .before .before .before .before .before .before .before .before .before .before .before .before .before .before .before .before .before .settle .ensures (geometryOf (c .before .before .before .before .before .before .before .before .before .before .before .before .before .before .before .before .before .before .before .before .before .before .before .before .before .before .before .before .before .before .before .before .before .before .before .before .before .before .before .before .before .before .before .before .args .g)) refl .longChain, c .before .before .before .before .before .before .before .before .before .before .before .before .before .before .before .before .before .before .before .before .before .before .before .before .before .before .before .before .settle .ensures (geometryOf (c .before .before .before .before .before .before .before .before .before .before .before .before .before .before .before .before .before .before .before .before .before .before .before .before .before .before .before .before .before .before .before .before .before .before .before .before .before .before .before .before .before .before .before .before .args .g)) refl .most (c .before .before .before .before .before .before .before .before .before .before .before .before .before .before .before .before .before .before .before .before .before .before .before .if1 .taken)), c .before .before .before .before .before .before .before .before .before .before .before .before .before .before .before .before .before .before .before .before .before .before .before .before .before .before .before .before .settle .ensures (geometryOf (c .before .before .before .before .before .before .before .before .before .before .before .before .before .before .before .before .before .before .before .before .before .before .before .before .before .before .before .before .before .before .before .before .before .before .before .before .before .before .before .before .before .before .before .before .args .g)) refl .inside (c .before .before .before .before .before .before .before .before .before .before .before .before .before .before .before .before .before .before .before .before .before .before .before .if1 .taken) _ (shown (geometryOf (c .before .before .before .before .before .before .before .before .before .before .before .before .before .before .before .before .before .before .before .before .before .before .before .before .before .before .before .before .before .before .before .before .before .before .before .before .before .before .before .before .before .before .before .before .args .g)) _ _ _ _ _ _ _ _ _ (c .before .before .before .before .before .before .before .before .before .before .before .before .before .before .before .before .before .before .before .before .before .before .before .before .before .before .before .before .before .before .before .before .before .before .before .before .before .before .before .before .before .before .before .before .pre .1) _ _ _ _ _ _ _ _ _ _ (c .before .before .before .before .before .before .before .before .before .before .before .before .before .before .before .before .before .before .before .before .before .before .before .before .before .before .before .before .before .before .before .before .before .before .before .before .before .read-chain .ensures) (c .before .before .before .before .before .before .before .before .before .before .before .before .before .before .before .before .before .before .before .before .before .before .before .before .before .before .before .before .before .before .before .before .before .fives-for .ensures ∙ ap fivesFor (c .before .before .before .before .before .before .before .before .before .before .before .before .before .before .before .before .before .before .before .before .before .before .before .before .before .before .before .before .before .before .before .before .before .before .count-runs .ensures .0)) (c .before .before .before .before .before .before .before .before .before .before .before .before .before .before .before .before .before .before .before .before .before .before .before .before .before .before .before .before .before .before .before .before .asked-for .ensures .0) refl (c .before .before .before .before .before .before .before .before .before .before .before .before .before .before .before .before .before .before .before .before .before .before .before .before .before .before .before .before .settle .ensures (geometryOf (c .before .before .before .before .before .before .before .before .before .before .before .before .before .before .before .before .before .before .before .before .before .before .before .before .before .before .before .before .before .before .before .before .before .before .before .before .before .before .before .before .before .before .before .before .args .g)) refl)), place-in _ _ _ _ _ _ _ (c .before .before .before .before .before .before .before .before .before .before .before .before .before .before .before .before .before .before .before .before .chain-from .ensures), place-low _ _ _ _ _ _ (c .before .before .before .before .before .before .before .before .before .before .before .before .before .before .before .before .before .before .before .before .chain-from .ensures) (c .before .before .before .before .before .before .before .before .before .before .before .before .before .before .before .before .before .before .before .before .before .before .before .before .before .before .before .before .before .before .before .before .before .before .before .before .before .before .before .before .before .before .before .before .pre .0 .4)))
 
--- src/lib.rt:85:1
 same-length-3 : tie.Need-same-length-3
 same-length-3 c = search needs
 
--- src/lib.rt:85:1
 same-length-4 : tie.Need-same-length-4
-same-length-4 c = c .before .before .before .before .before .before .before .before .before .before .before .before .before .before .before .before .before .before .before .before .before .before .before .before .before .before .before .before .before .before .before .settle .ensures (geometryOf (c .before .before .before .before .before .before .before .before .before .before .before .before .before .before .before .before .before .before .before .before .before .before .before .before .before .before .before .before .before .before .before .before .before .before .before .before .before .before .before .before .before .before .before .before .before .before .before .args .g)) refl .longMap
+same-length-4 c =
+    let at-settle = c .before .before .before .before .before .before .before .before .before .before .before .before .before .before .before .before .before .before .before .before .before .before .before .before .before .before .before .before .before .before .before in
+    let top = at-settle .before .before .before .before .before .before .before .before .before .before .before .before .before .before .before .before in
+    at-settle .settle .ensures (geometryOf (top .args .g)) refl .longMap
 
--- src/lib.rt:85:1
 returns-2 : tie.Need-returns-2
-returns-2 c = λ d. put-done (geometryOf (c .before .before .before .before .before .before .before .before .before .before .before .before .before .before .before .before .before .before .before .before .before .before .before .before .before .before .before .before .before .before .before .before .before .before .before .before .before .before .before .before .before .before .before .before .before .before .before .args .g)) _ _ _ _ _ _ _ _ _ d _ _ _ _ _ _ _ _ _ _ (c .before .before .before .before .before .before .before .before .before .before .before .before .before .before .before .before .before .before .before .before .before .before .before .before .before .before .before .before .before .before .before .before .before .before .before .before .before .before .before .before .read-chain .ensures) (c .before .before .before .before .before .before .before .before .before .before .before .before .before .before .before .before .before .before .before .before .before .before .before .before .before .before .before .before .before .before .before .before .before .before .before .before .fives-for .ensures ∙ ap fivesFor (c .before .before .before .before .before .before .before .before .before .before .before .before .before .before .before .before .before .before .before .before .before .before .before .before .before .before .before .before .before .before .before .before .before .before .before .before .before .count-runs .ensures .0)) (c .before .before .before .before .before .before .before .before .before .before .before .before .before .before .before .before .before .before .before .before .before .before .before .before .before .before .before .before .before .before .before .before .before .before .before .asked-for .ensures .0) refl (c .before .before .before .before .before .before .before .before .before .before .before .before .before .before .before .before .before .before .before .before .before .before .before .before .before .before .before .before .before .before .before .settle .ensures (geometryOf (c .before .before .before .before .before .before .before .before .before .before .before .before .before .before .before .before .before .before .before .before .before .before .before .before .before .before .before .before .before .before .before .before .before .before .before .before .before .before .before .before .before .before .before .before .before .before .before .args .g)) refl) (c .before .before .before .before .before .before .before .before .before .before .before .before .before .before .before .before .before .before .before .before .before .before .before .before .before .before .if1 .taken) _ _ (c .before .before .before .before .before .before .before .before .before .before .before .before .before .before .before .before .before .before .before .before .before .before .before .chain-from .ensures) _ _ _ _ _ _ _ (c .before .before .before .before .before .before .before .before .before .before .before .before .before .before .before .before .if-few .ensures) (c .before .before .before .before .before .before .before .before .before .before .before .before .slot-or .ensures) (c .before .before .before .before .before .before .before .before .before .before .before .third-slot .ensures) (c .before .before .before .before .before .before .before .before .before .before .before .before .before .before .before .before .before .before .before .before .clear .ensures) (c .before .before .before .before .before .before .before .before .before .before .before .before .before .before .before .clear-slot .ensures) (c .before .before .before .before .before .before .before .before .put-label .ensures (d .label) (d .written)) (c .before .before .finish .ensures)
+returns-2 c =
+    let at-put-label = c .before .before .before .before .before .before .before .before in
+    let at-third-slot = at-put-label .before .before .before in
+    let at-slot-or = at-third-slot .before in
+    let at-clear-slot = at-slot-or .before .before .before in
+    let at-if-few = at-clear-slot .before in
+    let at-clear = at-if-few .before .before .before .before in
+    let at-chain-from = at-clear .before .before .before in
+    let at-if1 = at-chain-from .before .before .before in
+    let at-settle = at-if1 .before .before .before .before .before in
+    let at-asked-for = at-settle .before .before .before .before in
+    let at-fives-for = at-asked-for .before in
+    let at-count-runs = at-fives-for .before in
+    let at-read-chain = at-count-runs .before .before .before in
+    let top = at-read-chain .before .before .before .before .before .before .before in
+    λ d. put-done (geometryOf (top .args .g)) _ _ _ _ _ _ _ _ _ d _ _ _ _ _ _ _ _ _ _ (at-read-chain .read-chain .ensures) (at-fives-for .fives-for .ensures ∙ ap fivesFor (at-count-runs .count-runs .ensures .0)) (at-asked-for .asked-for .ensures .0) refl (at-settle .settle .ensures (geometryOf (top .args .g)) refl) (at-if1 .if1 .taken) _ _ (at-chain-from .chain-from .ensures) _ _ _ _ _ _ _ (at-if-few .if-few .ensures) (at-slot-or .slot-or .ensures) (at-third-slot .third-slot .ensures) (at-clear .clear .ensures) (at-clear-slot .clear-slot .ensures) (at-put-label .put-label .ensures (d .label) (d .written)) (c .before .before .finish .ensures)
 
 pub put-set-spec : {M : Type 1} → statement M
 put-set-spec =

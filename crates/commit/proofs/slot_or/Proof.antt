@@ -5,11 +5,9 @@ use Rattle.commit.proofs.slot_or.Tie as tie
 use Rattle.commit.proofs.slot_or.Reads as reads
 use Rattle.commit.proofs.slot_or.Lts as lts
 
--- src/lib.rt:37:9
 returns : tie.Need-returns
 returns c = or-given (c .before .args .k) (c .before .args .given) (c .if1 .taken)
 
--- src/lib.rt:33:1
 returns-2 : tie.Need-returns-2
 returns-2 c = or-own (c .before .args .k) (c .before .args .given) (c .if1 .left)
 

@@ -7,43 +7,33 @@ use Rattle.fields.proofs.class_of.Reads as reads
 use Rattle.fields.proofs.class_of.Lts as lts
 use Rattle.fields.proofs.ones_if.Reads as ones-if-reads
 
--- src/lib.rt:326:9
 ones-if-requires : tie.Need-ones-if-requires
 ones-if-requires c κs = search needs
 
--- src/lib.rt:327:9
 ones-if-requires-2 : tie.Need-ones-if-requires-2
 ones-if-requires-2 c κs = search needs
 
--- src/lib.rt:328:9
 ones-if-requires-3 : tie.Need-ones-if-requires-3
 ones-if-requires-3 c κs = search needs
 
--- src/lib.rt:329:9
 ones-if-requires-4 : tie.Need-ones-if-requires-4
 ones-if-requires-4 c κs = search needs
 
--- src/lib.rt:330:9
 ones-if-requires-5 : tie.Need-ones-if-requires-5
 ones-if-requires-5 c κs = search needs
 
--- src/lib.rt:331:9
 ones-if-requires-6 : tie.Need-ones-if-requires-6
 ones-if-requires-6 c κs = search needs
 
--- src/lib.rt:332:9
 ones-if-requires-7 : tie.Need-ones-if-requires-7
 ones-if-requires-7 c κs = search needs
 
--- src/lib.rt:333:9
 ones-if-requires-8 : tie.Need-ones-if-requires-8
 ones-if-requires-8 c κs = search needs
 
--- src/lib.rt:334:17
 ones-if-requires-9 : tie.Need-ones-if-requires-9
 ones-if-requires-9 c κs = search needs
 
--- src/lib.rt:322:1
 returns : tie.Need-returns
 returns c =
     class-is (c .before .before .before .before .before .before .before .before .before .args .c) (c .before .before .before .before .before .before .before .before .ones-if .result) (c .before .before .before .before .before .before .before .ones-if2 .result) (c .before .before .before .before .before .before .ones-if3 .result) (c .before .before .before .before .before .ones-if4 .result) (c .before .before .before .before .ones-if5 .result) (c .before .before .before .ones-if6 .result) (c .before .before .ones-if7 .result) (c .before .ones-if8 .result) (c .ones-if9 .result)

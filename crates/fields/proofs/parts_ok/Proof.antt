@@ -20,66 +20,66 @@ Inv-loop name i₀ i = (i ≤ length name) × (nameFrom 0 name ≡ nameFrom 0 (d
 abbrev μ-loop : tie.MeasureT-loop
 μ-loop name i₀ i = length name - i
 
--- src/lib.rt:211:5
 loop-holds : tie.Need-loop-holds Inv-loop μ-loop
 loop-holds c = search needs
 
--- src/lib.rt:212:24
 shared-slice-read-starts-part : tie.Need-shared-slice-read-starts-part Inv-loop μ-loop
 shared-slice-read-starts-part c = search needs
 
--- src/lib.rt:212:12
 starts-part-requires : tie.Need-starts-part-requires Inv-loop μ-loop
 starts-part-requires c κs = search needs
 
--- src/lib.rt:213:13
 returns : tie.Need-returns Inv-loop μ-loop
 unfolding goodName
-returns c = sym (c .before .before .before .before .loop .inv .1 ∙ no-start (c .before .before .before .before .before .before .args .name .now) (c .before .before .before .before .loop .i) 0 (c .before .before .before .loop-test .taken) (sym (c .before .starts-part .ensures) ∙ c .if1 .left))
+returns c =
+    let at-loop-test = c .before .before .before in
+    let at-loop = at-loop-test .before in
+    let top = at-loop .before .before in
+    sym (at-loop .loop .inv .1 ∙ no-start (top .args .name .now) (at-loop .loop .i) 0 (at-loop-test .loop-test .taken) (sym (c .before .starts-part .ensures) ∙ c .if1 .left))
 
--- src/lib.rt:215:32
 add-part-end : tie.Need-add-part-end Inv-loop μ-loop
 add-part-end c = search needs
 
--- src/lib.rt:215:13
 part-end-requires : tie.Need-part-end-requires Inv-loop μ-loop
 part-end-requires c κs = search needs
 
--- src/lib.rt:216:12
 sub-if2 : tie.Need-sub-if2 Inv-loop μ-loop
 sub-if2 c = omega (arith, c .part-end .ensures .low)
 
--- src/lib.rt:217:13
 returns-2 : tie.Need-returns-2 Inv-loop μ-loop
 unfolding goodName
-returns-2 c = sym (c .before .before .before .before .before .before .loop .inv .1 ∙ too-long (c .before .before .before .before .before .before .before .before .args .name .now) (c .before .before .before .before .before .before .loop .i) (c .before .part-end .result) (c .before .before .before .before .before .loop-test .taken) (sym (c .before .before .before .starts-part .ensures) ∙ c .before .before .if1 .taken) (c .before .part-end .ensures) (c .if2 .taken))
+returns-2 c =
+    let at-starts-part = c .before .before .before in
+    let at-loop-test = at-starts-part .before .before in
+    let at-loop = at-loop-test .before in
+    let top = at-loop .before .before in
+    sym (at-loop .loop .inv .1 ∙ too-long (top .args .name .now) (at-loop .loop .i) (c .before .part-end .result) (at-loop-test .loop-test .taken) (sym (at-starts-part .starts-part .ensures) ∙ c .before .before .if1 .taken) (c .before .part-end .ensures) (c .if2 .taken))
 
--- src/lib.rt:220:13
 returns-3 : tie.Need-returns-3 Inv-loop μ-loop
 unfolding goodName
-returns-3 c = sym (c .before .before .before .before .before .before .before .loop .inv .1 ∙ at-end (c .before .before .before .before .before .before .before .before .before .args .name .now) (c .before .before .before .before .before .before .before .loop .i) (c .before .before .part-end .result) (c .before .before .before .before .before .before .loop-test .taken) (sym (c .before .before .before .before .starts-part .ensures) ∙ c .before .before .before .if1 .taken) (c .before .before .part-end .ensures) (c .before .if2 .left) (c .if3 .taken))
+returns-3 c =
+    let at-if1 = c .before .before .before in
+    let at-starts-part = at-if1 .before in
+    let at-loop-test = at-starts-part .before .before in
+    let at-loop = at-loop-test .before in
+    let top = at-loop .before .before in
+    sym (at-loop .loop .inv .1 ∙ at-end (top .args .name .now) (at-loop .loop .i) (c .before .before .part-end .result) (at-loop-test .loop-test .taken) (sym (at-starts-part .starts-part .ensures) ∙ at-if1 .if1 .taken) (c .before .before .part-end .ensures) (c .before .if2 .left) (c .if3 .taken))
 
--- src/lib.rt:222:12
 shared-slice-read-if4 : tie.Need-shared-slice-read-if4 Inv-loop μ-loop
 shared-slice-read-if4 c = omega (arith, c .before .before .before .part-end .ensures .high)
 
--- src/lib.rt:223:28
 sub-all-are : tie.Need-sub-all-are Inv-loop μ-loop
 sub-all-are c = search needs
 
--- src/lib.rt:223:28
 part-all-are-start : tie.Need-part-all-are-start Inv-loop μ-loop
 part-all-are-start c = search needs
 
--- src/lib.rt:223:28
 part-all-are-end : tie.Need-part-all-are-end Inv-loop μ-loop
 part-all-are-end c = search needs
 
--- src/lib.rt:223:13
 all-are-requires : tie.Need-all-are-requires Inv-loop μ-loop
 all-are-requires c κs = search needs
 
--- src/lib.rt:223:13
 returns-4 : tie.Need-returns-4 Inv-loop μ-loop
 unfolding goodName
 returns-4 c =
@@ -88,25 +88,23 @@ returns-4 c =
     ∙ at-other (c .before .before .before .before .before .before .before .before .before .before .before .before .before .args .name .now) (c .before .before .before .before .before .before .before .before .before .before .before .loop .i) (c .before .before .before .before .before .before .part-end .result) (c .before .before .before .before .before .before .before .before .before .before .loop-test .taken) (sym (c .before .before .before .before .before .before .before .before .starts-part .ensures) ∙ c .before .before .before .before .before .before .before .if1 .taken) (c .before .before .before .before .before .before .part-end .ensures) (c .before .before .before .before .before .if2 .left) (omega (arith, c .before .before .before .before .before .before .part-end .ensures .high)) (c .before .before .if4 .taken)
     ∙ sym (rw (from-place (c .before .before .before .before .before .before .before .before .before .before .before .before .before .args .name .now) (c .before .before .before .before .before .before .part-end .result)) at (c .all-are .ensures)))
 
--- src/lib.rt:225:13
 add-i : tie.Need-add-i Inv-loop μ-loop
 add-i c = omega (arith, c .before .before .before .before .part-end .ensures .high)
 
--- src/lib.rt:211:5
 loop-less : tie.Need-loop-less Inv-loop μ-loop
 loop-less c = omega (arith, c .before .before .before .before .part-end .ensures .low, c .before .before .before .before .part-end .ensures .high)
 
--- src/lib.rt:211:5
 loop-again : tie.Need-loop-again Inv-loop μ-loop
 loop-again c = (
   omega (arith, c .before .before .before .before .part-end .ensures .high),
   c .before .before .before .before .before .before .before .before .before .loop .inv .1 ∙ at-period (c .before .before .before .before .before .before .before .before .before .before .before .args .name .now) (c .before .before .before .before .before .before .before .before .before .loop .i) (c .before .before .before .before .part-end .result) (c .before .before .before .before .before .before .before .before .loop-test .taken) (sym (c .before .before .before .before .before .before .starts-part .ensures) ∙ c .before .before .before .before .before .if1 .taken) (c .before .before .before .before .part-end .ensures) (c .before .before .before .if2 .left) (omega (arith, c .before .before .before .before .part-end .ensures .high)) (c .if4 .left),
 )
 
--- src/lib.rt:207:1
 returns-5 : tie.Need-returns-5 Inv-loop μ-loop
 unfolding goodName
-returns-5 c = sym (c .before .loop .inv .1 ∙ no-more (c .before .before .before .args .name .now) (c .before .loop .i) (c .loop-test .left))
+returns-5 c =
+    let top = c .before .before .before in
+    sym (c .before .loop .inv .1 ∙ no-more (top .args .name .now) (c .before .loop .i) (c .loop-test .left))
 
 pub parts-ok-spec : {M : Type 1} → statement M
 parts-ok-spec =

@@ -18,41 +18,32 @@ Inv-loop name pair row bad₀ i₀ bad i = (i ≤ 16) × (pair ≤ 27) × (row �
 abbrev μ-loop : tie.MeasureT-loop
 μ-loop name pair row bad₀ i₀ bad i = 16 - i
 
--- src/lib.rt:394:5
 loop-holds : tie.Need-loop-holds Inv-loop μ-loop
 loop-holds c = (omega arith, c .before .pre .1, c .before .pre .2, c .before .pre .0, no-turn _ _)
 
--- src/lib.rt:395:34
 add-misfit : tie.Need-add-misfit Inv-loop μ-loop
 add-misfit c = search needs
 
--- src/lib.rt:395:21
 misfit-requires : tie.Need-misfit-requires Inv-loop μ-loop
 misfit-requires c κs = search needs
 
--- src/lib.rt:395:61
 add-overlong : tie.Need-add-overlong Inv-loop μ-loop
 add-overlong c = search needs
 
--- src/lib.rt:395:46
 overlong-requires : tie.Need-overlong-requires Inv-loop μ-loop
 overlong-requires c κs = search needs
 
--- src/lib.rt:396:9
 add-i : tie.Need-add-i Inv-loop μ-loop
 add-i c = search needs
 
--- src/lib.rt:394:5
 loop-less : tie.Need-loop-less Inv-loop μ-loop
 loop-less c = search needs
 
--- src/lib.rt:394:5
 loop-again : tie.Need-loop-again Inv-loop μ-loop
 loop-again c =
     let l = c .before .before .before .loop in
     (omega arith, l .inv .1, l .inv .2, l .inv .3, turn _ _ (l .bad) (c .before .misfit .result) (c .overlong .result) (l .i) (l .inv .4) (c .before .misfit .ensures) (c .overlong .ensures))
 
--- src/lib.rt:388:1
 returns : tie.Need-returns Inv-loop μ-loop
 returns c = turns-end _ _ (c .before .loop .bad) (c .before .loop .i) (c .before .loop .inv .4) (omega arith)
 

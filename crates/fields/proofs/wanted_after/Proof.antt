@@ -7,15 +7,12 @@ use Rattle.fields.proofs.wanted_after.Reads as reads
 use Rattle.fields.proofs.wanted_after.Lts as lts
 use Rattle.fields.proofs.ones_if.Reads as ones-if-reads
 
--- src/lib.rt:346:9
 ones-if-requires : tie.Need-ones-if-requires
 ones-if-requires c κs = search needs
 
--- src/lib.rt:347:9
 ones-if-requires-2 : tie.Need-ones-if-requires-2
 ones-if-requires-2 c κs = search needs
 
--- src/lib.rt:343:1
 returns : tie.Need-returns
 returns c = wanted-is (c .before .before .args .c) (c .before .ones-if .result) (c .ones-if2 .result) (omega arith) (c .before .ones-if .ensures) (c .ones-if2 .ensures)
 

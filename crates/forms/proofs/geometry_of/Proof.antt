@@ -14,53 +14,50 @@ use Rattle.fields.proofs.two.Reads as two-reads
 use Rattle.fields.proofs.wide.Reads as wide-reads
 use Rattle.forms.proofs.span.Reads as span-reads
 
--- src/lib.rt:36:9
 two-requires : tie.Need-two-requires
 two-requires c κs = search needs
 
--- src/lib.rt:37:9
 track-at-requires : tie.Need-track-at-requires
 track-at-requires c κs = search needs
 
--- src/lib.rt:38:9
 track-at-requires-2 : tie.Need-track-at-requires-2
 track-at-requires-2 c κs = search needs
 
--- src/lib.rt:39:9
 span-requires : tie.Need-span-requires
 span-requires c κs = search needs
 
--- src/lib.rt:40:9
 two-requires-2 : tie.Need-two-requires-2
 two-requires-2 c κs = search needs
 
--- src/lib.rt:41:32
 shared-slice-read-wide : tie.Need-shared-slice-read-wide
 shared-slice-read-wide c = search needs
 
--- src/lib.rt:41:9
 wide-requires : tie.Need-wide-requires
 wide-requires c κs = search needs
 
--- src/lib.rt:32:1
 returns : tie.Need-returns
 returns c =
+    let at-span = c .before .before .before in
+    let at-track-at2 = at-span .before in
+    let at-track-at = at-track-at2 .before in
+    let at-two = at-track-at .before in
+    let top = at-two .before .before in
     ap
     (λ (v : ℕ).
     record {
       cylinders = c .before .before .two2 .result;
-      heads = c .before .before .before .before .before .before .two .result;
+      heads = at-two .two .result;
       records = c .wide .result;
-      vtocStart = c .before .before .before .before .before .track-at .result;
+      vtocStart = at-track-at .track-at .result;
       vtocTracks = v;
     })
-    (c .before .before .before .span .ensures)
-    ∙ geometry-is (c .before .before .before .before .before .before .before .before .args .rec .now) _ _ _ _ _
+    (at-span .span .ensures)
+    ∙ geometry-is (top .args .rec .now) _ _ _ _ _
     (c .before .before .two2 .ensures .0)
-    (c .before .before .before .before .before .before .two .ensures .0)
+    (at-two .two .ensures .0)
     (c .wide .ensures .0)
-    (c .before .before .before .before .before .track-at .ensures .0)
-    (c .before .before .before .before .track-at2 .ensures .0)
+    (at-track-at .track-at .ensures .0)
+    (at-track-at2 .track-at2 .ensures .0)
 
 pub geometry-of-spec : {M : Type 1} → statement M
 geometry-of-spec =

@@ -8,63 +8,48 @@ use Rattle.forms.proofs.limits.Tie as tie
 use Rattle.forms.proofs.limits.Reads as reads
 use Rattle.forms.proofs.limits.Lts as lts
 
--- src/lib.rt:50:9
 returns : tie.Need-returns
 returns c = no-limits (geometryOf (c .before .before .args .g)) (λ x. absurd (omega (arith, x .cylinders, c .if1 .taken)))
 
--- src/lib.rt:53:9
 returns-2 : tie.Need-returns-2
 returns-2 c = no-limits (geometryOf (c .before .before .before .before .args .g)) (λ x. absurd (omega (arith, many-cylinders (c .before .before .before .before .args .g .cylinders) (c .before .before .before .before .args .g .heads) (x .heads) (x .tracksMost), c .if2 .taken)))
 
--- src/lib.rt:56:9
 returns-3 : tie.Need-returns-3
 returns-3 c = no-limits (geometryOf (c .before .before .before .before .before .before .args .g)) (λ x. absurd (omega (arith, x .heads, c .if3 .taken)))
 
--- src/lib.rt:59:9
 returns-4 : tie.Need-returns-4
 returns-4 c = no-limits (geometryOf (c .before .before .before .before .before .before .before .before .args .g)) (λ x. absurd (omega (arith, x .headsMost, c .if4 .taken)))
 
--- src/lib.rt:62:9
 returns-5 : tie.Need-returns-5
 returns-5 c = no-limits (geometryOf (c .before .before .before .before .before .before .before .before .before .before .args .g)) (λ x. absurd (omega (arith, x .records, c .if5 .taken)))
 
--- src/lib.rt:65:9
 returns-6 : tie.Need-returns-6
 returns-6 c = no-limits (geometryOf (c .before .before .before .before .before .before .before .before .before .before .before .before .args .g)) (λ x. absurd (omega (arith, x .recordsMost, c .if6 .taken)))
 
--- src/lib.rt:68:9
 returns-7 : tie.Need-returns-7
 returns-7 c = no-limits (geometryOf (c .before .before .before .before .before .before .before .before .before .before .before .before .before .before .args .g)) (λ x. absurd (omega (arith, x .start, c .if7 .taken)))
 
--- src/lib.rt:71:9
 returns-8 : tie.Need-returns-8
 returns-8 c = no-limits (geometryOf (c .before .before .before .before .before .before .before .before .before .before .before .before .before .before .before .before .args .g)) (λ x. absurd (omega (arith, x .vtoc, c .if8 .taken)))
 
--- src/lib.rt:73:13
 mul-t : tie.Need-mul-t
 mul-t c = omega (arith, few-tracks (c .before .before .before .before .before .before .before .before .before .before .before .before .before .before .before .before .before .args .g .cylinders) (c .before .before .before .before .before .before .before .before .before .before .before .before .before .before .before .before .before .args .g .heads) (c .before .before .before .before .before .before .before .before .before .before .before .before .before .if2 .left) (c .before .before .before .before .before .before .before .before .before .if4 .left))
 
--- src/lib.rt:75:9
 returns-9 : tie.Need-returns-9
 returns-9 c = no-limits (geometryOf (c .before .before .before .before .before .before .before .before .before .before .before .before .before .before .before .before .before .before .args .g)) (λ x. absurd (omega (arith, x .tracksMost, c .if9 .taken)))
 
--- src/lib.rt:78:9
 returns-10 : tie.Need-returns-10
 returns-10 c = no-limits (geometryOf (c .before .before .before .before .before .before .before .before .before .before .before .before .before .before .before .before .before .before .before .before .args .g)) (λ x. absurd (omega (arith, x .ends, c .if10 .taken)))
 
--- src/lib.rt:81:9
 returns-11 : tie.Need-returns-11
 returns-11 c = no-limits (geometryOf (c .before .before .before .before .before .before .before .before .before .before .before .before .before .before .before .before .before .before .before .before .before .before .before .args .g)) (λ x. absurd (omega (arith, x .ends, c .if11 .taken)))
 
--- src/lib.rt:83:13
 mul-n : tie.Need-mul-n
 mul-n c = omega (arith, few-tracks (c .before .before .before .before .before .before .before .before .before .before .before .before .before .before .before .before .before .before .before .before .before .before .before .before .args .g .«vtoc_tracks») (c .before .before .before .before .before .before .before .before .before .before .before .before .before .before .before .before .before .before .before .before .before .before .before .before .args .g .records) (omega (arith, c .before .before .before .before .before .before .if9 .left, c .before .before .before .before .if10 .left, c .before .if11 .left)) (c .before .before .before .before .before .before .before .before .before .before .before .before .if6 .left))
 
--- src/lib.rt:85:9
 returns-12 : tie.Need-returns-12
 returns-12 c = no-limits (geometryOf (c .before .before .before .before .before .before .before .before .before .before .before .before .before .before .before .before .before .before .before .before .before .before .before .before .before .args .g)) (λ x. absurd (omega (arith, x .least, c .if12 .taken)))
 
--- src/lib.rt:46:1
 returns-13 : tie.Need-returns-13
 returns-13 c =
     limits-last (geometryOf (c .before .before .before .before .before .before .before .before .before .before .before .before .before .before .before .before .before .before .before .before .before .before .before .before .before .args .g)) (c .before .before .before .before .before .before .before .before .before .before .before .before .before .before .before .before .before .before .before .before .before .before .before .if1 .left) (c .before .before .before .before .before .before .before .before .before .before .before .before .before .before .before .before .before .before .before .if3 .left) (c .before .before .before .before .before .before .before .before .before .before .before .before .before .before .before .before .before .if4 .left) (c .before .before .before .before .before .before .before .before .before .before .before .before .before .before .before .if5 .left) (c .before .before .before .before .before .before .before .before .before .before .before .before .before .if6 .left) (c .before .before .before .before .before .before .before .before .before .before .before .if7 .left) (c .before .before .before .before .before .before .before .before .before .if8 .left) (c .before .before .before .before .before .before .before .if9 .left)

@@ -14,53 +14,42 @@ use Rattle.fields.proofs.name_ok.Reads as name-ok-reads
 use Rattle.fields.proofs.three.Reads as three-reads
 use Rattle.forms.proofs.unit_ok.Reads as unit-ok-reads
 
--- src/lib.rt:157:13
 shared-slice-read-n : tie.Need-shared-slice-read-n
 shared-slice-read-n c = search needs
 
--- src/lib.rt:159:9
 returns : tie.Need-returns
 returns c = refuted (oneOk (c .before .before .before .args .rec .now)) (one→ (c .before .before .before .args .rec .now)) (λ x. absurd (omega (arith, x .least, c .if1 .taken)))
 
--- src/lib.rt:162:9
 returns-2 : tie.Need-returns-2
 returns-2 c = refuted (oneOk (c .before .before .before .before .args .rec .now)) (one→ (c .before .before .before .before .args .rec .now)) (λ x. absurd (omega (arith, x .most, c .if2 .taken)))
 
--- src/lib.rt:164:16
 shared-slice-read-unit-ok : tie.Need-shared-slice-read-unit-ok
 shared-slice-read-unit-ok c = search needs
 
--- src/lib.rt:164:25
 three-requires : tie.Need-three-requires
 three-requires c κs = search needs
 
--- src/lib.rt:164:8
 unit-ok-requires : tie.Need-unit-ok-requires
 unit-ok-requires c κs = search needs
 
--- src/lib.rt:166:9
 returns-3 : tie.Need-returns-3
 returns-3 c =
-    refuted (oneOk (c .before .before .before .before .before .before .before .before .args .rec .now)) (one→ (c .before .before .before .before .before .before .before .before .args .rec .now))
-    (λ x. subst T (ap (goodUnit (getD (c .before .before .before .before .before .before .before .before .args .rec .now) 94 0)) (sym (c .before .before .three .ensures .0)) ∙ sym (c .before .unit-ok .ensures) ∙ c .if3 .left) (x .unit))
+    let top = c .before .before .before .before .before .before .before .before in
+    refuted (oneOk (top .args .rec .now)) (one→ (top .args .rec .now))
+    (λ x. subst T (ap (goodUnit (getD (top .args .rec .now) 94 0)) (sym (c .before .before .three .ensures .0)) ∙ sym (c .before .unit-ok .ensures) ∙ c .if3 .left) (x .unit))
 
--- src/lib.rt:168:21
 sub-name-ok : tie.Need-sub-name-ok
 sub-name-ok c = search needs
 
--- src/lib.rt:168:21
 part-name-ok-start : tie.Need-part-name-ok-start
 part-name-ok-start c = search needs
 
--- src/lib.rt:168:21
 part-name-ok-end : tie.Need-part-name-ok-end
 part-name-ok-end c = search needs
 
--- src/lib.rt:168:5
 name-ok-requires : tie.Need-name-ok-requires
 name-ok-requires c κs = search needs
 
--- src/lib.rt:153:1
 returns-4 : tie.Need-returns-4
 returns-4 c =
     c .name-ok .ensures

@@ -5,15 +5,12 @@ use Rattle.forms.proofs.unit_ok.Tie as tie
 use Rattle.forms.proofs.unit_ok.Reads as reads
 use Rattle.forms.proofs.unit_ok.Lts as lts
 
--- src/lib.rt:104:9
 returns : tie.Need-returns
 returns c = unit-space (c .before .args .unit) (c .before .args .secondary) (omega arith) (c .if1 .taken)
 
--- src/lib.rt:107:9
 returns-2 : tie.Need-returns-2
 returns-2 c = unit-other (c .before .before .args .unit) (c .before .before .args .secondary) (omega arith) (c .before .if1 .left) (c .if2 .taken)
 
--- src/lib.rt:100:1
 returns-3 : tie.Need-returns-3
 returns-3 c = unit-absolute (c .before .before .args .unit) (c .before .before .args .secondary) (omega arith) (c .before .if1 .left) (c .if2 .left)
 

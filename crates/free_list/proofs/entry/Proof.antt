@@ -12,39 +12,30 @@ use Rattle.fields.proofs.wide.Reads as wide-reads
 use Rattle.free_list.proofs.hole_of.Reads as hole-of-reads
 use Rattle.records.proofs.entry_place.Reads as entry-place-reads
 
--- src/lib.rt:49:9
 entry-place-requires : tie.Need-entry-place-requires
 entry-place-requires c κs = search needs
 
--- src/lib.rt:50:13
 two-requires : tie.Need-two-requires
 two-requires c κs = search needs
 
--- src/lib.rt:50:51
 add-two : tie.Need-add-two
 add-two c = search needs
 
--- src/lib.rt:50:34
 two-requires-2 : tie.Need-two-requires-2
 two-requires-2 c κs = search needs
 
--- src/lib.rt:50:76
 add-wide : tie.Need-add-wide
 add-wide c = search needs
 
--- src/lib.rt:50:72
 shared-slice-read-wide : tie.Need-shared-slice-read-wide
 shared-slice-read-wide c = search needs
 
--- src/lib.rt:50:59
 wide-requires : tie.Need-wide-requires
 wide-requires c κs = search needs
 
--- src/lib.rt:50:5
 hole-of-requires : tie.Need-hole-of-requires
 hole-of-requires c κs = search needs
 
--- src/lib.rt:45:1
 returns : tie.Need-returns
 returns c =
     let top = c .before .before .before .before .before .before .before in

@@ -13,27 +13,21 @@ use Rattle.free_list.proofs.hole_of.Lts as lts
 most : (c : lts.Start reads.Pre reads.Post) → c .args .cylinders * c .args .h ≤ 65535 * 255
 most c = let w : c .args .cylinders ≤ 65535 = omega arith in mul-le-mul w (c .pre .3)
 
--- src/lib.rt:27:17
 mul-count : tie.Need-mul-count
 mul-count c = omega (arith, most c)
 
--- src/lib.rt:27:17
 add-count : tie.Need-add-count
 add-count c = omega (arith, most c)
 
--- src/lib.rt:29:9
 returns : tie.Need-returns
 returns c = (refl, omega (arith, most (c .before)), sym (digits-div (c .before .args .cylinders) (c .if1 .taken)), sym (digits-mod (c .before .args .cylinders) (c .if1 .taken)))
 
--- src/lib.rt:39:20
 div-t6 : tie.Need-div-t6
 div-t6 c = search needs
 
--- src/lib.rt:40:14
 rem-t8 : tie.Need-rem-t8
 rem-t8 c = search needs
 
--- src/lib.rt:23:1
 returns-2 : tie.Need-returns-2
 returns-2 c = (refl, omega (arith, most (c .before)), refl, refl)
 

@@ -14,35 +14,27 @@ use Rattle.free_list.proofs.member_after.Lts as lts
 use Rattle.fields.proofs.record_at.Reads as record-at-reads
 use Rattle.fields.proofs.slot_of.Reads as slot-of-reads
 
--- src/lib.rt:58:9
 record-at-requires : tie.Need-record-at-requires
 record-at-requires c κs = search needs
 
--- src/lib.rt:60:9
 sub-slot-of : tie.Need-sub-slot-of
 sub-slot-of c = search needs
 
--- src/lib.rt:60:9
 part-slot-of-start : tie.Need-part-slot-of-start
 part-slot-of-start c = search needs
 
--- src/lib.rt:60:9
 part-slot-of-end : tie.Need-part-slot-of-end
 part-slot-of-end c = search needs
 
--- src/lib.rt:64:10
 mul-slot-of : tie.Need-mul-slot-of
 mul-slot-of c = search needs
 
--- src/lib.rt:64:9
 cast-slot-of : tie.Need-cast-slot-of
 cast-slot-of c = search needs
 
--- src/lib.rt:59:5
 slot-of-requires : tie.Need-slot-of-requires
 slot-of-requires c κs = search needs
 
--- src/lib.rt:54:1
 returns : tie.Need-returns
 returns c =
     let top = c .before .before .before .before .before in

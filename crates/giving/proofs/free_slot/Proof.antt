@@ -6,25 +6,23 @@ use Rattle.giving.proofs.free_slot.Reads as reads
 use Rattle.giving.proofs.free_slot.Lts as lts
 use Rattle.tracks.proofs.give_range.Reads as give-range-reads
 
--- src/lib.rt:59:9
 returns : tie.Need-returns
 returns c = freed-none (c .before .before .args .k) (c .before .before .args .empty .now) (c .if1 .taken)
 
--- src/lib.rt:61:34
 add-give-range : tie.Need-add-give-range
 add-give-range c = search needs
 
--- src/lib.rt:61:5
 give-range-requires : tie.Need-give-range-requires
 give-range-requires c κs = search needs
 
--- src/lib.rt:54:1
 same-length : tie.Need-same-length
 same-length c = search needs
 
--- src/lib.rt:54:1
 returns-2 : tie.Need-returns-2
-returns-2 c = freed-one (c .before .before .before .before .before .before .args .k) (c .before .before .before .before .before .before .args .empty .now) _ (c .before .before .before .before .if1 .left) (c .before .before .give-range .ensures)
+returns-2 c =
+    let at-if1 = c .before .before .before .before in
+    let top = at-if1 .before .before in
+    freed-one (top .args .k) (top .args .empty .now) _ (at-if1 .if1 .left) (c .before .before .give-range .ensures)
 
 pub free-slot-spec : {M : Type 1} → statement M
 free-slot-spec =

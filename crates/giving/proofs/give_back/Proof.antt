@@ -8,15 +8,12 @@ use Rattle.giving.proofs.give_back.Lts as lts
 use Rattle.fields.proofs.record_at.Reads as record-at-reads
 use Rattle.set_change.proofs.give_tail.Reads as give-tail-reads
 
--- src/lib.rt:55:9
 record-at-requires : tie.Need-record-at-requires
 record-at-requires c κs = search needs
 
--- src/lib.rt:56:9
 record-at-requires-2 : tie.Need-record-at-requires-2
 record-at-requires-2 c κs = search needs
 
--- src/lib.rt:57:5
 give-tail-requires : tie.Need-give-tail-requires
 give-tail-requires c κs =
     let top = c .before .before .before .before .before in
@@ -25,16 +22,17 @@ give-tail-requires c κs =
     let three = c .before .record-at2 in
     (set-looked (geometryOf (a .g)) (a .table .now) (a .k) (a .x .third) (a .x .count) (one .result .now) (three .result .now) (one .ensures .0) (three .ensures .0) (top .pre .1), top .pre .0 .3)
 
--- src/lib.rt:43:1
 same-length : tie.Need-same-length
 same-length c = search needs
 
--- src/lib.rt:43:1
 returns : tie.Need-returns
 returns c =
-    let a = c .before .before .before .before .before .before .before .before .args in
-    let one = c .before .before .before .before .before .record-at in
-    let three = c .before .before .before .before .record-at2 in
+    let at-record-at2 = c .before .before .before .before in
+    let at-record-at = at-record-at2 .before in
+    let top = at-record-at .before .before .before in
+    let a = top .args in
+    let one = at-record-at .record-at in
+    let three = at-record-at2 .record-at2 in
     tail-looked (geometryOf (a .g)) (a .table .now) (a .k) (a .x .third) (a .x .count) (one .result .now) (three .result .now) (one .ensures .0) (three .ensures .0) (a .keep) _ _ _ _ _ _ (c .before .before .give-tail .ensures)
 
 pub give-back-spec : {M : Type 1} → statement M

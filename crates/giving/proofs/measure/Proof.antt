@@ -10,31 +10,24 @@ use Rattle.fields.proofs.wide.Reads as wide-reads
 use Rattle.opening.proofs.third.Reads as third-reads
 use Rattle.set_change.proofs.spread_of.Reads as spread-of-reads
 
--- src/lib.rt:29:9
 record-at-requires : tie.Need-record-at-requires
 record-at-requires c κs = search needs
 
--- src/lib.rt:30:9
 third-requires : tie.Need-third-requires
 third-requires c κs = search needs
 
--- src/lib.rt:31:9
 record-at-requires-2 : tie.Need-record-at-requires-2
 record-at-requires-2 c κs = search needs
 
--- src/lib.rt:32:30
 shared-slice-read-wide : tie.Need-shared-slice-read-wide
 shared-slice-read-wide c = search needs
 
--- src/lib.rt:32:17
 wide-requires : tie.Need-wide-requires
 wide-requires c κs = search needs
 
--- src/lib.rt:32:17
 cast-count : tie.Need-cast-count
 cast-count c = search needs
 
--- src/lib.rt:33:9
 spread-of-requires : tie.Need-spread-of-requires
 spread-of-requires c κs =
     let top = c .before .before .before .before .before .before in
@@ -45,7 +38,6 @@ spread-of-requires c κs =
     let x = top .pre .1 in
     set-of (geometryOf (a .g)) (a .table .now) (x .0) (x .1) (a .k) (x .2) (one .result .now) (three .result .now) _ (link .result) (one .ensures .0) (three .ensures .0) (three .ensures .1) (c .wide .ensures .0) (link .ensures .0)
 
--- src/lib.rt:24:1
 returns : tie.Need-returns
 returns c =
     let top = c .before .before .before .before .before .before .before in

@@ -15,30 +15,24 @@ use Rattle.grant.proofs.enter.Reads as enter-reads
 use Rattle.grant.proofs.fits_better.Reads as fits-better-reads
 use Rattle.grant.proofs.whole.Reads as whole-reads
 
--- src/lib.rt:80:9
 returns : tie.Need-returns
 returns c =
     let a = c .before .args in
     let p = c .before .pre in
     (p .5, same-best (a .u) (a .amount) (a .start) (a .count) (p .0) (p .2) (c .if1 .taken) (run (a .best .start) (a .best .count)), same-five (a .u) (a .amount) (a .start) (a .count) (p .0) (p .2) (c .if1 .taken) (toRuns (a .five .now)))
 
--- src/lib.rt:82:29
 add-whole : tie.Need-add-whole
 add-whole c = search needs
 
--- src/lib.rt:82:9
 whole-requires : tie.Need-whole-requires
 whole-requires c κs = search needs
 
--- src/lib.rt:83:5
 enter-requires : tie.Need-enter-requires
 enter-requires c κs = search needs
 
--- src/lib.rt:84:8
 fits-better-requires : tie.Need-fits-better-requires
 fits-better-requires c κs = search needs
 
--- src/lib.rt:85:9
 returns-2 : tie.Need-returns-2
 returns-2 c =
     let top = c .before .before .before .before .before .before in
@@ -50,7 +44,6 @@ returns-2 c =
     let b = better-is (a .amount) x y (wholeIn (a .u) (run (a .start) (a .count))) (c .before .fits-better .result) (c .before .fits-better .ensures) unit in
     (c .before .before .enter .ensures .0, ap (λ (r : Bool). cond r y x) (sym (c .if2 .taken)) ∙ b, c .before .before .enter .ensures .1 ∙ ap (λ (z : Run). entered z (toRuns (a .five .now))) unit)
 
--- src/lib.rt:75:1
 returns-3 : tie.Need-returns-3
 returns-3 c =
     let top = c .before .before .before .before .before .before in

@@ -8,8 +8,9 @@ all-shorter-requires c κs = search needs
 
 returns : tie.Need-returns
 returns c =
-    let a = c .before .before .before .before .args in
-    let p = c .before .before .before .before .pre in
+    let top = c .before .before .before .before in
+    let a = top .args in
+    let p = top .pre in
     (p .6, λ f x. passed-over (a .u) (a .amount) (a .h) (a .rec .now) f _ _ (p .3) (p .5) (c .before .all-shorter .ensures (c .if2 .taken)) x)
 
 look-member-requires : tie.Need-look-member-requires

@@ -40,8 +40,9 @@ loop-holds c =
 
 returns : tie.Need-returns Inv-loop μ-loop
 returns c =
-    let a = c .before .before .before .before .args in
-    let p = c .before .before .before .before .pre in
+    let top = c .before .before .before .before in
+    let a = top .args in
+    let p = top .pre in
     let l = c .before .before .loop in
     λ f x. onwards-done (a .u) (a .amount) f (toRuns (a .five .now)) _ _ (p .1 .1) (p .0 .4) (going-none (geometryOf (a .g)) (a .table .now) _ (l .left) (l .k) (l .inv .2 f x) (c .if1 .taken))
 
@@ -50,8 +51,10 @@ record-at-requires c κs = omega (arith, c .before .before .loop .inv .1, c .bef
 
 look-or-pass-requires : tie.Need-look-or-pass-requires Inv-loop μ-loop
 look-or-pass-requires c κs =
-    let p = c .before .before .before .before .before .before .before .pre in
-    (c .before .before .record-at .ensures .1, p .0 .0 .heads, p .0 .0 .headsMost, p .0 .2, p .0 .3, p .0 .4, c .before .before .before .before .before .loop .inv .0)
+    let at-loop = c .before .before .before .before .before in
+    let top = at-loop .before .before in
+    let p = top .pre in
+    (c .before .before .record-at .ensures .1, p .0 .0 .heads, p .0 .0 .headsMost, p .0 .2, p .0 .3, p .0 .4, at-loop .loop .inv .0)
 
 returns-2 : tie.Need-returns-2 Inv-loop μ-loop
 returns-2 c =
@@ -66,8 +69,10 @@ returns-2 c =
 
 member-after-requires : tie.Need-member-after-requires Inv-loop μ-loop
 member-after-requires c κs =
-    let p = c .before .before .before .before .before .before .before .before .before .pre in
-    (p .0 .0, p .0 .1, c .before .before .before .before .before .before .before .loop .inv .1)
+    let at-loop = c .before .before .before .before .before .before .before in
+    let top = at-loop .before .before in
+    let p = top .pre in
+    (p .0 .0, p .0 .1, at-loop .loop .inv .1)
 
 sub-left : tie.Need-sub-left Inv-loop μ-loop
 sub-left c = search needs

@@ -11,35 +11,27 @@ use Rattle.grant.proofs.whole.Tie as tie
 use Rattle.grant.proofs.whole.Reads as reads
 use Rattle.grant.proofs.whole.Lts as lts
 
--- src/lib.rt:31:20
 sub-t7 : tie.Need-sub-t7
 sub-t7 c = search needs
 
--- src/lib.rt:29:9
 returns : tie.Need-returns
 returns c = whole-one (c .before .args .u) (c .before .args .from) (c .before .args .to) (omega arith) (c .if1 .taken)
 
--- src/lib.rt:34:18
 add-start : tie.Need-add-start
 add-start c = search needs
 
--- src/lib.rt:34:18
 sub-start : tie.Need-sub-start
 sub-start c = search needs
 
--- src/lib.rt:34:17
 div-start : tie.Need-div-start
 div-start c = search needs
 
--- src/lib.rt:35:15
 div-end : tie.Need-div-end
 div-end c = search needs
 
--- src/lib.rt:37:9
 returns-2 : tie.Need-returns-2
 returns-2 c = whole-is (c .before .before .args .u) (c .before .before .args .from) (c .before .before .args .to) 0 (omega arith) (omega arith)
 
--- src/lib.rt:24:1
 returns-3 : tie.Need-returns-3
 returns-3 c = whole-is (c .before .before .args .u) (c .before .before .args .from) (c .before .before .args .to) (c .before .before .args .to / c .before .before .args .u - (c .before .before .args .from + c .before .before .args .u - 1) / c .before .before .args .u) (omega arith) (omega arith)
 

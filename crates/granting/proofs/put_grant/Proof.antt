@@ -15,13 +15,17 @@ mul-lowest-piece : tie.Need-mul-lowest-piece
 mul-lowest-piece c = let l = c .before .before .before .before .before .pre .0 .0 .tracksMost in search needs
 
 lowest-piece-requires : tie.Need-lowest-piece-requires
-lowest-piece-requires c κs = c .before .before .before .before .before .pre .0 .7
+lowest-piece-requires c κs =
+    let top = c .before .before .before .before .before in
+    top .pre .0 .7
 
 take-pieces-requires : tie.Need-take-pieces-requires
 take-pieces-requires c κs = (c .before .before .before .before .before .before .before .pre .0 .7, pieces-in (c .before .before .before .before .before .before .before .pre .1) _ (omega (arith, c .before .before .before .before .before .before .before .pre .0 .2, c .before .before .before .before .before .before .before .pre .0 .0 .tracksMost)))
 
 add-pieces-requires : tie.Need-add-pieces-requires
-add-pieces-requires c κs = (c .before .before .before .before .before .before .before .before .before .before .before .before .pre .0 .10, c .before .before .before .before .before .before .before .before .before .before .before .before .pre .0 .11, c .before .before .before .before .before .before .before .before .before .before .before .before .pre .0 .7, c .before .before .before .before .before .before .before .before .before .before .before .before .pre .0 .8, c .before .before .before .before .before .before .before .before .before .before .before .before .pre .0 .0, pieces-in (c .before .before .before .before .before .before .before .before .before .before .before .before .pre .1) 65535 (c .before .before .before .before .before .before .before .before .before .before .before .before .pre .0 .0 .tracksMost))
+add-pieces-requires c κs =
+    let top = c .before .before .before .before .before .before .before .before .before .before .before .before in
+    (top .pre .0 .10, top .pre .0 .11, top .pre .0 .7, top .pre .0 .8, top .pre .0 .0, pieces-in (top .pre .1) 65535 (top .pre .0 .0 .tracksMost))
 
 few-requires : tie.Need-few-requires
 few-requires c κs = search needs
@@ -46,9 +50,15 @@ same-length-3 : tie.Need-same-length-3
 same-length-3 c = search needs
 
 returns : tie.Need-returns
-returns c = λ d.
-    let x = c .before .before .before .before .before .before .before .before .before .before .before .before .add-pieces .ensures .0 (d .label) (d .pieces) (d .extentsAre) (d .rowsAre) (d .records) in
-    full d _ (c .before .before .before .before .before .before .before .before .before .before .before .before .before .before .before .before .before .take-pieces .ensures) _ (c .before .before .before .before .before .before .before .before .before .before .before .few .ensures) _ _ x _ (c .before .before .before .before .before .before .before .before .before .before .before .before .before .before .before .before .before .before .before .lowest-piece .ensures .0) (c .before .before .before .before .before .before .before .before .before .before .before .before .before .before .before .before .before .before .before .lowest-piece .ensures .1) _ _ (c .before .before .before .before .before .put-set .ensures (draft d _ (c .before .before .before .before .before .before .before .before .before .before .before .before .before .before .before .before .before .take-pieces .ensures) _ (c .before .before .before .before .before .before .before .before .before .before .before .few .ensures) _ _ x _ (c .before .before .before .before .before .before .before .before .before .before .before .before .before .before .before .before .before .before .before .lowest-piece .ensures .0) (c .before .before .before .before .before .before .before .before .before .before .before .before .before .before .before .before .before .before .before .lowest-piece .ensures .1))) _ (c .if1 .left)
+returns c =
+    let at-put-set = c .before .before .before .before .before in
+    let at-few = at-put-set .before .before .before .before .before .before in
+    let at-add-pieces = at-few .before in
+    let at-take-pieces = at-add-pieces .before .before .before .before .before in
+    let at-lowest-piece = at-take-pieces .before .before in
+    λ d.
+    let x = at-add-pieces .add-pieces .ensures .0 (d .label) (d .pieces) (d .extentsAre) (d .rowsAre) (d .records) in
+    full d _ (at-take-pieces .take-pieces .ensures) _ (at-few .few .ensures) _ _ x _ (at-lowest-piece .lowest-piece .ensures .0) (at-lowest-piece .lowest-piece .ensures .1) _ _ (at-put-set .put-set .ensures (draft d _ (at-take-pieces .take-pieces .ensures) _ (at-few .few .ensures) _ _ x _ (at-lowest-piece .lowest-piece .ensures .0) (at-lowest-piece .lowest-piece .ensures .1))) _ (c .if1 .left)
 
 put-granted-requires : tie.Need-put-granted-requires
 put-granted-requires c κs = (c .before .before .before .before .before .before .before .before .before .before .before .before .before .before .before .before .before .before .before .before .before .before .before .before .before .before .pre .0 .4, c .before .before .before .before .before .before .before .before .before .before .before .before .before .before .before .before .before .before .before .before .before .before .before .before .before .before .pre .0 .7, omega (arith, c .before .before .before .before .before .before .before .before .before .before .before .before .before .before .before .before .before .before .before .before .before .before .before .before .before .before .pre .0 .9))
@@ -66,9 +76,16 @@ same-length-7 : tie.Need-same-length-7
 same-length-7 c = search needs
 
 returns-2 : tie.Need-returns-2
-returns-2 c = λ d.
-    let x = c .before .before .before .before .before .before .before .before .before .before .before .before .before .before .before .before .add-pieces .ensures .0 (d .label) (d .pieces) (d .extentsAre) (d .rowsAre) (d .records) in
-    done d _ (c .before .before .before .before .before .before .before .before .before .before .before .before .before .before .before .before .before .before .before .before .before .take-pieces .ensures) _ (c .before .before .before .before .before .before .before .before .before .before .before .before .before .before .before .few .ensures) _ _ x _ (c .before .before .before .before .before .before .before .before .before .before .before .before .before .before .before .before .before .before .before .before .before .before .before .lowest-piece .ensures .0) (c .before .before .before .before .before .before .before .before .before .before .before .before .before .before .before .before .before .before .before .before .before .before .before .lowest-piece .ensures .1) _ _ (c .before .before .before .before .before .before .before .before .before .put-set .ensures (draft d _ (c .before .before .before .before .before .before .before .before .before .before .before .before .before .before .before .before .before .before .before .before .before .take-pieces .ensures) _ (c .before .before .before .before .before .before .before .before .before .before .before .before .before .before .before .few .ensures) _ _ x _ (c .before .before .before .before .before .before .before .before .before .before .before .before .before .before .before .before .before .before .before .before .before .before .before .lowest-piece .ensures .0) (c .before .before .before .before .before .before .before .before .before .before .before .before .before .before .before .before .before .before .before .before .before .before .before .lowest-piece .ensures .1))) _ (c .before .before .before .before .if1 .taken) _ (c .before .before .put-granted .ensures)
+returns-2 c =
+    let at-if1 = c .before .before .before .before in
+    let at-put-set = at-if1 .before .before .before .before .before in
+    let at-few = at-put-set .before .before .before .before .before .before in
+    let at-add-pieces = at-few .before in
+    let at-take-pieces = at-add-pieces .before .before .before .before .before in
+    let at-lowest-piece = at-take-pieces .before .before in
+    λ d.
+    let x = at-add-pieces .add-pieces .ensures .0 (d .label) (d .pieces) (d .extentsAre) (d .rowsAre) (d .records) in
+    done d _ (at-take-pieces .take-pieces .ensures) _ (at-few .few .ensures) _ _ x _ (at-lowest-piece .lowest-piece .ensures .0) (at-lowest-piece .lowest-piece .ensures .1) _ _ (at-put-set .put-set .ensures (draft d _ (at-take-pieces .take-pieces .ensures) _ (at-few .few .ensures) _ _ x _ (at-lowest-piece .lowest-piece .ensures .0) (at-lowest-piece .lowest-piece .ensures .1))) _ (at-if1 .if1 .taken) _ (c .before .before .put-granted .ensures)
 
 pub put-grant-spec : {M : Type 1} → statement M
 put-grant-spec =

@@ -6,33 +6,28 @@ use Rattle.label_check.proofs.few_ok.Reads as reads
 use Rattle.label_check.proofs.few_ok.Lts as lts
 use Rattle.fields.proofs.all_are.Reads as all-are-reads
 
--- src/lib.rt:40:20
 mul-at : tie.Need-mul-at
 mul-at c = search needs
 
--- src/lib.rt:40:14
 add-at : tie.Need-add-at
 add-at c = search needs
 
--- src/lib.rt:41:21
 sub-all-are : tie.Need-sub-all-are
 sub-all-are c = search needs
 
--- src/lib.rt:41:21
 part-all-are-start : tie.Need-part-all-are-start
 part-all-are-start c = search needs
 
--- src/lib.rt:41:21
 part-all-are-end : tie.Need-part-all-are-end
 part-all-are-end c = search needs
 
--- src/lib.rt:41:5
 all-are-requires : tie.Need-all-are-requires
 all-are-requires c κs = search needs
 
--- src/lib.rt:36:1
 returns : tie.Need-returns
-returns c = few-zeros (c .before .before .before .args .f1 .now) (c .before .before .before .args .n) (c .all-are .result) (c .before .before .before .pre .0) (c .before .before .before .pre .1) (c .all-are .ensures)
+returns c =
+    let top = c .before .before .before in
+    few-zeros (top .args .f1 .now) (top .args .n) (c .all-are .result) (top .pre .0) (top .pre .1) (c .all-are .ensures)
 
 pub few-ok-spec : {M : Type 1} → statement M
 few-ok-spec =

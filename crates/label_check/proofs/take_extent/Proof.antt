@@ -12,56 +12,51 @@ use Rattle.fields.proofs.good_ten.Reads as good-ten-reads
 use Rattle.fields.proofs.track_at.Reads as track-at-reads
 use Rattle.tracks.proofs.take_range.Reads as take-range-reads
 
--- src/lib.rt:96:28
 cast-good-ten : tie.Need-cast-good-ten
 cast-good-ten c = search needs
 
--- src/lib.rt:96:41
 mul-good-ten : tie.Need-mul-good-ten
 mul-good-ten c = search needs
 
--- src/lib.rt:96:8
 good-ten-requires : tie.Need-good-ten-requires
 good-ten-requires c κs = search needs
 
--- src/lib.rt:97:9
 returns : tie.Need-returns
-returns c = ten-bad (geometryOf (c .before .before .before .before .before .args .g)) (c .before .before .before .before .before .args .e) (c .before .before .before .before .before .args .x .now) (c .before .before .before .before .before .args .map .now) (sym (c .before .good-ten .ensures) ∙ c .if1 .left)
+returns c =
+    let top = c .before .before .before .before .before in
+    ten-bad (geometryOf (top .args .g)) (top .args .e) (top .args .x .now) (top .args .map .now) (sym (c .before .good-ten .ensures) ∙ c .if1 .left)
 
--- src/lib.rt:99:17
 track-at-requires : tie.Need-track-at-requires
 track-at-requires c κs = search needs
 
--- src/lib.rt:99:17
 cast-first : tie.Need-cast-first
 cast-first c = search needs
 
--- src/lib.rt:100:16
 track-at-requires-2 : tie.Need-track-at-requires-2
 track-at-requires-2 c κs = search needs
 
--- src/lib.rt:100:16
 cast-last : tie.Need-cast-last
 cast-last c = search needs
 
--- src/lib.rt:101:15
 add-end : tie.Need-add-end
 add-end c = search needs
 
--- src/lib.rt:102:5
 take-range-requires : tie.Need-take-range-requires
 take-range-requires c κs =
     let o = ten-order (c .before .before .before .before .before .before .before .before .args .g .heads) (tracks (geometryOf (c .before .before .before .before .before .before .before .before .args .g))) (c .before .before .before .before .before .before .before .before .args .e) (c .before .before .before .before .before .before .before .before .args .x .now) (sym (c .before .before .before .before .good-ten .ensures) ∙ c .before .before .before .if1 .taken) in
     (omega (arith, o .0, c .before .before .track-at .ensures .0, c .before .track-at2 .ensures .0), omega (arith, o .1, c .before .track-at2 .ensures .0, c .before .before .before .before .before .before .before .before .pre .3))
 
--- src/lib.rt:91:1
 same-length : tie.Need-same-length
 same-length c = search needs
 
--- src/lib.rt:91:1
 returns-2 : tie.Need-returns-2
 returns-2 c =
-    ten-taken (geometryOf (c .before .before .before .before .before .before .before .before .before .before .before .args .g)) (c .before .before .before .before .before .before .before .before .before .before .before .args .e) (c .before .before .before .before .before .before .before .before .before .before .before .args .x .now) (c .before .before .before .before .before .before .before .before .before .before .before .args .map .now) _ (c .before .before .take-range .result) (c .before .before .before .before .before .track-at .result) (c .before .before .before .before .track-at2 .result) (c .before .before .before .before .before .track-at .ensures .0) (c .before .before .before .before .track-at2 .ensures .0) (sym (c .before .before .before .before .before .before .before .good-ten .ensures) ∙ c .before .before .before .before .before .before .if1 .taken) (c .before .before .take-range .ensures)
+    let at-track-at2 = c .before .before .before .before in
+    let at-track-at = at-track-at2 .before in
+    let at-if1 = at-track-at .before in
+    let at-good-ten = at-if1 .before in
+    let top = at-good-ten .before .before .before .before in
+    ten-taken (geometryOf (top .args .g)) (top .args .e) (top .args .x .now) (top .args .map .now) _ (c .before .before .take-range .result) (at-track-at .track-at .result) (at-track-at2 .track-at2 .result) (at-track-at .track-at .ensures .0) (at-track-at2 .track-at2 .ensures .0) (sym (at-good-ten .good-ten .ensures) ∙ at-if1 .if1 .taken) (c .before .before .take-range .ensures)
 
 pub take-extent-spec : {M : Type 1} → statement M
 take-extent-spec =

@@ -23,15 +23,12 @@ Inv-loop f1 f3 n g map₀ e₀ map e =
 abbrev μ-loop : tie.MeasureT-loop
 μ-loop f1 f3 n g map₀ e₀ map e = n - e
 
--- src/lib.rt:111:5
 loop-holds : tie.Need-loop-holds Inv-loop μ-loop
 loop-holds c = (refl, omega arith, left-none (c .before .before .before .args .g .heads) (c .before .before .before .args .f1 .now) (c .before .before .before .args .f3 .now) (c .before .before .before .args .map .now), ap (extentsOk (c .before .before .before .args .g .heads) (tracks (geometryOf (c .before .before .before .args .g))) (c .before .before .before .args .f1 .now) (c .before .before .before .args .f3 .now) (c .before .before .before .args .n) 0) (sym (sub-zero (c .before .before .before .args .n))))
 
--- src/lib.rt:112:13
 extent-part-requires : tie.Need-extent-part-requires Inv-loop μ-loop
 extent-part-requires c κs = search needs
 
--- src/lib.rt:113:12
 take-extent-requires : tie.Need-take-extent-requires Inv-loop μ-loop
 take-extent-requires c κs = (
   ap length (c .before .extent-part .ensures) ∙ extent-length (c .before .before .before .before .before .before .before .args .f1 .now) (c .before .before .before .before .before .before .before .args .f3 .now) (c .before .before .before .loop .e) (c .before .before .before .before .before .before .before .pre .0) (c .before .before .before .before .before .before .before .pre .1) (omega (arith, c .before .before .before .before .before .before .before .pre .2)),
@@ -40,15 +37,12 @@ take-extent-requires c κs = (
   omega (arith, c .before .before .before .before .before .before .before .pre .4, c .before .before .before .loop .inv .0),
 )
 
--- src/lib.rt:114:13
 add-e : tie.Need-add-e Inv-loop μ-loop
 add-e c = search needs
 
--- src/lib.rt:111:5
 loop-less : tie.Need-loop-less Inv-loop μ-loop
 loop-less c = search needs
 
--- src/lib.rt:111:5
 loop-again : tie.Need-loop-again Inv-loop μ-loop
 loop-again c =
     let y = c .before .before .before .take-extent .ensures in (
@@ -58,23 +52,26 @@ loop-again c =
       turn-same (geometryOf (c .before .before .before .before .before .before .before .before .before .before .before .args .g)) (c .before .before .before .before .before .before .before .before .before .before .before .args .f1 .now) (c .before .before .before .before .before .before .before .before .before .before .before .args .f3 .now) (c .before .before .before .before .before .before .before .before .before .before .before .args .n) (c .before .before .before .before .before .before .before .loop .e) (c .before .before .before .before .before .before .before .before .before .before .before .args .map .now) (c .before .before .before .before .before .before .before .loop .map) _ (c .before .before .before .take-extent .result) (c .before .before .before .before .before .extent-part .result .now) (c .before .before .before .before .before .extent-part .ensures) (c .before .before .before .before .before .before .loop-test .taken) y (c .before .before .before .before .before .before .before .loop .inv .2) (c .before .before .before .before .before .before .before .loop .inv .3) (c .if1 .taken),
     )
 
--- src/lib.rt:116:13
 same-length : tie.Need-same-length Inv-loop μ-loop
 same-length c = search needs
 
--- src/lib.rt:116:13
 returns : tie.Need-returns Inv-loop μ-loop
 returns c =
-    let y = c .before .before .before .take-extent .ensures in
-    turn-stop (geometryOf (c .before .before .before .before .before .before .before .before .before .before .before .args .g)) (c .before .before .before .before .before .before .before .before .before .before .before .args .f1 .now) (c .before .before .before .before .before .before .before .before .before .before .before .args .f3 .now) (c .before .before .before .before .before .before .before .before .before .before .before .args .n) (c .before .before .before .before .before .before .before .loop .e) (c .before .before .before .before .before .before .before .before .before .before .before .args .map .now) (c .before .before .before .before .before .before .before .loop .map) _ (c .before .before .before .take-extent .result) (c .before .before .before .before .before .extent-part .result .now) (c .before .before .before .before .before .extent-part .ensures) (c .before .before .before .before .before .before .loop-test .taken) y (c .before .before .before .before .before .before .before .loop .inv .2) (c .before .before .before .before .before .before .before .loop .inv .3) (c .if1 .left) (y .long ∙ c .before .before .before .before .before .before .before .loop .inv .0)
+    let at-take-extent = c .before .before .before in
+    let at-extent-part = at-take-extent .before .before in
+    let at-loop-test = at-extent-part .before in
+    let at-loop = at-loop-test .before in
+    let top = at-loop .before .before .before .before in
+    let y = at-take-extent .take-extent .ensures in
+    turn-stop (geometryOf (top .args .g)) (top .args .f1 .now) (top .args .f3 .now) (top .args .n) (at-loop .loop .e) (top .args .map .now) (at-loop .loop .map) _ (at-take-extent .take-extent .result) (at-extent-part .extent-part .result .now) (at-extent-part .extent-part .ensures) (at-loop-test .loop-test .taken) y (at-loop .loop .inv .2) (at-loop .loop .inv .3) (c .if1 .left) (y .long ∙ at-loop .loop .inv .0)
 
--- src/lib.rt:106:1
 same-length-2 : tie.Need-same-length-2 Inv-loop μ-loop
 same-length-2 c = search needs
 
--- src/lib.rt:106:1
 returns-2 : tie.Need-returns-2 Inv-loop μ-loop
-returns-2 c = all-taken (geometryOf (c .before .before .before .before .before .args .g)) (c .before .before .before .before .before .args .f1 .now) (c .before .before .before .before .before .args .f3 .now) (c .before .before .before .before .before .args .n) (c .before .loop .e) (c .before .before .before .before .before .args .map .now) (c .before .loop .map) (c .before .loop .inv .1) (c .loop-test .left) (c .before .loop .inv .0) (c .before .loop .inv .2) (c .before .loop .inv .3)
+returns-2 c =
+    let top = c .before .before .before .before .before in
+    all-taken (geometryOf (top .args .g)) (top .args .f1 .now) (top .args .f3 .now) (top .args .n) (c .before .loop .e) (top .args .map .now) (c .before .loop .map) (c .before .loop .inv .1) (c .loop-test .left) (c .before .loop .inv .0) (c .before .loop .inv .2) (c .before .loop .inv .3)
 
 pub take-extents-spec : {M : Type 1} → statement M
 take-extents-spec =

@@ -16,35 +16,29 @@ use Rattle.fields.proofs.slot_of.Reads as slot-of-reads
 use Rattle.forms.proofs.three_ok.Reads as three-ok-reads
 use Rattle.label_check.proofs.unused_ok.Reads as unused-ok-reads
 
--- src/lib.rt:51:17
 mul-many : tie.Need-mul-many
 mul-many c = search needs
 
--- src/lib.rt:51:16
 cast-many : tie.Need-cast-many
 cast-many c = search needs
 
--- src/lib.rt:52:29
 sub-slot-of : tie.Need-sub-slot-of
 sub-slot-of c = search needs
 
--- src/lib.rt:52:29
 part-slot-of-start : tie.Need-part-slot-of-start
 part-slot-of-start c = search needs
 
--- src/lib.rt:52:29
 part-slot-of-end : tie.Need-part-slot-of-end
 part-slot-of-end c = search needs
 
--- src/lib.rt:52:9
 slot-of-requires : tie.Need-slot-of-requires
 slot-of-requires c κs = search needs
 
--- src/lib.rt:54:9
 returns : tie.Need-returns
-returns c = third-none (geometryOf (c .before .before .before .before .before .before .args .g)) (c .before .before .before .before .before .before .args .table .now) (c .before .before .before .before .before .before .args .f1 .now) (c .before .before .before .before .before .before .args .n) (c .before .slot-of .result) (c .before .slot-of .ensures) (c .if1 .taken)
+returns c =
+    let top = c .before .before .before .before .before .before in
+    third-none (geometryOf (top .args .g)) (top .args .table .now) (top .args .f1 .now) (top .args .n) (c .before .slot-of .result) (c .before .slot-of .ensures) (c .if1 .taken)
 
--- src/lib.rt:56:9
 record-at-requires : tie.Need-record-at-requires
 record-at-requires c κs =
     let g = geometryOf (c .before .before .before .before .before .before .args .g) in
@@ -52,25 +46,33 @@ record-at-requires c κs =
     let b = slot-below (g .heads) (g .records) (g .vtocStart) (slots g) (part 135 5 (c .before .before .before .before .before .before .args .f1 .now)) (omega arith) in
     omega (arith, c .before .slot-of .ensures, c .before .before .before .before .before .before .pre .4)
 
--- src/lib.rt:57:8
 three-ok-requires : tie.Need-three-ok-requires
 three-ok-requires c κs = search needs
 
--- src/lib.rt:58:9
 returns-2 : tie.Need-returns-2
-returns-2 c = third-wrong (geometryOf (c .before .before .before .before .before .before .before .before .before .args .g)) (c .before .before .before .before .before .before .before .before .before .args .table .now) (c .before .before .before .before .before .before .before .before .before .args .f1 .now) (c .before .before .before .before .before .before .before .before .before .args .n) (c .before .before .before .before .slot-of .result) (c .before .before .before .before .slot-of .ensures) (c .before .before .record-at .result .now) (c .before .before .record-at .ensures .0) (sym (c .before .three-ok .ensures) ∙ c .if2 .left)
+returns-2 c =
+    let at-slot-of = c .before .before .before .before in
+    let top = at-slot-of .before .before .before .before .before in
+    third-wrong (geometryOf (top .args .g)) (top .args .table .now) (top .args .f1 .now) (top .args .n) (at-slot-of .slot-of .result) (at-slot-of .slot-of .ensures) (c .before .before .record-at .result .now) (c .before .before .record-at .ensures .0) (sym (c .before .three-ok .ensures) ∙ c .if2 .left)
 
--- src/lib.rt:60:8
 unused-ok-requires : tie.Need-unused-ok-requires
 unused-ok-requires c κs = search needs
 
--- src/lib.rt:61:9
 returns-3 : tie.Need-returns-3
-returns-3 c = third-tested (geometryOf (c .before .before .before .before .before .before .before .before .before .before .before .args .g)) (c .before .before .before .before .before .before .before .before .before .before .before .args .table .now) (c .before .before .before .before .before .before .before .before .before .before .before .args .f1 .now) (c .before .before .before .before .before .before .before .before .before .before .before .args .n) (c .before .before .before .before .before .before .slot-of .result) (c .before .before .before .before .before .before .slot-of .ensures) (c .before .before .before .before .record-at .result .now) (c .before .before .before .before .record-at .ensures .0) true (sym (c .before .before .before .three-ok .ensures) ∙ c .before .before .if2 .taken) (sym (c .before .unused-ok .ensures (c .before .before .before .before .before .before .before .before .before .before .before .args .f1 .now) (c .before .before .before .before .before .before .before .before .before .before .before .pre .0)) ∙ c .if3 .taken)
+returns-3 c =
+    let at-three-ok = c .before .before .before in
+    let at-record-at = at-three-ok .before in
+    let at-slot-of = at-record-at .before .before in
+    let top = at-slot-of .before .before .before .before .before in
+    third-tested (geometryOf (top .args .g)) (top .args .table .now) (top .args .f1 .now) (top .args .n) (at-slot-of .slot-of .result) (at-slot-of .slot-of .ensures) (at-record-at .record-at .result .now) (at-record-at .record-at .ensures .0) true (sym (at-three-ok .three-ok .ensures) ∙ c .before .before .if2 .taken) (sym (c .before .unused-ok .ensures (top .args .f1 .now) (top .pre .0)) ∙ c .if3 .taken)
 
--- src/lib.rt:47:1
 returns-4 : tie.Need-returns-4
-returns-4 c = third-tested (geometryOf (c .before .before .before .before .before .before .before .before .before .before .before .args .g)) (c .before .before .before .before .before .before .before .before .before .before .before .args .table .now) (c .before .before .before .before .before .before .before .before .before .before .before .args .f1 .now) (c .before .before .before .before .before .before .before .before .before .before .before .args .n) (c .before .before .before .before .before .before .slot-of .result) (c .before .before .before .before .before .before .slot-of .ensures) (c .before .before .before .before .record-at .result .now) (c .before .before .before .before .record-at .ensures .0) false (sym (c .before .before .before .three-ok .ensures) ∙ c .before .before .if2 .taken) (sym (c .before .unused-ok .ensures (c .before .before .before .before .before .before .before .before .before .before .before .args .f1 .now) (c .before .before .before .before .before .before .before .before .before .before .before .pre .0)) ∙ c .if3 .left)
+returns-4 c =
+    let at-three-ok = c .before .before .before in
+    let at-record-at = at-three-ok .before in
+    let at-slot-of = at-record-at .before .before in
+    let top = at-slot-of .before .before .before .before .before in
+    third-tested (geometryOf (top .args .g)) (top .args .table .now) (top .args .f1 .now) (top .args .n) (at-slot-of .slot-of .result) (at-slot-of .slot-of .ensures) (at-record-at .record-at .result .now) (at-record-at .record-at .ensures .0) false (sym (at-three-ok .three-ok .ensures) ∙ c .before .before .if2 .taken) (sym (c .before .unused-ok .ensures (top .args .f1 .now) (top .pre .0)) ∙ c .if3 .left)
 
 pub third-of-spec : {M : Type 1} → statement M
 third-of-spec =

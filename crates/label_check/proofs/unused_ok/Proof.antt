@@ -9,83 +9,65 @@ use Rattle.label_check.proofs.unused_ok.Reads as reads
 use Rattle.label_check.proofs.unused_ok.Lts as lts
 use Rattle.fields.proofs.all_are.Reads as all-are-reads
 
--- src/lib.rt:27:23
 mul-at : tie.Need-mul-at
 mul-at c = search needs
 
--- src/lib.rt:27:18
 add-at : tie.Need-add-at
 add-at c = search needs
 
--- src/lib.rt:28:32
 sub-all-are : tie.Need-sub-all-are
 sub-all-are c = search needs
 
--- src/lib.rt:28:32
 part-all-are-start : tie.Need-part-all-are-start
 part-all-are-start c = search needs
 
--- src/lib.rt:28:32
 part-all-are-end : tie.Need-part-all-are-end
 part-all-are-end c = search needs
 
--- src/lib.rt:28:9
 all-are-requires : tie.Need-all-are-requires
 all-are-requires c κs = search needs
 
--- src/lib.rt:28:9
 returns : tie.Need-returns
-returns c = λ f1 l1. c .all-are .ensures ∙ unused-behind f1 (c .before .before .before .before .args .f3 .now) l1 (c .before .before .before .before .pre .0) (c .before .before .before .before .args .n) (c .before .before .if1 .taken) (c .before .before .before .before .pre .2)
+returns c =
+    let top = c .before .before .before .before in
+    λ f1 l1. c .all-are .ensures ∙ unused-behind f1 (top .args .f3 .now) l1 (top .pre .0) (top .args .n) (c .before .before .if1 .taken) (top .pre .2)
 
--- src/lib.rt:30:24
 sub-at : tie.Need-sub-at
 sub-at c = search needs
 
--- src/lib.rt:30:18
 mul-at-2 : tie.Need-mul-at-2
 mul-at-2 c = search needs
 
--- src/lib.rt:30:14
 add-at-2 : tie.Need-add-at-2
 add-at-2 c = search needs
 
--- src/lib.rt:31:24
 sub-all-are-2 : tie.Need-sub-all-are-2
 sub-all-are-2 c = search needs
 
--- src/lib.rt:31:24
 part-all-are-start-2 : tie.Need-part-all-are-start-2
 part-all-are-start-2 c = search needs
 
--- src/lib.rt:31:24
 part-all-are-end-2 : tie.Need-part-all-are-end-2
 part-all-are-end-2 c = search needs
 
--- src/lib.rt:31:8
 all-are-requires-2 : tie.Need-all-are-requires-2
 all-are-requires-2 c κs = search needs
 
--- src/lib.rt:32:9
 returns-2 : tie.Need-returns-2
 returns-2 c = λ f1 l1. unused-around f1 (c .before .before .before .before .before .args .f3 .now) l1 (c .before .before .before .before .before .pre .0) (c .before .before .before .before .before .args .n) false (omega arith) (omega arith) (sym (c .before .all-are2 .ensures) ∙ c .if2 .left)
 
--- src/lib.rt:34:21
 sub-all-are-3 : tie.Need-sub-all-are-3
 sub-all-are-3 c = search needs
 
--- src/lib.rt:34:21
 part-all-are-start-3 : tie.Need-part-all-are-start-3
 part-all-are-start-3 c = search needs
 
--- src/lib.rt:34:21
 part-all-are-end-3 : tie.Need-part-all-are-end-3
 part-all-are-end-3 c = search needs
 
--- src/lib.rt:34:5
 all-are-requires-3 : tie.Need-all-are-requires-3
 all-are-requires-3 c κs = search needs
 
--- src/lib.rt:22:1
 returns-3 : tie.Need-returns-3
 returns-3 c = λ f1 l1. c .all-are3 .ensures ∙ unused-around f1 (c .before .before .before .before .before .before .before .args .f3 .now) l1 (c .before .before .before .before .before .before .before .pre .0) (c .before .before .before .before .before .before .before .args .n) true (omega arith) (omega arith) (sym (c .before .before .before .all-are2 .ensures) ∙ c .before .before .if2 .taken)
 

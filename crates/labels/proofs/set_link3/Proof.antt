@@ -7,11 +7,9 @@ use Rattle.labels.proofs.set_link3.Reads as reads
 use Rattle.labels.proofs.set_link3.Lts as lts
 use Rattle.records.proofs.put_link.Reads as put-link-reads
 
--- src/lib.rt:144:5
 put-link-requires : tie.Need-put-link-requires
 put-link-requires c κs = search needs
 
--- src/lib.rt:140:1
 returns : tie.Need-returns
 returns c = let a = c .before .before .args in λ l slot f. rw (c .put-link .ensures) (linked-again (geometryOf (a .g)) l (a .rec .now) f (a .k) slot)
 

@@ -13,40 +13,38 @@ use Rattle.listing.proofs.put_byte.Reads as put-byte-reads
 use Rattle.listing.proofs.put_field.Reads as put-field-reads
 use Rattle.listing.proofs.put_name.Reads as put-name-reads
 
--- src/lib.rt:107:9
 put-byte-requires : tie.Need-put-byte-requires
 put-byte-requires c κs = search needs
 
--- src/lib.rt:108:9
 put-byte-requires-2 : tie.Need-put-byte-requires-2
 put-byte-requires-2 c κs = search needs
 
--- src/lib.rt:109:9
 put-name-requires : tie.Need-put-name-requires
 put-name-requires c κs = search needs
 
--- src/lib.rt:110:9
 put-field-requires : tie.Need-put-field-requires
 put-field-requires c κs = search needs
 
--- src/lib.rt:111:9
 put-field-requires-2 : tie.Need-put-field-requires-2
 put-field-requires-2 c κs = search needs
 
--- src/lib.rt:112:5
 put-byte-requires-3 : tie.Need-put-byte-requires-3
 put-byte-requires-3 c κs = search needs
 
--- src/lib.rt:103:1
 same-length : tie.Need-same-length
 same-length c = search needs
 
--- src/lib.rt:103:1
 returns : tie.Need-returns
 unfolding dataText
 returns c =
-    let fs = nameText (c .before .before .before .before .before .before .before .before .before .before .before .before .before .before .before .before .before .before .before .before .before .before .before .before .before .before .args .name .now) ∷ decimal (c .before .before .before .before .before .before .before .before .before .before .before .before .before .before .before .before .before .before .before .before .before .before .before .before .before .before .args .tracks) ∷ decimal (c .before .before .before .before .before .before .before .before .before .before .before .before .before .before .before .before .before .before .before .before .before .before .before .before .before .before .args .extents) ∷ [] in
-    ends (line 0x44 fs) (line-text 0x44 fs) (lit≤ tt) (then (c .before .before .before .before .before .before .before .before .before .before .before .before .before .before .before .before .before .before .before .before .before .before .put-byte .ensures) (then (c .before .before .before .before .before .before .before .before .before .before .before .before .before .before .before .before .before .before .put-byte2 .ensures) (then (c .before .before .before .before .before .before .before .before .before .before .before .before .before .before .put-name .ensures) (then (c .before .before .before .before .before .before .before .before .before .before .put-field .ensures) (then (c .before .before .before .before .before .before .put-field2 .ensures) (c .before .before .put-byte3 .ensures))))))
+    let at-put-field2 = c .before .before .before .before .before .before in
+    let at-put-field = at-put-field2 .before .before .before .before in
+    let at-put-name = at-put-field .before .before .before .before in
+    let at-put-byte2 = at-put-name .before .before .before .before in
+    let at-put-byte = at-put-byte2 .before .before .before .before in
+    let top = at-put-byte .before .before .before .before in
+    let fs = nameText (top .args .name .now) ∷ decimal (top .args .tracks) ∷ decimal (top .args .extents) ∷ [] in
+    ends (line 0x44 fs) (line-text 0x44 fs) (lit≤ tt) (then (at-put-byte .put-byte .ensures) (then (at-put-byte2 .put-byte2 .ensures) (then (at-put-name .put-name .ensures) (then (at-put-field .put-field .ensures) (then (at-put-field2 .put-field2 .ensures) (c .before .before .put-byte3 .ensures))))))
 
 pub data-line-spec : {M : Type 1} → statement M
 data-line-spec =

@@ -11,31 +11,29 @@ use Rattle.listing.proofs.free_line.Lts as lts
 use Rattle.listing.proofs.put_byte.Reads as put-byte-reads
 use Rattle.listing.proofs.put_field.Reads as put-field-reads
 
--- src/lib.rt:113:9
 put-byte-requires : tie.Need-put-byte-requires
 put-byte-requires c κs = search needs
 
--- src/lib.rt:114:9
 put-field-requires : tie.Need-put-field-requires
 put-field-requires c κs = search needs
 
--- src/lib.rt:115:9
 put-field-requires-2 : tie.Need-put-field-requires-2
 put-field-requires-2 c κs = search needs
 
--- src/lib.rt:116:5
 put-byte-requires-2 : tie.Need-put-byte-requires-2
 put-byte-requires-2 c κs = search needs
 
--- src/lib.rt:109:1
 same-length : tie.Need-same-length
 same-length c = search needs
 
--- src/lib.rt:109:1
 returns : tie.Need-returns
 returns c =
-    let fs = decimal (c .before .before .before .before .before .before .before .before .before .before .before .before .before .before .before .before .before .args .start) ∷ decimal (c .before .before .before .before .before .before .before .before .before .before .before .before .before .before .before .before .before .args .count) ∷ [] in
-    ends (line 0x46 fs) (line-text 0x46 fs) (lit≤ tt) (then (c .before .before .before .before .before .before .before .before .before .before .before .before .before .before .put-byte .ensures) (then (c .before .before .before .before .before .before .before .before .before .before .put-field .ensures) (then (c .before .before .before .before .before .before .put-field2 .ensures) (c .before .before .put-byte2 .ensures))))
+    let at-put-field2 = c .before .before .before .before .before .before in
+    let at-put-field = at-put-field2 .before .before .before .before in
+    let at-put-byte = at-put-field .before .before .before .before in
+    let top = at-put-byte .before .before .before in
+    let fs = decimal (top .args .start) ∷ decimal (top .args .count) ∷ [] in
+    ends (line 0x46 fs) (line-text 0x46 fs) (lit≤ tt) (then (at-put-byte .put-byte .ensures) (then (at-put-field .put-field .ensures) (then (at-put-field2 .put-field2 .ensures) (c .before .before .put-byte2 .ensures))))
 
 pub free-line-spec : {M : Type 1} → statement M
 free-line-spec =

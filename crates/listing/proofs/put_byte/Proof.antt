@@ -5,19 +5,15 @@ use Rattle.listing.proofs.put_byte.Tie as tie
 use Rattle.listing.proofs.put_byte.Reads as reads
 use Rattle.listing.proofs.put_byte.Lts as lts
 
--- src/lib.rt:16:5
 slice-write-out : tie.Need-slice-write-out
 slice-write-out c = search needs
 
--- src/lib.rt:17:5
 add-result : tie.Need-add-result
 add-result c = search needs
 
--- src/lib.rt:12:1
 same-length : tie.Need-same-length
 same-length c = search needs
 
--- src/lib.rt:12:1
 returns : tie.Need-returns
 returns c = write-byte (c .args .out .now) (c .args .at) (c .args .b) (c .pre)
 

@@ -7,41 +7,38 @@ use Rattle.listing.proofs.put_decimal.Lts as lts
 use Rattle.listing.proofs.put_byte.Reads as put-byte-reads
 use Rattle.listing.proofs.put_digit.Reads as put-digit-reads
 
--- src/lib.rt:36:9
 put-digit-requires : tie.Need-put-digit-requires
 put-digit-requires c κs = search needs
 
--- src/lib.rt:37:9
 put-digit-requires-2 : tie.Need-put-digit-requires-2
 put-digit-requires-2 c κs = search needs
 
--- src/lib.rt:38:9
 put-digit-requires-3 : tie.Need-put-digit-requires-3
 put-digit-requires-3 c κs = search needs
 
--- src/lib.rt:39:9
 put-digit-requires-4 : tie.Need-put-digit-requires-4
 put-digit-requires-4 c κs = search needs
 
--- src/lib.rt:40:23
 add-put-byte : tie.Need-add-put-byte
 add-put-byte c = search needs
 
--- src/lib.rt:40:22
 cast-put-byte : tie.Need-cast-put-byte
 cast-put-byte c = search needs
 
--- src/lib.rt:40:5
 put-byte-requires : tie.Need-put-byte-requires
 put-byte-requires c κs = search needs
 
--- src/lib.rt:32:1
 same-length : tie.Need-same-length
 same-length c = search needs
 
--- src/lib.rt:32:1
 returns : tie.Need-returns
-returns c = five (c .before .before .before .before .before .before .before .before .before .before .before .before .before .before .before .before .before .before .before .before .before .args .v) (c .before .before .before .before .before .before .before .before .before .before .before .before .before .before .before .before .before .before .before .before .before .pre .1) (c .before .before .before .before .before .before .before .before .before .before .before .before .before .before .before .before .before .before .put-digit .ensures) (c .before .before .before .before .before .before .before .before .before .before .before .before .before .before .put-digit2 .ensures) (c .before .before .before .before .before .before .before .before .before .before .put-digit3 .ensures) (c .before .before .before .before .before .before .put-digit4 .ensures) (c .before .before .put-byte .ensures)
+returns c =
+    let at-put-digit4 = c .before .before .before .before .before .before in
+    let at-put-digit3 = at-put-digit4 .before .before .before .before in
+    let at-put-digit2 = at-put-digit3 .before .before .before .before in
+    let at-put-digit = at-put-digit2 .before .before .before .before in
+    let top = at-put-digit .before .before .before in
+    five (top .args .v) (top .pre .1) (at-put-digit .put-digit .ensures) (at-put-digit2 .put-digit2 .ensures) (at-put-digit3 .put-digit3 .ensures) (at-put-digit4 .put-digit4 .ensures) (c .before .before .put-byte .ensures)
 
 pub put-decimal-spec : {M : Type 1} → statement M
 put-decimal-spec =

@@ -6,33 +6,28 @@ use Rattle.listing.proofs.put_digit.Reads as reads
 use Rattle.listing.proofs.put_digit.Lts as lts
 use Rattle.listing.proofs.put_byte.Reads as put-byte-reads
 
--- src/lib.rt:26:9
 returns : tie.Need-returns
 returns c = rw (digit-none _ _ (c .if1 .taken)) (write-none (c .before .before .args .out .now) (c .before .before .args .at) 1)
 
--- src/lib.rt:28:31
 div-put-byte : tie.Need-div-put-byte
 div-put-byte c = search needs
 
--- src/lib.rt:28:24
 add-put-byte : tie.Need-add-put-byte
 add-put-byte c = search needs
 
--- src/lib.rt:28:23
 cast-put-byte : tie.Need-cast-put-byte
 cast-put-byte c = search needs
 
--- src/lib.rt:28:5
 put-byte-requires : tie.Need-put-byte-requires
 put-byte-requires c κs = search needs
 
--- src/lib.rt:21:1
 same-length : tie.Need-same-length
 same-length c = search needs
 
--- src/lib.rt:21:1
 returns-2 : tie.Need-returns-2
-returns-2 c = rw (digit-one _ _ (c .before .before .before .before .if1 .left)) (c .before .before .put-byte .ensures)
+returns-2 c =
+    let at-if1 = c .before .before .before .before in
+    rw (digit-one _ _ (at-if1 .if1 .left)) (c .before .before .put-byte .ensures)
 
 pub put-digit-spec : {M : Type 1} → statement M
 put-digit-spec =

@@ -7,21 +7,19 @@ use Rattle.listing.proofs.put_field.Lts as lts
 use Rattle.listing.proofs.put_byte.Reads as put-byte-reads
 use Rattle.listing.proofs.put_decimal.Reads as put-decimal-reads
 
--- src/lib.rt:49:9
 put-byte-requires : tie.Need-put-byte-requires
 put-byte-requires c κs = search needs
 
--- src/lib.rt:50:5
 put-decimal-requires : tie.Need-put-decimal-requires
 put-decimal-requires c κs = search needs
 
--- src/lib.rt:45:1
 same-length : tie.Need-same-length
 same-length c = search needs
 
--- src/lib.rt:45:1
 returns : tie.Need-returns
-returns c = then (c .before .before .before .before .before .before .put-byte .ensures) (c .before .before .put-decimal .ensures)
+returns c =
+    let at-put-byte = c .before .before .before .before .before .before in
+    then (at-put-byte .put-byte .ensures) (c .before .before .put-decimal .ensures)
 
 pub put-field-spec : {M : Type 1} → statement M
 put-field-spec = tie.close (tie.spec put-byte-requires put-decimal-requires same-length returns)

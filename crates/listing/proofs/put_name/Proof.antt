@@ -17,35 +17,27 @@ Inv-loop out₀ at name p₀ i₀ out p i = (i ≤ 44) × Written at (nameText (
 abbrev μ-loop : tie.MeasureT-loop
 μ-loop out₀ at name p₀ i₀ out p i = 44 - i
 
--- src/lib.rt:71:5
 loop-holds : tie.Need-loop-holds Inv-loop μ-loop
 loop-holds c = (omega arith, name-none (c .before .before .args .out .now) (c .before .before .args .at))
 
--- src/lib.rt:72:33
 shared-slice-read-put-printed : tie.Need-shared-slice-read-put-printed Inv-loop μ-loop
 shared-slice-read-put-printed c = search needs
 
--- src/lib.rt:72:9
 put-printed-requires : tie.Need-put-printed-requires Inv-loop μ-loop
 put-printed-requires c κs = search needs
 
--- src/lib.rt:73:9
 add-i : tie.Need-add-i Inv-loop μ-loop
 add-i c = search needs
 
--- src/lib.rt:71:5
 loop-less : tie.Need-loop-less Inv-loop μ-loop
 loop-less c = search needs
 
--- src/lib.rt:71:5
 loop-again : tie.Need-loop-again Inv-loop μ-loop
 loop-again c = (omega arith, name-next (c .before .before .before .before .before .before .before .before .before .args .name .now) (c .before .before .before .before .before .before .loop .i) (omega arith) (c .before .before .before .before .before .before .loop .inv .1) (c .before .before .put-printed .ensures))
 
--- src/lib.rt:65:1
 same-length : tie.Need-same-length Inv-loop μ-loop
 same-length c = search needs
 
--- src/lib.rt:65:1
 returns : tie.Need-returns Inv-loop μ-loop
 returns c = let e : c .before .loop .i ≡ 44 = omega arith in name-done (c .before .before .before .before .args .name .now) 44 (c .before .before .before .before .pre .1) (subst (λ (i : ℕ). Written (c .before .before .before .before .args .at) (nameText (take i (c .before .before .before .before .args .name .now))) i (c .before .before .before .before .args .out .now) (c .before .loop .out) (c .before .loop .p)) e (c .before .loop .inv .1))
 

@@ -8,25 +8,23 @@ use Rattle.listing.proofs.put_printed.Lts as lts
 use Rattle.fields.proofs.listing.printable.Reads as printable-reads
 use Rattle.listing.proofs.put_byte.Reads as put-byte-reads
 
--- src/lib.rt:59:9
 returns : tie.Need-returns
 returns c = rw (name-blank _ (c .if1 .taken)) (write-none (c .before .before .args .out .now) (c .before .before .args .at) 1)
 
--- src/lib.rt:61:23
 printable-requires : tie.Need-printable-requires
 printable-requires c κs = search needs
 
--- src/lib.rt:61:5
 put-byte-requires : tie.Need-put-byte-requires
 put-byte-requires c κs = search needs
 
--- src/lib.rt:54:1
 same-length : tie.Need-same-length
 same-length c = search needs
 
--- src/lib.rt:54:1
 returns-2 : tie.Need-returns-2
-returns-2 c = rw (name-one _ (c .before .before .before .before .before .if1 .left), ← c .before .before .before .before .printable .ensures .rule) (c .before .before .put-byte .ensures)
+returns-2 c =
+    let at-printable = c .before .before .before .before in
+    let at-if1 = at-printable .before in
+    rw (name-one _ (at-if1 .if1 .left), ← at-printable .printable .ensures .rule) (c .before .before .put-byte .ensures)
 
 pub put-printed-spec : {M : Type 1} → statement M
 put-printed-spec =

@@ -18,37 +18,31 @@ Inv-loop f1 f3 n heads sum₀ e₀ sum e = (e ≤ n) × (sum ≡ total (overs (r
 abbrev μ-loop : tie.MeasureT-loop
 μ-loop f1 f3 n heads sum₀ e₀ sum e = n - e
 
--- src/lib.rt:165:5
 loop-holds : tie.Need-loop-holds Inv-loop μ-loop
 loop-holds c = (search needs, sym (total-none (c .before .before .args .heads) (c .before .before .args .f1 .now) (c .before .before .args .f3 .now)), search needs)
 
--- src/lib.rt:166:26
 extent-part-requires : tie.Need-extent-part-requires Inv-loop μ-loop
 extent-part-requires c κs = search needs
 
--- src/lib.rt:166:16
 tracks-in-requires : tie.Need-tracks-in-requires Inv-loop μ-loop
 tracks-in-requires c κs =
+    let top = c .before .before .before .before .before in
     let x = c .extent-part .result .now in
     let e = c .before .before .loop .e in (
-      ten-bytes (c .before .before .before .before .before .args .heads) (c .before .before .before .before .before .args .f1 .now) (c .before .before .before .before .before .args .f3 .now) x e (c .extent-part .ensures) (c .before .before .before .before .before .args .n) (c .before .before .before .before .before .pre .0 .0) (c .before .before .before .before .before .pre .0 .1) (c .before .before .before .before .before .pre .0 .2) (c .before .loop-test .taken),
-      c .before .before .before .before .before .pre .0 .3,
-      proper-ten (c .before .before .before .before .before .args .heads) (c .before .before .before .before .before .args .f1 .now) (c .before .before .before .before .before .args .f3 .now) x e (c .extent-part .ensures) (c .before .before .before .before .before .args .n) (c .before .before .before .before .before .pre .1) (c .before .loop-test .taken),
+      ten-bytes (top .args .heads) (top .args .f1 .now) (top .args .f3 .now) x e (c .extent-part .ensures) (top .args .n) (top .pre .0 .0) (top .pre .0 .1) (top .pre .0 .2) (c .before .loop-test .taken),
+      top .pre .0 .3,
+      proper-ten (top .args .heads) (top .args .f1 .now) (top .args .f3 .now) x e (c .extent-part .ensures) (top .args .n) (top .pre .1) (c .before .loop-test .taken),
     )
 
--- src/lib.rt:166:9
 add-sum : tie.Need-add-sum Inv-loop μ-loop
 add-sum c = search needs
 
--- src/lib.rt:167:9
 add-e : tie.Need-add-e Inv-loop μ-loop
 add-e c = search needs
 
--- src/lib.rt:165:5
 loop-less : tie.Need-loop-less Inv-loop μ-loop
 loop-less c = search needs
 
--- src/lib.rt:165:5
 loop-again : tie.Need-loop-again Inv-loop μ-loop
 loop-again c = (
   omega arith,
@@ -56,7 +50,6 @@ loop-again c = (
   omega (arith, c .tracks-in .ensures .1),
 )
 
--- src/lib.rt:158:1
 returns : tie.Need-returns Inv-loop μ-loop
 returns c =
     let q : c .before .loop .e ≡ c .before .before .before .before .args .n = omega arith in

@@ -13,40 +13,37 @@ use Rattle.listing.proofs.volume_line.Lts as lts
 use Rattle.listing.proofs.put_byte.Reads as put-byte-reads
 use Rattle.listing.proofs.put_field.Reads as put-field-reads
 
--- src/lib.rt:88:9
 put-byte-requires : tie.Need-put-byte-requires
 put-byte-requires c κs = search needs
 
--- src/lib.rt:89:9
 put-field-requires : tie.Need-put-field-requires
 put-field-requires c κs = search needs
 
--- src/lib.rt:90:9
 put-field-requires-2 : tie.Need-put-field-requires-2
 put-field-requires-2 c κs = search needs
 
--- src/lib.rt:91:31
 mul-put-field : tie.Need-mul-put-field
 mul-put-field c = search needs
 
--- src/lib.rt:91:9
 put-field-requires-3 : tie.Need-put-field-requires-3
 put-field-requires-3 c κs = search needs
 
--- src/lib.rt:92:5
 put-byte-requires-2 : tie.Need-put-byte-requires-2
 put-byte-requires-2 c κs = search needs
 
--- src/lib.rt:84:1
 same-length : tie.Need-same-length
 same-length c = search needs
 
--- src/lib.rt:84:1
 returns : tie.Need-returns
 unfolding volumeText
 returns c =
-    let fs = decimal (c .before .before .before .before .before .before .before .before .before .before .before .before .before .before .before .before .before .before .before .before .before .args .cylinders) ∷ decimal (c .before .before .before .before .before .before .before .before .before .before .before .before .before .before .before .before .before .before .before .before .before .args .heads) ∷ decimal (c .before .before .before .before .before .before .before .before .before .before .before .before .before .before .before .before .before .before .before .before .before .args .cylinders * c .before .before .before .before .before .before .before .before .before .before .before .before .before .before .before .before .before .before .before .before .before .args .heads) ∷ [] in
-    ends (line 0x56 fs) (line-text 0x56 fs) (lit≤ tt) (then (c .before .before .before .before .before .before .before .before .before .before .before .before .before .before .before .before .before .before .put-byte .ensures) (then (c .before .before .before .before .before .before .before .before .before .before .before .before .before .before .put-field .ensures) (then (c .before .before .before .before .before .before .before .before .before .before .put-field2 .ensures) (then (c .before .before .before .before .before .before .put-field3 .ensures) (c .before .before .put-byte2 .ensures)))))
+    let at-put-field3 = c .before .before .before .before .before .before in
+    let at-put-field2 = at-put-field3 .before .before .before .before in
+    let at-put-field = at-put-field2 .before .before .before .before in
+    let at-put-byte = at-put-field .before .before .before .before in
+    let top = at-put-byte .before .before .before in
+    let fs = decimal (top .args .cylinders) ∷ decimal (top .args .heads) ∷ decimal (top .args .cylinders * top .args .heads) ∷ [] in
+    ends (line 0x56 fs) (line-text 0x56 fs) (lit≤ tt) (then (at-put-byte .put-byte .ensures) (then (at-put-field .put-field .ensures) (then (at-put-field2 .put-field2 .ensures) (then (at-put-field3 .put-field3 .ensures) (c .before .before .put-byte2 .ensures)))))
 
 pub volume-line-spec : {M : Type 1} → statement M
 volume-line-spec =

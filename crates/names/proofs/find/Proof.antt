@@ -18,36 +18,28 @@ Inv-loop table n name k₀ k = (findSlot table name n ≡ firstNamed table name 
 abbrev μ-loop : tie.MeasureT-loop
 μ-loop table n name k₀ k = n - k
 
--- src/lib.rt:33:5
 loop-holds : tie.Need-loop-holds Inv-loop μ-loop
 unfolding findSlot
 loop-holds c = (simp sub-zero, omega arith)
 
--- src/lib.rt:34:21
 record-at-requires : tie.Need-record-at-requires Inv-loop μ-loop
 record-at-requires c κs = search needs
 
--- src/lib.rt:34:12
 is-named-requires : tie.Need-is-named-requires Inv-loop μ-loop
 is-named-requires c κs = search needs
 
--- src/lib.rt:35:13
 returns : tie.Need-returns Inv-loop μ-loop
 returns c = sym (c .before .before .before .before .loop .inv .0 ∙ hit _ _ _ _ (c .before .before .before .loop-test .taken) cc)
 
--- src/lib.rt:37:9
 add-k : tie.Need-add-k Inv-loop μ-loop
 add-k c = search needs
 
--- src/lib.rt:33:5
 loop-less : tie.Need-loop-less Inv-loop μ-loop
 loop-less c = search needs
 
--- src/lib.rt:33:5
 loop-again : tie.Need-loop-again Inv-loop μ-loop
 loop-again c = (c .before .before .before .before .loop .inv .0 ∙ miss _ _ _ _ (c .before .before .before .loop-test .taken) cc, omega arith)
 
--- src/lib.rt:28:1
 returns-2 : tie.Need-returns-2 Inv-loop μ-loop
 returns-2 c = sym (c .before .loop .inv .0 ∙ done _ _ _ _ (c .loop-test .left))
 

@@ -18,34 +18,27 @@ Inv-loop tags t hit₀ i₀ hit i = (i ≤ length tags) × (hasTag tags t ≡ (h
 abbrev μ-loop : tie.MeasureT-loop
 μ-loop tags t hit₀ i₀ hit i = length tags - i
 
--- src/lib.rt:70:5
 loop-holds : tie.Need-loop-holds Inv-loop μ-loop
 loop-holds c = search needs
 
--- src/lib.rt:71:12
 mul-if1 : tie.Need-mul-if1 Inv-loop μ-loop
 mul-if1 c = search needs
 
--- src/lib.rt:71:12
 shared-slice-read-if1 : tie.Need-shared-slice-read-if1 Inv-loop μ-loop
 shared-slice-read-if1 c = search needs
 
--- src/lib.rt:74:9
 add-i : tie.Need-add-i Inv-loop μ-loop
 add-i c = search needs
 
--- src/lib.rt:70:5
 loop-less : tie.Need-loop-less Inv-loop μ-loop
 loop-less c = search needs
 
--- src/lib.rt:70:5
 loop-again : tie.Need-loop-again Inv-loop μ-loop
 loop-again c =
     let l = c .before .before .before .loop in
     let s = c .before .before .before .before .args in
     (search needs, l .inv .1 ∙ ⊎-elim (λ w. tag-hit (s .tags .now) (s .t) (l .i) (c .before .before .loop-test .taken) (l .hit) (w .0 .taken) ∙ rw (w .1)) (λ w. tag-miss (s .tags .now) (s .t) (l .i) (c .before .before .loop-test .taken) (l .hit) (w .0 .left) ∙ rw (w .1)) (c .if1 .came))
 
--- src/lib.rt:65:1
 returns : tie.Need-returns Inv-loop μ-loop
 returns c = sym (c .before .loop .inv .1 ∙ tag-end (c .before .before .args .tags .now) (c .before .before .args .t) (c .before .loop .i) (c .before .loop .hit) (c .loop-test .left))
 

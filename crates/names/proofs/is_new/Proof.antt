@@ -10,35 +10,30 @@ use Rattle.names.proofs.has_tag.Reads as has-tag-reads
 use Rattle.names.proofs.is_other.Reads as is-other-reads
 use Rattle.tracks.proofs.is_free.Reads as is-free-reads
 
--- src/lib.rt:109:13
 cast-q : tie.Need-cast-q
 cast-q c = search needs
 
--- src/lib.rt:110:8
 is-free-requires : tie.Need-is-free-requires
 is-free-requires c κs = search needs
 
--- src/lib.rt:111:9
 returns : tie.Need-returns
 returns c =
-    rw (no-mark (c .before .before .before .before .before .before .args .table .now) (c .before .before .before .before .before .before .args .seen .now) (c .before .before .before .before .before .before .args .k) (c .before .before .before .before .before .before .args .t) (c .before .before .before .before .before .before .pre .5) (c .before .before .before .before .before .before .args .name .now) (c .before .before .before .before .before .before .pre .3) (sym (c .before .is-free .ensures) ∙ c .if1 .left))
+    let top = c .before .before .before .before .before .before in
+    rw (no-mark (top .args .table .now) (top .args .seen .now) (top .args .k) (top .args .t) (top .pre .5) (top .args .name .now) (top .pre .3) (sym (c .before .is-free .ensures) ∙ c .if1 .left))
 
--- src/lib.rt:113:8
 has-tag-requires : tie.Need-has-tag-requires
 has-tag-requires c κs = search needs
 
--- src/lib.rt:114:9
 is-other-requires : tie.Need-is-other-requires
 is-other-requires c κs = search needs
 
--- src/lib.rt:114:9
 returns-2 : tie.Need-returns-2
 returns-2 c = search needs
 
--- src/lib.rt:105:1
 returns-3 : tie.Need-returns-3
 returns-3 c =
-    rw (no-tag (c .before .before .before .before .before .before .before .before .args .table .now) (c .before .before .before .before .before .before .before .before .args .tags .now) (c .before .before .before .before .before .before .before .before .args .k) (c .before .before .before .before .before .before .before .before .pre .1) (c .before .before .before .before .before .before .before .before .pre .2) (c .before .before .before .before .before .before .before .before .args .name .now) (ap (hasTag (c .before .before .before .before .before .before .before .before .args .tags .now)) (sym (c .before .before .before .before .before .before .before .before .pre .3)) ∙ sym (c .before .has-tag .ensures) ∙ c .if2 .left))
+    let top = c .before .before .before .before .before .before .before .before in
+    rw (no-tag (top .args .table .now) (top .args .tags .now) (top .args .k) (top .pre .1) (top .pre .2) (top .args .name .now) (ap (hasTag (top .args .tags .now)) (sym (top .pre .3)) ∙ sym (c .before .has-tag .ensures) ∙ c .if2 .left))
 
 pub is-new-spec : {M : Type 1} → statement M
 is-new-spec =

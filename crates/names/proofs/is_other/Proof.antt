@@ -21,40 +21,31 @@ Inv-loop table k tags t name j₀ j = (findSlot table name k ≡ firstNamed tabl
 abbrev μ-loop : tie.MeasureT-loop
 μ-loop table k tags t name j₀ j = k - j
 
--- src/lib.rt:92:5
 loop-holds : tie.Need-loop-holds Inv-loop μ-loop
 unfolding findSlot
 loop-holds c = (simp sub-zero, omega arith, search needs)
 
--- src/lib.rt:93:12
 mul-if1 : tie.Need-mul-if1 Inv-loop μ-loop
 mul-if1 c = search needs
 
--- src/lib.rt:93:12
 shared-slice-read-if1 : tie.Need-shared-slice-read-if1 Inv-loop μ-loop
 shared-slice-read-if1 c = search needs
 
--- src/lib.rt:94:25
 record-at-requires : tie.Need-record-at-requires Inv-loop μ-loop
 record-at-requires c κs = search needs
 
--- src/lib.rt:94:16
 is-named-requires : tie.Need-is-named-requires Inv-loop μ-loop
 is-named-requires c κs = search needs
 
--- src/lib.rt:95:17
 returns : tie.Need-returns Inv-loop μ-loop
 returns c = sym (ap isNothing (c .before .before .before .before .before .before .loop .inv .0 ∙ hit _ _ _ _ (c .before .before .before .before .before .loop-test .taken) cc))
 
--- src/lib.rt:98:9
 add-j : tie.Need-add-j Inv-loop μ-loop
 add-j c = search needs
 
--- src/lib.rt:92:5
 loop-less : tie.Need-loop-less Inv-loop μ-loop
 loop-less c = search needs
 
--- src/lib.rt:92:5
 loop-again : tie.Need-loop-again Inv-loop μ-loop
 loop-again c =
     let l = c .before .before .before .loop in
@@ -65,7 +56,6 @@ loop-again c =
       l .inv .2,
     )
 
--- src/lib.rt:87:1
 returns-2 : tie.Need-returns-2 Inv-loop μ-loop
 returns-2 c = sym (ap isNothing (c .before .loop .inv .0 ∙ done _ _ _ _ (c .loop-test .left)))
 

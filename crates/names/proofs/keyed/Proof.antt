@@ -8,15 +8,12 @@ use Rattle.names.proofs.keyed.Reads as reads
 use Rattle.names.proofs.keyed.Lts as lts
 use Rattle.fields.proofs.word8.Reads as word8-reads
 
--- src/lib.rt:45:13
 word8-requires : tie.Need-word8-requires
 word8-requires c κs = search needs
 
--- src/lib.rt:46:5
 mul-result : tie.Need-mul-result
 mul-result c = record { fits = halves-fit _ (xor-lt 64 (c .word8 .result) (c .before .before .args .key) (omega arith) (omega arith)) }
 
--- src/lib.rt:41:1
 returns : tie.Need-returns
 returns c = keyed-is (c .before .before .args .name .now) (c .before .before .args .i) (c .before .before .args .key) (c .word8 .result) (c .word8 .ensures)
 

@@ -6,34 +6,31 @@ use Rattle.names.proofs.mixed.Reads as reads
 use Rattle.names.proofs.mixed.Lts as lts
 use Rattle.names.proofs.keyed.Reads as keyed-reads
 
--- src/lib.rt:55:13
 keyed-requires : tie.Need-keyed-requires
 keyed-requires c κs = search needs
 
--- src/lib.rt:55:53
 keyed-requires-2 : tie.Need-keyed-requires-2
 keyed-requires-2 c κs = search needs
 
--- src/lib.rt:56:13
 keyed-requires-3 : tie.Need-keyed-requires-3
 keyed-requires-3 c κs = search needs
 
--- src/lib.rt:56:54
 keyed-requires-4 : tie.Need-keyed-requires-4
 keyed-requires-4 c κs = search needs
 
--- src/lib.rt:57:13
 keyed-requires-5 : tie.Need-keyed-requires-5
 keyed-requires-5 c κs = search needs
 
--- src/lib.rt:57:54
 keyed-requires-6 : tie.Need-keyed-requires-6
 keyed-requires-6 c κs = search needs
 
--- src/lib.rt:51:1
 returns : tie.Need-returns
 returns c =
-    mixed-is (c .before .before .before .before .before .before .before .args .name .now) _ _ _ _ _ _ (c .before .before .before .before .before .keyed .ensures) (c .before .before .before .before .keyed2 .ensures) (c .before .before .before .keyed3 .ensures) (c .before .before .keyed4 .ensures) (c .before .keyed5 .ensures) (c .keyed6 .ensures)
+    let at-keyed3 = c .before .before .before in
+    let at-keyed2 = at-keyed3 .before in
+    let at-keyed = at-keyed2 .before in
+    let top = at-keyed .before .before in
+    mixed-is (top .args .name .now) _ _ _ _ _ _ (at-keyed .keyed .ensures) (at-keyed2 .keyed2 .ensures) (at-keyed3 .keyed3 .ensures) (c .before .before .keyed4 .ensures) (c .before .keyed5 .ensures) (c .keyed6 .ensures)
 
 pub mixed-spec : {M : Type 1} → statement M
 mixed-spec =

@@ -6,19 +6,15 @@ use Rattle.names.proofs.tag.Reads as reads
 use Rattle.names.proofs.tag.Lts as lts
 use Rattle.names.proofs.mixed.Reads as mixed-reads
 
--- src/lib.rt:67:9
 mixed-requires : tie.Need-mixed-requires
 mixed-requires c κs = search needs
 
--- src/lib.rt:69:6
 mul-result : tie.Need-mul-result
 mul-result c = search needs
 
--- src/lib.rt:69:5
 cast-result : tie.Need-cast-result
 cast-result c = search needs
 
--- src/lib.rt:63:1
 returns : tie.Need-returns
 returns c = tag-value (c .before .before .args .name .now) (c .mixed .result) (c .mixed .ensures)
 

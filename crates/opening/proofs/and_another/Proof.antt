@@ -5,15 +5,12 @@ use borrow.Author.Needs.{needs}
 use Rattle.opening.proofs.and_another.Statement.{statement}
 use Rattle.opening.proofs.and_another.Tie as tie
 
--- src/lib.rt:26:8
 answer-and-name-requires : tie.Need-answer-and-name-requires
 answer-and-name-requires c κs = search needs
 
--- src/lib.rt:27:9
 returns : tie.Need-returns
 returns c = none-more (eqb (c .before .before .args .answer) 24) (eqb (c .before .before .args .name) 44) (eqb (c .before .before .args .other) (c .before .before .args .n)) (sym (c .before .answer-and-name .ensures) ∙ c .if1 .left)
 
--- src/lib.rt:23:1
 returns-2 : tie.Need-returns-2
 returns-2 c = one-more (eqb (c .before .before .args .answer) 24) (eqb (c .before .before .args .name) 44) (eqb (c .before .before .args .other) (c .before .before .args .n)) (sym (c .before .answer-and-name .ensures) ∙ c .if1 .taken)
 

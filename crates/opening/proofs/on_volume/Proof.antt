@@ -18,7 +18,9 @@ returns : tie.Need-returns
 returns c = ap (λ (x : Answer). not (isNothing x)) (ap answerOf (sym (c .enum-told .given .1)) ∙ c .before .before .find .ensures)
 
 returns-2 : tie.Need-returns-2
-returns-2 c = ap (λ (x : Answer). not (isNothing x)) (ap answerOf (sym (c .before .k .given .1)) ∙ c .before .before .before .find .ensures)
+returns-2 c =
+    let at-find = c .before .before .before in
+    ap (λ (x : Answer). not (isNothing x)) (ap answerOf (sym (c .before .k .given .1)) ∙ at-find .find .ensures)
 
 pub on-volume-spec : {M : Type 1} → statement M
 on-volume-spec = tie.close (tie.spec find-requires enum-known-k enum-told returns returns-2)

@@ -4,31 +4,24 @@ use borrow.Author.Needs.{needs}
 use Rattle.opening.proofs.third.Statement.{statement}
 use Rattle.opening.proofs.third.Tie as tie
 
--- src/lib.rt:67:21
 sub-slot-of : tie.Need-sub-slot-of
 sub-slot-of c = search needs
 
--- src/lib.rt:67:21
 part-slot-of-start : tie.Need-part-slot-of-start
 part-slot-of-start c = search needs
 
--- src/lib.rt:67:21
 part-slot-of-end : tie.Need-part-slot-of-end
 part-slot-of-end c = search needs
 
--- src/lib.rt:67:67
 mul-slot-of : tie.Need-mul-slot-of
 mul-slot-of c = search needs
 
--- src/lib.rt:67:66
 cast-slot-of : tie.Need-cast-slot-of
 cast-slot-of c = search needs
 
--- src/lib.rt:67:5
 slot-of-requires : tie.Need-slot-of-requires
 slot-of-requires c κs = search needs
 
--- src/lib.rt:63:1
 returns : tie.Need-returns
 returns c = (c .slot-of .ensures, rw (c .slot-of .ensures) (slot-below _ _ _ _ _ (omega (arith, c .before .before .before .before .pre .1 .least))))
 

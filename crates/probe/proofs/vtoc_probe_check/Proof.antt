@@ -6,33 +6,40 @@ use borrow.Author.Needs.{needs}
 use Rattle.probe.proofs.vtoc_probe_check.Statement.{statement}
 use Rattle.probe.proofs.vtoc_probe_check.Tie as tie
 
--- src/lib.rt:10:8
 good-length-requires : tie.Need-good-length-requires
 good-length-requires c κs = search needs
 
--- src/lib.rt:11:9
 returns : tie.Need-returns
-returns c = wrong-length (c .before .before .before .args .table .now) (sym (c .before .good-length .ensures) ∙ c .if1 .left)
+returns c =
+    let top = c .before .before .before in
+    wrong-length (top .args .table .now) (sym (c .before .good-length .ensures) ∙ c .if1 .left)
 
--- src/lib.rt:15:34
 slice-aggregate-check : tie.Need-slice-aggregate-check
 slice-aggregate-check c = search needs
 
--- src/lib.rt:15:44
 slice-aggregate-check-2 : tie.Need-slice-aggregate-check-2
 slice-aggregate-check-2 c = search needs
 
--- src/lib.rt:15:8
 check-requires : tie.Need-check-requires
-check-requires c κs = (roomy-large (c .before .before .before .before .before .args .table .now) _ refl, refl)
+check-requires c κs =
+    let top = c .before .before .before .before .before in
+    (roomy-large (top .args .table .now) _ refl, refl)
 
--- src/lib.rt:16:9
 returns-2 : tie.Need-returns-2
-returns-2 c = sound (c .before .before .before .before .before .before .before .before .before .args .table .now) (sym (c .before .before .before .before .before .before .before .good-length .ensures) ∙ c .before .before .before .before .before .before .if1 .taken) (sym (c .before .before .before .check .ensures .told) ∙ c .if2 .taken)
+returns-2 c =
+    let at-check = c .before .before .before in
+    let at-if1 = at-check .before .before .before in
+    let at-good-length = at-if1 .before in
+    let top = at-good-length .before .before in
+    sound (top .args .table .now) (sym (at-good-length .good-length .ensures) ∙ at-if1 .if1 .taken) (sym (at-check .check .ensures .told) ∙ c .if2 .taken)
 
--- src/lib.rt:6:1
 returns-3 : tie.Need-returns-3
-returns-3 c = unsound (c .before .before .before .before .before .before .before .before .before .args .table .now) (sym (c .before .before .before .before .before .before .before .good-length .ensures) ∙ c .before .before .before .before .before .before .if1 .taken) (sym (c .before .before .before .check .ensures .told) ∙ c .if2 .left)
+returns-3 c =
+    let at-check = c .before .before .before in
+    let at-if1 = at-check .before .before .before in
+    let at-good-length = at-if1 .before in
+    let top = at-good-length .before .before in
+    unsound (top .args .table .now) (sym (at-good-length .good-length .ensures) ∙ at-if1 .if1 .taken) (sym (at-check .check .ensures .told) ∙ c .if2 .left)
 
 pub vtoc-probe-check-spec : {M : Type 1} → statement M
 vtoc-probe-check-spec =

@@ -17,10 +17,15 @@ wide-requires : tie.Need-wide-requires
 wide-requires c κs = search needs
 
 returns : tie.Need-returns
-returns c = byte-there (c .before .before .before .before .before .before .args .format1 .now) (c .before .before .before .before .before .before .args .format3 .now) _ (c .before .before .before .before .before .before .args .e) (c .before .before .before .before .before .before .args .i) _ (c .before .before .before .extent-part .ensures) (c .before .before .if1 .taken) (c .wide .ensures .0)
+returns c =
+    let at-extent-part = c .before .before .before in
+    let top = at-extent-part .before .before .before in
+    byte-there (top .args .format1 .now) (top .args .format3 .now) _ (top .args .e) (top .args .i) _ (at-extent-part .extent-part .ensures) (c .before .before .if1 .taken) (c .wide .ensures .0)
 
 returns-2 : tie.Need-returns-2
-returns-2 c = no-byte (c .before .before .before .before .args .format1 .now) (c .before .before .before .before .args .format3 .now) _ (c .before .before .before .before .args .e) (c .before .before .before .before .args .i) (c .before .extent-part .ensures) (c .if1 .left)
+returns-2 c =
+    let top = c .before .before .before .before in
+    no-byte (top .args .format1 .now) (top .args .format3 .now) _ (top .args .e) (top .args .i) (c .before .extent-part .ensures) (c .if1 .left)
 
 pub vtoc-probe-extent-spec : {M : Type 1} → statement M
 vtoc-probe-extent-spec = tie.close (tie.spec extent-part-requires shared-slice-read-wide wide-requires returns returns-2)

@@ -11,10 +11,14 @@ name-ok-requires : tie.Need-name-ok-requires
 name-ok-requires c κs = search needs
 
 returns : tie.Need-returns
-returns c = obeys (c .before .before .before .args .name .now) (sym (c .before .name-ok .ensures) ∙ c .if1 .taken)
+returns c =
+    let top = c .before .before .before in
+    obeys (top .args .name .now) (sym (c .before .name-ok .ensures) ∙ c .if1 .taken)
 
 returns-2 : tie.Need-returns-2
-returns-2 c = breaks (c .before .before .before .args .name .now) (sym (c .before .name-ok .ensures) ∙ c .if1 .left)
+returns-2 c =
+    let top = c .before .before .before in
+    breaks (top .args .name .now) (sym (c .before .name-ok .ensures) ∙ c .if1 .left)
 
 pub vtoc-probe-name-spec : {M : Type 1} → statement M
 vtoc-probe-name-spec = tie.close (tie.spec name-ok-requires returns returns-2)

@@ -8,23 +8,18 @@ use Rattle.recorded.proofs.answer_lent.Lts as lts
 use Rattle.fields.proofs.wide.Reads as wide-reads
 use Rattle.recorded.proofs.lesser.Reads as lesser-reads
 
--- src/lib.rt:33:25
 shared-slice-read-wide : tie.Need-shared-slice-read-wide
 shared-slice-read-wide c = search needs
 
--- src/lib.rt:33:12
 wide-requires : tie.Need-wide-requires
 wide-requires c κs = search needs
 
--- src/lib.rt:33:12
 cast-lesser : tie.Need-cast-lesser
 cast-lesser c = search needs
 
--- src/lib.rt:33:5
 lesser-requires : tie.Need-lesser-requires
 lesser-requires c κs = search needs
 
--- src/lib.rt:29:1
 returns : tie.Need-returns
 unfolding answerLent
 returns c = capped _ _ 32 _ (c .before .wide .ensures .0) (c .lesser .ensures)

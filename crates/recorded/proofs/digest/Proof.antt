@@ -18,49 +18,40 @@ Inv-loop s a₀ b₀ i₀ a b i = (i ≤ length s) × (a < 65521) × (b < 65521)
 abbrev μ-loop : tie.MeasureT-loop
 μ-loop s a₀ b₀ i₀ a b i = length s - i
 
--- src/lib.rt:98:5
 loop-holds : tie.Need-loop-holds Inv-loop μ-loop
 loop-holds c = (omega arith, omega arith, omega arith, digest-start (c .before .args .s .now))
 
--- src/lib.rt:99:31
 shared-slice-read-wide : tie.Need-shared-slice-read-wide Inv-loop μ-loop
 shared-slice-read-wide c = search needs
 
--- src/lib.rt:99:18
 wide-requires : tie.Need-wide-requires Inv-loop μ-loop
 wide-requires c κs = search needs
 
--- src/lib.rt:99:14
 add-a : tie.Need-add-a Inv-loop μ-loop
 add-a c = search needs
 
--- src/lib.rt:100:14
 add-b : tie.Need-add-b Inv-loop μ-loop
 add-b c = search needs
 
--- src/lib.rt:101:9
 add-i : tie.Need-add-i Inv-loop μ-loop
 add-i c = search needs
 
--- src/lib.rt:98:5
 loop-less : tie.Need-loop-less Inv-loop μ-loop
 loop-less c = search needs
 
--- src/lib.rt:98:5
 loop-again : tie.Need-loop-again Inv-loop μ-loop
 loop-again c = (search needs, search needs, search needs, rw (c .wide .ensures .0) (c .before .before .before .loop .inv .3 ∙ digest-next (c .before .before .before .before .before .args .s .now) (c .before .before .before .loop .i) (c .before .before .before .loop .a) (c .before .before .before .loop .b) (c .before .before .loop-test .taken)))
 
--- src/lib.rt:103:5
 mul-result : tie.Need-mul-result Inv-loop μ-loop
 mul-result c = search needs
 
--- src/lib.rt:103:5
 add-result : tie.Need-add-result Inv-loop μ-loop
 add-result c = search needs
 
--- src/lib.rt:92:1
 returns : tie.Need-returns Inv-loop μ-loop
-returns c = sym (c .before .loop .inv .3 ∙ digest-done (c .before .before .before .args .s .now) (c .before .loop .i) (c .before .loop .a) (c .before .loop .b) (c .loop-test .left))
+returns c =
+    let top = c .before .before .before in
+    sym (c .before .loop .inv .3 ∙ digest-done (top .args .s .now) (c .before .loop .i) (c .before .loop .a) (c .before .loop .b) (c .loop-test .left))
 
 pub digest-spec : {M : Type 1} → statement M
 digest-spec =

@@ -5,27 +5,21 @@ use Rattle.recorded.proofs.digit.Tie as tie
 use Rattle.recorded.proofs.digit.Reads as reads
 use Rattle.recorded.proofs.digit.Lts as lts
 
--- src/lib.rt:114:17
 add-result : tie.Need-add-result
 add-result c = search needs
 
--- src/lib.rt:114:16
 cast-result : tie.Need-cast-result
 cast-result c = search needs
 
--- src/lib.rt:114:9
 returns : tie.Need-returns
 returns c = digit-low (c .before .args .v) (c .if1 .taken)
 
--- src/lib.rt:116:6
 add-result-2 : tie.Need-add-result-2
 add-result-2 c = search needs
 
--- src/lib.rt:116:5
 cast-result-2 : tie.Need-cast-result-2
 cast-result-2 c = search needs
 
--- src/lib.rt:109:1
 returns-2 : tie.Need-returns-2
 returns-2 c = digit-high (c .before .args .v) (c .if1 .left)
 

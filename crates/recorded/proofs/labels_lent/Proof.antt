@@ -8,19 +8,15 @@ use Rattle.recorded.proofs.labels_lent.Lts as lts
 use Rattle.fields.proofs.two.Reads as two-reads
 use Rattle.recorded.proofs.lesser.Reads as lesser-reads
 
--- src/lib.rt:41:12
 two-requires : tie.Need-two-requires
 two-requires c κs = search needs
 
--- src/lib.rt:41:12
 cast-lesser : tie.Need-cast-lesser
 cast-lesser c = search needs
 
--- src/lib.rt:41:5
 lesser-requires : tie.Need-lesser-requires
 lesser-requires c κs = search needs
 
--- src/lib.rt:37:1
 returns : tie.Need-returns
 unfolding labelsLent
 returns c = capped _ _ 288 _ (c .before .two .ensures .0) (c .lesser .ensures)

@@ -5,19 +5,15 @@ use Rattle.recorded.proofs.put_byte.Tie as tie
 use Rattle.recorded.proofs.put_byte.Reads as reads
 use Rattle.recorded.proofs.put_byte.Lts as lts
 
--- src/lib.rt:124:5
 slice-write-out : tie.Need-slice-write-out
 slice-write-out c = search needs
 
--- src/lib.rt:125:5
 add-result : tie.Need-add-result
 add-result c = search needs
 
--- src/lib.rt:120:1
 same-length : tie.Need-same-length
 same-length c = search needs
 
--- src/lib.rt:120:1
 returns : tie.Need-returns
 returns c = write-byte (c .args .out .now) (c .args .at) (c .args .b) (c .pre)
 

@@ -11,45 +11,44 @@ use Rattle.recorded.proofs.put_hex.Reads as put-hex-reads
 use Rattle.recorded.proofs.put_hexes.Reads as put-hexes-reads
 use Rattle.recorded.proofs.put_result.Reads as put-result-reads
 
--- src/lib.rt:178:29
 wide-requires : tie.Need-wide-requires
 wide-requires c κs = search needs
 
--- src/lib.rt:178:9
 put-hex-requires : tie.Need-put-hex-requires
 put-hex-requires c κs = search needs
 
--- src/lib.rt:179:9
 put-result-requires : tie.Need-put-result-requires
 put-result-requires c κs = search needs
 
--- src/lib.rt:180:9
 put-byte-requires : tie.Need-put-byte-requires
 put-byte-requires c κs = search needs
 
--- src/lib.rt:181:9
 put-hexes-requires : tie.Need-put-hexes-requires
 put-hexes-requires c κs = search needs
 
--- src/lib.rt:182:9
 put-four-requires : tie.Need-put-four-requires
 put-four-requires c κs = search needs
 
--- src/lib.rt:183:9
 put-four-requires-2 : tie.Need-put-four-requires-2
 put-four-requires-2 c κs = search needs
 
--- src/lib.rt:184:5
 put-byte-requires-2 : tie.Need-put-byte-requires-2
 put-byte-requires-2 c κs = search needs
 
--- src/lib.rt:174:1
 same-length : tie.Need-same-length
 same-length c = search needs
 
--- src/lib.rt:174:1
 returns : tie.Need-returns
-returns c = line-done (c .before .before .before .before .before .before .before .before .before .before .before .before .before .before .before .before .before .before .before .before .before .before .before .before .before .before .before .before .before .before .before .args .op) (c .before .before .before .before .before .before .before .before .before .before .before .before .before .before .before .before .before .before .before .before .before .before .before .before .before .before .before .before .before .before .before .args .result) (c .before .before .before .before .before .before .before .before .before .before .before .before .before .before .before .before .before .before .before .before .before .before .before .before .before .before .before .before .before .before .before .args .answer .now) (c .before .before .before .before .before .before .before .before .before .before .before .before .before .before .before .before .before .before .before .before .before .before .before .before .before .before .before .before .before .before .before .args .table) (c .before .before .before .before .before .before .before .before .before .before .before .before .before .before .before .before .before .before .before .before .before .before .before .before .before .before .before .before .before .before .before .args .labels) (c .before .before .before .before .before .before .before .before .before .before .before .before .before .before .before .before .before .before .before .before .before .before .before .before .before .before .before .before .before .before .before .pre .0) (c .before .before .before .before .before .before .before .before .before .before .before .before .before .before .before .before .before .before .before .before .before .before .before .before .before .before .before .before .before .before .before .pre .1) (rw (c .before .before .before .before .before .before .before .before .before .before .before .before .before .before .before .before .before .before .before .before .before .before .before .before .before .before .before .wide .ensures .0) at (c .before .before .before .before .before .before .before .before .before .before .before .before .before .before .before .before .before .before .before .before .before .before .before .before .before .before .put-hex .ensures)) (c .before .before .before .before .before .before .before .before .before .before .before .before .before .before .before .before .before .before .before .before .before .before .put-result .ensures) (c .before .before .before .before .before .before .before .before .before .before .before .before .before .before .before .before .before .before .put-byte .ensures) (c .before .before .before .before .before .before .before .before .before .before .before .before .before .before .put-hexes .ensures) (c .before .before .before .before .before .before .before .before .before .before .put-four .ensures) (c .before .before .before .before .before .before .put-four2 .ensures) (c .before .before .put-byte2 .ensures)
+returns c =
+    let at-put-four2 = c .before .before .before .before .before .before in
+    let at-put-four = at-put-four2 .before .before .before .before in
+    let at-put-hexes = at-put-four .before .before .before .before in
+    let at-put-byte = at-put-hexes .before .before .before .before in
+    let at-put-result = at-put-byte .before .before .before .before in
+    let at-put-hex = at-put-result .before .before .before .before in
+    let at-wide = at-put-hex .before in
+    let top = at-wide .before .before .before .before in
+    line-done (top .args .op) (top .args .result) (top .args .answer .now) (top .args .table) (top .args .labels) (top .pre .0) (top .pre .1) (rw (at-wide .wide .ensures .0) at (at-put-hex .put-hex .ensures)) (at-put-result .put-result .ensures) (at-put-byte .put-byte .ensures) (at-put-hexes .put-hexes .ensures) (at-put-four .put-four .ensures) (at-put-four2 .put-four2 .ensures) (c .before .before .put-byte2 .ensures)
 
 pub put-line-spec : {M : Type 1} → statement M
 put-line-spec =

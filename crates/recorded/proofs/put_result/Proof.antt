@@ -6,41 +6,35 @@ use Rattle.recorded.proofs.put_result.Reads as reads
 use Rattle.recorded.proofs.put_result.Lts as lts
 use Rattle.recorded.proofs.put_byte.Reads as put-byte-reads
 
--- src/lib.rt:142:9
 put-byte-requires : tie.Need-put-byte-requires
 put-byte-requires c κs = search needs
 
--- src/lib.rt:143:31
 add-put-byte : tie.Need-add-put-byte
 add-put-byte c = search needs
 
--- src/lib.rt:143:30
 cast-put-byte : tie.Need-cast-put-byte
 cast-put-byte c = search needs
 
--- src/lib.rt:143:9
 put-byte-requires-2 : tie.Need-put-byte-requires-2
 put-byte-requires-2 c κs = search needs
 
--- src/lib.rt:144:23
 add-put-byte-2 : tie.Need-add-put-byte-2
 add-put-byte-2 c = search needs
 
--- src/lib.rt:144:22
 cast-put-byte-2 : tie.Need-cast-put-byte-2
 cast-put-byte-2 c = search needs
 
--- src/lib.rt:144:5
 put-byte-requires-3 : tie.Need-put-byte-requires-3
 put-byte-requires-3 c κs = search needs
 
--- src/lib.rt:138:1
 same-length : tie.Need-same-length
 same-length c = search needs
 
--- src/lib.rt:138:1
 returns : tie.Need-returns
-returns c = then (c .before .before .before .before .before .before .before .before .before .before .put-byte .ensures) (then (c .before .before .before .before .before .before .put-byte2 .ensures) (c .before .before .put-byte3 .ensures))
+returns c =
+    let at-put-byte2 = c .before .before .before .before .before .before in
+    let at-put-byte = at-put-byte2 .before .before .before .before in
+    then (at-put-byte .put-byte .ensures) (then (at-put-byte2 .put-byte2 .ensures) (c .before .before .put-byte3 .ensures))
 
 pub put-result-spec : {M : Type 1} → statement M
 put-result-spec =

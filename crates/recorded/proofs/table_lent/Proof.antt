@@ -6,15 +6,12 @@ use Rattle.recorded.proofs.table_lent.Reads as reads
 use Rattle.recorded.proofs.table_lent.Lts as lts
 use Rattle.fields.proofs.two.Reads as two-reads
 
--- src/lib.rt:49:5
 two-requires : tie.Need-two-requires
 two-requires c κs = search needs
 
--- src/lib.rt:49:5
 cast-result : tie.Need-cast-result
 cast-result c = search needs
 
--- src/lib.rt:45:1
 returns : tie.Need-returns
 unfolding tableLent
 returns c = c .two .ensures

@@ -24,61 +24,55 @@ Inv-loop rec₀ map n at g k t₀ x₀ j₀ rec t x j = (j ≤ 26) × Rest map n
 abbrev μ-loop : tie.MeasureT-loop
 μ-loop rec₀ map n at g k t₀ x₀ j₀ rec t x j = 26 - j
 
--- src/lib.rt:216:16
 empty-five-requires : tie.Need-empty-five-requires Inv-loop μ-loop
 empty-five-requires c κs = search needs
 
--- src/lib.rt:217:17
 slice-aggregate-copy : tie.Need-slice-aggregate-copy Inv-loop μ-loop
 slice-aggregate-copy c = search needs
 
--- src/lib.rt:217:5
 copy-requires : tie.Need-copy-requires Inv-loop μ-loop
 copy-requires c κs = let l = c .before .before .before .before .before .pre .0 in let n : length (c .before .before .empty-five .result) ≡ 140 = search needs in search needs
 
--- src/lib.rt:219:9
 rest-of-requires : tie.Need-rest-of-requires Inv-loop μ-loop
 rest-of-requires c κs = search needs
 
--- src/lib.rt:221:5
 loop-holds : tie.Need-loop-holds Inv-loop μ-loop
 loop-holds c =
     let n : length (c .before .before .before .before .before .before .empty-five .result) ≡ 140 = search needs in
     let made = c .before .before .before .copy .ensures .1 ∙ copied (c .before .before .before .before .before .before .empty-five .result) (c .before .before .before .before .before .before .before .before .before .args .rec .now) (c .before .before .before .before .before .before .before .before .before .pre .0 ∙ sym n) ∙ c .before .before .before .before .before .before .empty-five .ensures in
     (omega arith, c .rest-of .ensures, filling-none (geometryOf (c .before .before .before .before .before .before .before .before .before .args .g)) (c .before .before .before .before .before .before .before .before .before .args .map .now) (c .before .before .before .before .before .before .before .before .before .args .n) (c .before .before .before .before .before .before .before .before .before .args .at) (c .before .before .before .before .before .before .before .before .before .args .k) (c .before .before .before .before .before .before .before .before .before .pre .1) _ made)
 
--- src/lib.rt:222:13
 run-ahead-requires : tie.Need-run-ahead-requires Inv-loop μ-loop
-run-ahead-requires c κs = (c .before .loop .inv .2 .upTo, c .before .before .before .before .before .before .before .before .before .before .before .pre .2, c .before .loop .inv .1)
+run-ahead-requires c κs =
+    let top = c .before .before .before .before .before .before .before .before .before .before .before in
+    (c .before .loop .inv .2 .upTo, top .pre .2, c .before .loop .inv .1)
 
--- src/lib.rt:226:13
 same-length : tie.Need-same-length Inv-loop μ-loop
-same-length c = filling-long (geometryOf (c .before .before .before .before .before .before .before .before .before .before .before .before .before .args .g)) (c .before .before .before .before .before .before .before .before .before .before .before .before .before .args .map .now) (c .before .before .before .before .before .before .before .before .before .before .before .before .before .args .n) (c .before .before .before .before .before .before .before .before .before .before .before .before .before .args .at) (c .before .before .before .before .before .before .before .before .before .before .before .before .before .args .k) _ _ _ (c .before .before .before .loop .inv .2) ∙ sym (c .before .before .before .before .before .before .before .before .before .before .before .before .before .pre .0)
+same-length c =
+    let at-loop = c .before .before .before in
+    let top = at-loop .before .before .before .before .before .before .before .before .before .before in
+    filling-long (geometryOf (top .args .g)) (top .args .map .now) (top .args .n) (top .args .at) (top .args .k) _ _ _ (at-loop .loop .inv .2) ∙ sym (top .pre .0)
 
--- src/lib.rt:226:13
 returns : tie.Need-returns Inv-loop μ-loop
 returns c =
-    let l = c .before .before .before .loop in
+    let at-loop = c .before .before .before in
+    let top = at-loop .before .before .before .before .before .before .before .before .before .before in
+    let l = at-loop .loop in
     let r = c .before .run-ahead in
-    filling-ends (geometryOf (c .before .before .before .before .before .before .before .before .before .before .before .before .before .args .g)) (c .before .before .before .before .before .before .before .before .before .before .before .before .before .args .map .now) (c .before .before .before .before .before .before .before .before .before .before .before .before .before .args .n) (c .before .before .before .before .before .before .before .before .before .before .before .before .before .args .at) (c .before .before .before .before .before .before .before .before .before .before .before .before .before .args .k) (l .j) (l .t) (r .result .from) (r .result .to) (l .rec) (l .inv .0) (l .inv .2) (r .ensures .0) (c .if1 .taken)
+    filling-ends (geometryOf (top .args .g)) (top .args .map .now) (top .args .n) (top .args .at) (top .args .k) (l .j) (l .t) (r .result .from) (r .result .to) (l .rec) (l .inv .0) (l .inv .2) (r .ensures .0) (c .if1 .taken)
 
--- src/lib.rt:228:24
 entry-place-requires : tie.Need-entry-place-requires Inv-loop μ-loop
 entry-place-requires c κs = search needs
 
--- src/lib.rt:228:43
 cast-put-entry : tie.Need-cast-put-entry Inv-loop μ-loop
 cast-put-entry c = search needs
 
--- src/lib.rt:228:57
 sub-put-entry : tie.Need-sub-put-entry Inv-loop μ-loop
 sub-put-entry c = search needs
 
--- src/lib.rt:228:56
 cast-put-entry-2 : tie.Need-cast-put-entry-2 Inv-loop μ-loop
 cast-put-entry-2 c = search needs
 
--- src/lib.rt:228:9
 put-entry-requires : tie.Need-put-entry-requires Inv-loop μ-loop
 put-entry-requires c κs =
     let l = c .before .before .before .before .before .loop in
@@ -88,26 +82,23 @@ put-entry-requires c κs =
     let d = c .before .before .before .before .before .before .before .before .before .before .before .before .before .before .before .pre .3 in
     (filling-long (geometryOf (c .before .before .before .before .before .before .before .before .before .before .before .before .before .before .before .args .g)) (c .before .before .before .before .before .before .before .before .before .before .before .before .before .before .before .args .map .now) (c .before .before .before .before .before .before .before .before .before .before .before .before .before .before .before .args .n) (c .before .before .before .before .before .before .before .before .before .before .before .before .before .before .before .args .at) (c .before .before .before .before .before .before .before .before .before .before .before .before .before .before .before .args .k) (l .j) (l .t) (l .rec) (l .inv .2), c .entry-place .ensures .1, omega arith, c .before .before .before .before .before .before .before .before .before .before .before .before .before .before .before .pre .5)
 
--- src/lib.rt:231:9
 add-j : tie.Need-add-j Inv-loop μ-loop
 add-j c = search needs
 
--- src/lib.rt:221:5
 loop-less : tie.Need-loop-less Inv-loop μ-loop
 loop-less c = search needs
 
--- src/lib.rt:221:5
 loop-again : tie.Need-loop-again Inv-loop μ-loop
 loop-again c =
     let l = c .before .before .before .before .before .before .before .before .loop in
     let r = c .before .before .before .before .before .before .run-ahead in
     (omega arith, r .ensures .1, rw (c .before .before .put-entry .ensures, c .before .before .before .entry-place .ensures .0) (filling-next (geometryOf (c .before .before .before .before .before .before .before .before .before .before .before .before .before .before .before .before .before .before .args .g)) (c .before .before .before .before .before .before .before .before .before .before .before .before .before .before .before .before .before .before .args .map .now) (c .before .before .before .before .before .before .before .before .before .before .before .before .before .before .before .before .before .before .args .n) (c .before .before .before .before .before .before .before .before .before .before .before .before .before .before .before .before .before .before .args .at) (c .before .before .before .before .before .before .before .before .before .before .before .before .before .before .before .before .before .before .args .k) (l .j) (l .t) (r .result .from) (r .result .to) (l .rec) (omega arith) (l .inv .2) (r .ensures .0) (c .before .before .before .before .before .if1 .left)))
 
--- src/lib.rt:212:1
 same-length-2 : tie.Need-same-length-2 Inv-loop μ-loop
-same-length-2 c = filling-long (geometryOf (c .before .before .before .before .before .before .before .before .before .before .before .args .g)) (c .before .before .before .before .before .before .before .before .before .before .before .args .map .now) (c .before .before .before .before .before .before .before .before .before .before .before .args .n) (c .before .before .before .before .before .before .before .before .before .before .before .args .at) (c .before .before .before .before .before .before .before .before .before .before .before .args .k) _ _ _ (c .before .loop .inv .2) ∙ sym (c .before .before .before .before .before .before .before .before .before .before .before .pre .0)
+same-length-2 c =
+    let top = c .before .before .before .before .before .before .before .before .before .before .before in
+    filling-long (geometryOf (top .args .g)) (top .args .map .now) (top .args .n) (top .args .at) (top .args .k) _ _ _ (c .before .loop .inv .2) ∙ sym (top .pre .0)
 
--- src/lib.rt:212:1
 returns-2 : tie.Need-returns-2 Inv-loop μ-loop
 returns-2 c =
     let l = c .before .loop in

@@ -11,73 +11,58 @@ use Rattle.records.proofs.put_entry.Reads as reads
 use Rattle.records.proofs.put_entry.Lts as lts
 use Rattle.records.proofs.split.Reads as split-reads
 
--- src/lib.rt:112:9
 split-requires : tie.Need-split-requires
 split-requires c κs = search needs
 
--- src/lib.rt:114:15
 cast-rec : tie.Need-cast-rec
 cast-rec c = search needs
 
--- src/lib.rt:114:5
 slice-write-rec : tie.Need-slice-write-rec
 slice-write-rec c = search needs
 
--- src/lib.rt:115:19
 cast-rec-2 : tie.Need-cast-rec-2
 cast-rec-2 c = search needs
 
--- src/lib.rt:115:9
 add-rec : tie.Need-add-rec
 add-rec c = search needs
 
--- src/lib.rt:115:5
 slice-write-rec-2 : tie.Need-slice-write-rec-2
 slice-write-rec-2 c = simp length-set (omega (arith, c .before .before .pre .0, c .before .before .pre .1))
 
--- src/lib.rt:116:19
 cast-rec-3 : tie.Need-cast-rec-3
 cast-rec-3 c = omega (arith, c .split .ensures .0, div-le-self (c .before .before .args .count) (c .before .before .args .g .heads))
 
--- src/lib.rt:116:9
 add-rec-2 : tie.Need-add-rec-2
 add-rec-2 c = search needs
 
--- src/lib.rt:116:5
 slice-write-rec-3 : tie.Need-slice-write-rec-3
 slice-write-rec-3 c = simp length-set (omega (arith, c .before .before .pre .0, c .before .before .pre .1))
 
--- src/lib.rt:117:19
 cast-rec-4 : tie.Need-cast-rec-4
 cast-rec-4 c = search needs
 
--- src/lib.rt:117:9
 add-rec-3 : tie.Need-add-rec-3
 add-rec-3 c = search needs
 
--- src/lib.rt:117:5
 slice-write-rec-4 : tie.Need-slice-write-rec-4
 slice-write-rec-4 c = simp length-set (omega (arith, c .before .before .pre .0, c .before .before .pre .1))
 
--- src/lib.rt:118:19
 cast-rec-5 : tie.Need-cast-rec-5
 cast-rec-5 c = omega (arith, c .before .split .ensures .1, head-small (geometryOf (c .before .before .before .args .g)) (c .before .before .before .pre .3) (c .before .before .before .args .count))
 
--- src/lib.rt:118:9
 add-rec-4 : tie.Need-add-rec-4
 add-rec-4 c = search needs
 
--- src/lib.rt:118:5
 slice-write-rec-5 : tie.Need-slice-write-rec-5
 slice-write-rec-5 c = simp length-set (omega (arith, c .before .before .before .pre .0, c .before .before .before .pre .1))
 
--- src/lib.rt:108:1
 same-length : tie.Need-same-length
 same-length c = search needs
 
--- src/lib.rt:108:1
 returns : tie.Need-returns
-returns c = put-made (c .before .before .before .args .rec .now) (c .before .before .before .args .at) (geometryOf (c .before .before .before .args .g)) (c .before .before .before .args .start) (c .before .before .before .args .count) (c .before .split .result .whole) (c .before .split .result .odd) (c .before .split .ensures)
+returns c =
+    let top = c .before .before .before in
+    put-made (top .args .rec .now) (top .args .at) (geometryOf (top .args .g)) (top .args .start) (top .args .count) (c .before .split .result .whole) (c .before .split .result .odd) (c .before .split .ensures)
 
 pub put-entry-spec : {M : Type 1} → statement M
 put-entry-spec =

@@ -45,7 +45,8 @@ put-track-requires-2 c κs =
 
 returns : tie.Need-returns
 returns c =
-    let a = c .before .before .before .before .args in
+    let top = c .before .before .before .before in
+    let a = top .args in
     let g = geometryOf (a .g) in
     let last = a .start + a .count - 1 in
     c .put-track2 .ensures ∙ ap (λ (l : List ℕ). putAt l (a .at + 6) (cchh g last)) (c .before .before .put-track .ensures) ∙ put-behind (a .rec .now) (a .at) (a .kind) (a .number) (cchh g (a .start)) (cchh g last) refl

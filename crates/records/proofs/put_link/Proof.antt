@@ -20,7 +20,8 @@ put-same-requires c κs = search needs
 
 returns : tie.Need-returns
 returns c =
-    let a = c .before .before .before .args in
+    let top = c .before .before .before in
+    let a = top .args in
     c .put-same .ensures ∙ ap (putAt (a .rec .now) (a .at)) (link-none (geometryOf (a .g)) (a .k) (c .before .before .if1 .taken) (a .at))
 
 cast-q : tie.Need-cast-q
@@ -52,11 +53,13 @@ element-write-rec c = search needs
 
 returns-2 : tie.Need-returns-2
 returns-2 c =
-    let a = c .before .before .before .before .args in
+    let at-if1 = c .before .before .before in
+    let top = at-if1 .before in
+    let a = top .args in
     let g = geometryOf (a .g) in
     ap (λ (l : List ℕ). set l (a .at + 4) (a .k % a .g .records + 1)) (c .put-track .ensures)
     ∙ put-next (a .rec .now) (a .at) (cchh g (g .vtocStart + a .k / g .records)) (a .at + 4) (a .k % a .g .records + 1) refl
-    ∙ ap (putAt (a .rec .now) (a .at)) (link-some g (a .k) (c .before .before .before .if1 .left))
+    ∙ ap (putAt (a .rec .now) (a .at)) (link-some g (a .k) (at-if1 .if1 .left))
 
 pub put-link-spec : {M : Type 1} → statement M
 put-link-spec =

@@ -29,7 +29,8 @@ put-two-requires-2 c κs =
 
 returns : tie.Need-returns
 returns c =
-    let a = c .before .before .before .before .args in
+    let top = c .before .before .before .before in
+    let a = top .args in
     c .put-two2 .ensures ∙ ap (λ (l : List ℕ). putAt l (a .at + 2) (be2 (a .t % a .g .heads))) (c .before .before .put-two .ensures) ∙ put-then (a .rec .now) (a .at) _ _ _ refl
 
 pub put-track-spec : {M : Type 1} → statement M

@@ -6,19 +6,15 @@ use Rattle.records.proofs.split.Tie as tie
 use Rattle.records.proofs.split.Reads as reads
 use Rattle.records.proofs.split.Lts as lts
 
--- src/lib.rt:101:9
 returns : tie.Need-returns
 returns c = split-less (c .before .args .count) (c .before .args .h) (omega arith)
 
--- src/lib.rt:107:16
 div-t4 : tie.Need-div-t4
 div-t4 c = search needs
 
--- src/lib.rt:108:14
 rem-t5 : tie.Need-rem-t5
 rem-t5 c = search needs
 
--- src/lib.rt:96:1
 returns-2 : tie.Need-returns-2
 returns-2 c = search needs
 

@@ -14,39 +14,30 @@ Inv-loop table₀ turns₀ table turns = length table ≡ 65536
 abbrev μ-loop : tie.MeasureT-loop
 μ-loop table₀ turns₀ table turns = turns
 
--- src/main.rt:23:21
 large-buffer-requires : tie.Need-large-buffer-requires Inv-loop μ-loop
 large-buffer-requires c κs = search needs
 
--- src/main.rt:25:5
 loop-holds : tie.Need-loop-holds Inv-loop μ-loop
 loop-holds c = search needs
 
--- src/main.rt:25:33
 slice-aggregate-play-one : tie.Need-slice-aggregate-play-one Inv-loop μ-loop
 slice-aggregate-play-one c = search needs
 
--- src/main.rt:25:24
 play-one-requires : tie.Need-play-one-requires Inv-loop μ-loop
 play-one-requires c κs = search needs
 
--- src/main.rt:26:9
 sub-turns : tie.Need-sub-turns Inv-loop μ-loop
 sub-turns c = search needs
 
--- src/main.rt:25:5
 loop-less : tie.Need-loop-less Inv-loop μ-loop
 loop-less c = search needs
 
--- src/main.rt:25:5
 loop-again : tie.Need-loop-again Inv-loop μ-loop
 loop-again c = search needs
 
--- src/main.rt:22:1
 returns : tie.Need-returns Inv-loop μ-loop
 returns c = search needs
 
--- src/main.rt:22:1
 returns-2 : tie.Need-returns-2 Inv-loop μ-loop
 returns-2 c = search needs
 

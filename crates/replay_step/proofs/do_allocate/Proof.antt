@@ -15,69 +15,67 @@ use Rattle.recorded.proofs.name_of.Reads as name-of-reads
 use Rattle.recorded.proofs.other_of.Reads as other-of-reads
 use Rattle.recorded.proofs.table_lent.Reads as table-lent-reads
 
--- src/lib.rt:30:9
 table-lent-requires : tie.Need-table-lent-requires
 table-lent-requires c κs = search needs
 
--- src/lib.rt:31:9
 answer-lent-requires : tie.Need-answer-lent-requires
 answer-lent-requires c κs = search needs
 
--- src/lib.rt:32:9
 four-requires : tie.Need-four-requires
 four-requires c κs = search needs
 
--- src/lib.rt:33:9
 four-requires-2 : tie.Need-four-requires-2
 four-requires-2 c κs = search needs
 
--- src/lib.rt:34:9
 four-requires-3 : tie.Need-four-requires-3
 four-requires-3 c κs = search needs
 
--- src/lib.rt:35:9
 four-requires-4 : tie.Need-four-requires-4
 four-requires-4 c κs = search needs
 
--- src/lib.rt:36:9
 name-of-requires : tie.Need-name-of-requires
 name-of-requires c κs = search needs
 
--- src/lib.rt:37:9
 other-of-requires : tie.Need-other-of-requires
 other-of-requires c κs = search needs
 
--- src/lib.rt:38:29
 slice-relend-prefix-vtoc-allocate : tie.Need-slice-relend-prefix-vtoc-allocate
 slice-relend-prefix-vtoc-allocate c = search needs
 
--- src/lib.rt:38:29
 slice-aggregate-vtoc-allocate : tie.Need-slice-aggregate-vtoc-allocate
 slice-aggregate-vtoc-allocate c = lent-long _ 65536 (c .before .before .before .before .before .before .before .before .before .before .before .before .args .table .now) (c .before .before .before .before .before .before .before .before .before .before .before .before .pre .1) (let h = c .before .before .before .before .before .before .before .before .table-lent .ensures .1 in omega arith)
 
--- src/lib.rt:38:96
 slice-relend-prefix-vtoc-allocate-2 : tie.Need-slice-relend-prefix-vtoc-allocate-2
 slice-relend-prefix-vtoc-allocate-2 c = search needs
 
--- src/lib.rt:38:96
 slice-aggregate-vtoc-allocate-2 : tie.Need-slice-aggregate-vtoc-allocate-2
-slice-aggregate-vtoc-allocate-2 c = lent-long _ 32 (c .before .before .before .before .before .before .before .before .before .before .before .before .before .args .answer .now) (c .before .before .before .before .before .before .before .before .before .before .before .before .before .pre .2) (c .before .before .before .before .before .before .before .before .answer-lent .ensures .1)
+slice-aggregate-vtoc-allocate-2 c =
+    let at-answer-lent = c .before .before .before .before .before .before .before .before in
+    let top = at-answer-lent .before .before .before .before .before in
+    lent-long _ 32 (top .args .answer .now) (top .pre .2) (at-answer-lent .answer-lent .ensures .1)
 
--- src/lib.rt:38:5
 vtoc-allocate-requires : tie.Need-vtoc-allocate-requires
 vtoc-allocate-requires c κs = search needs
 
--- src/lib.rt:26:1
 same-length : tie.Need-same-length
 same-length c = search needs
 
--- src/lib.rt:26:1
 same-length-2 : tie.Need-same-length-2
 same-length-2 c = search needs
 
--- src/lib.rt:26:1
 returns : tie.Need-returns
-returns c = does-call (allocate (requestOf (c .before .before .before .before .before .before .before .before .before .before .before .before .before .before .before .before .before .before .args .asked .now))) (c .before .before .before .before .before .before .before .before .before .before .before .before .before .before .before .before .before .before .args .asked .now) (c .before .before .before .before .before .before .before .before .before .before .before .before .before .before .before .before .before .before .args .table .now) (c .before .before .before .before .before .before .before .before .before .before .before .before .before .before .before .before .before .before .args .answer .now) _ _ (same-request (c .before .before .before .before .before .before .before .before .name-of .ensures) (c .before .before .before .before .before .before .before .other-of .ensures) (c .before .before .before .before .before .before .before .before .before .before .before .before .four .ensures) (c .before .before .before .before .before .before .before .before .before .before .before .four2 .ensures) (c .before .before .before .before .before .before .before .before .before .before .four3 .ensures) (c .before .before .before .before .before .before .before .before .before .four4 .ensures)) (c .before .before .before .before .before .before .before .before .before .before .before .before .before .before .table-lent .ensures .0) (c .before .before .before .before .before .before .before .before .before .before .before .before .before .answer-lent .ensures .0) (c .before .before .before .before .vtoc-allocate .ensures)
+returns c =
+    let at-vtoc-allocate = c .before .before .before .before in
+    let at-other-of = at-vtoc-allocate .before .before .before in
+    let at-name-of = at-other-of .before in
+    let at-four4 = at-name-of .before in
+    let at-four3 = at-four4 .before in
+    let at-four2 = at-four3 .before in
+    let at-four = at-four2 .before in
+    let at-answer-lent = at-four .before in
+    let at-table-lent = at-answer-lent .before in
+    let top = at-table-lent .before .before .before .before in
+    does-call (allocate (requestOf (top .args .asked .now))) (top .args .asked .now) (top .args .table .now) (top .args .answer .now) _ _ (same-request (at-name-of .name-of .ensures) (at-other-of .other-of .ensures) (at-four .four .ensures) (at-four2 .four2 .ensures) (at-four3 .four3 .ensures) (at-four4 .four4 .ensures)) (at-table-lent .table-lent .ensures .0) (at-answer-lent .answer-lent .ensures .0) (at-vtoc-allocate .vtoc-allocate .ensures)
 
 pub do-allocate-spec : {M : Type 1} → statement M
 do-allocate-spec =

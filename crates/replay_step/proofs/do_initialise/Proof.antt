@@ -10,65 +10,63 @@ use Rattle.recorded.proofs.answer_lent.Reads as answer-lent-reads
 use Rattle.recorded.proofs.four.Reads as four-reads
 use Rattle.recorded.proofs.table_lent.Reads as table-lent-reads
 
--- src/lib.rt:16:9
 table-lent-requires : tie.Need-table-lent-requires
 table-lent-requires c κs = search needs
 
--- src/lib.rt:17:9
 answer-lent-requires : tie.Need-answer-lent-requires
 answer-lent-requires c κs = search needs
 
--- src/lib.rt:18:9
 four-requires : tie.Need-four-requires
 four-requires c κs = search needs
 
--- src/lib.rt:19:9
 four-requires-2 : tie.Need-four-requires-2
 four-requires-2 c κs = search needs
 
--- src/lib.rt:20:9
 four-requires-3 : tie.Need-four-requires-3
 four-requires-3 c κs = search needs
 
--- src/lib.rt:21:9
 four-requires-4 : tie.Need-four-requires-4
 four-requires-4 c κs = search needs
 
--- src/lib.rt:22:9
 four-requires-5 : tie.Need-four-requires-5
 four-requires-5 c κs = search needs
 
--- src/lib.rt:23:33
 slice-relend-prefix-vtoc-initialise : tie.Need-slice-relend-prefix-vtoc-initialise
 slice-relend-prefix-vtoc-initialise c = search needs
 
--- src/lib.rt:23:33
 slice-aggregate-vtoc-initialise : tie.Need-slice-aggregate-vtoc-initialise
 slice-aggregate-vtoc-initialise c = lent-long _ 65536 (c .before .before .before .before .before .before .before .before .before .before .before .args .table .now) (c .before .before .before .before .before .before .before .before .before .before .before .pre .1) (let h = c .before .before .before .before .before .before .before .table-lent .ensures .1 in omega arith)
 
--- src/lib.rt:23:65
 slice-relend-prefix-vtoc-initialise-2 : tie.Need-slice-relend-prefix-vtoc-initialise-2
 slice-relend-prefix-vtoc-initialise-2 c = search needs
 
--- src/lib.rt:23:65
 slice-aggregate-vtoc-initialise-2 : tie.Need-slice-aggregate-vtoc-initialise-2
-slice-aggregate-vtoc-initialise-2 c = lent-long _ 32 (c .before .before .before .before .before .before .before .before .before .before .before .before .args .answer .now) (c .before .before .before .before .before .before .before .before .before .before .before .before .pre .2) (c .before .before .before .before .before .before .before .answer-lent .ensures .1)
+slice-aggregate-vtoc-initialise-2 c =
+    let at-answer-lent = c .before .before .before .before .before .before .before in
+    let top = at-answer-lent .before .before .before .before .before in
+    lent-long _ 32 (top .args .answer .now) (top .pre .2) (at-answer-lent .answer-lent .ensures .1)
 
--- src/lib.rt:23:5
 vtoc-initialise-requires : tie.Need-vtoc-initialise-requires
 vtoc-initialise-requires c κs = search needs
 
--- src/lib.rt:12:1
 same-length : tie.Need-same-length
 same-length c = search needs
 
--- src/lib.rt:12:1
 same-length-2 : tie.Need-same-length-2
 same-length-2 c = search needs
 
--- src/lib.rt:12:1
 returns : tie.Need-returns
-returns c = initialises (c .before .before .before .before .before .before .before .before .before .before .before .before .before .before .before .before .before .args .asked .now) (c .before .before .before .before .before .before .before .before .before .before .before .before .before .before .before .before .before .args .table .now) (c .before .before .before .before .before .before .before .before .before .before .before .before .before .before .before .before .before .args .answer .now) _ _ _ _ _ _ _ (c .before .before .before .before .before .before .before .before .before .before .before .before .before .table-lent .ensures .0) (c .before .before .before .before .before .before .before .before .before .before .before .before .answer-lent .ensures .0) (c .before .before .before .before .before .before .before .before .before .before .before .four .ensures) (c .before .before .before .before .before .before .before .before .before .before .four2 .ensures) (c .before .before .before .before .before .before .before .before .before .four3 .ensures) (c .before .before .before .before .before .before .before .before .four4 .ensures) (c .before .before .before .before .before .before .before .four5 .ensures) (c .before .before .before .before .vtoc-initialise .ensures)
+returns c =
+    let at-vtoc-initialise = c .before .before .before .before in
+    let at-four5 = at-vtoc-initialise .before .before .before in
+    let at-four4 = at-four5 .before in
+    let at-four3 = at-four4 .before in
+    let at-four2 = at-four3 .before in
+    let at-four = at-four2 .before in
+    let at-answer-lent = at-four .before in
+    let at-table-lent = at-answer-lent .before in
+    let top = at-table-lent .before .before .before .before in
+    initialises (top .args .asked .now) (top .args .table .now) (top .args .answer .now) _ _ _ _ _ _ _ (at-table-lent .table-lent .ensures .0) (at-answer-lent .answer-lent .ensures .0) (at-four .four .ensures) (at-four2 .four2 .ensures) (at-four3 .four3 .ensures) (at-four4 .four4 .ensures) (at-four5 .four5 .ensures) (at-vtoc-initialise .vtoc-initialise .ensures)
 
 pub do-initialise-spec : {M : Type 1} → statement M
 do-initialise-spec =

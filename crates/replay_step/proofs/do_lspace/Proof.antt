@@ -10,37 +10,35 @@ use Rattle.vtoc.proofs.vtoc_lspace.Reads as vtoc-lspace-reads
 use Rattle.recorded.proofs.answer_lent.Reads as answer-lent-reads
 use Rattle.recorded.proofs.table_lent.Reads as table-lent-reads
 
--- src/lib.rt:49:9
 table-lent-requires : tie.Need-table-lent-requires
 table-lent-requires c κs = search needs
 
--- src/lib.rt:50:9
 answer-lent-requires : tie.Need-answer-lent-requires
 answer-lent-requires c κs = search needs
 
--- src/lib.rt:51:25
 slice-aggregate-vtoc-lspace : tie.Need-slice-aggregate-vtoc-lspace
 slice-aggregate-vtoc-lspace c = lent-long _ 65536 (c .before .before .before .before .before .before .args .table .now) (c .before .before .before .before .before .before .pre .1) (let h = c .before .before .table-lent .ensures .1 in omega arith)
 
--- src/lib.rt:51:38
 slice-relend-prefix-vtoc-lspace : tie.Need-slice-relend-prefix-vtoc-lspace
 slice-relend-prefix-vtoc-lspace c = search needs
 
--- src/lib.rt:51:38
 slice-aggregate-vtoc-lspace-2 : tie.Need-slice-aggregate-vtoc-lspace-2
-slice-aggregate-vtoc-lspace-2 c = lent-long _ 32 (c .before .before .before .before .before .before .before .args .answer .now) (c .before .before .before .before .before .before .before .pre .2) (c .before .before .answer-lent .ensures .1)
+slice-aggregate-vtoc-lspace-2 c =
+    let top = c .before .before .before .before .before .before .before in
+    lent-long _ 32 (top .args .answer .now) (top .pre .2) (c .before .before .answer-lent .ensures .1)
 
--- src/lib.rt:51:5
 vtoc-lspace-requires : tie.Need-vtoc-lspace-requires
 vtoc-lspace-requires c κs = search needs
 
--- src/lib.rt:45:1
 same-length : tie.Need-same-length
 same-length c = search needs
 
--- src/lib.rt:45:1
 returns : tie.Need-returns
-returns c = reads-call lspace (c .before .before .before .before .before .before .before .before .before .before .args .asked .now) (c .before .before .before .before .before .before .before .before .before .before .args .table .now) (c .before .before .before .before .before .before .before .before .before .before .args .answer .now) _ _ (c .before .before .before .before .before .before .table-lent .ensures .0) (c .before .before .before .before .before .answer-lent .ensures .0) (c .before .before .vtoc-lspace .ensures)
+returns c =
+    let at-answer-lent = c .before .before .before .before .before in
+    let at-table-lent = at-answer-lent .before in
+    let top = at-table-lent .before .before .before .before in
+    reads-call lspace (top .args .asked .now) (top .args .table .now) (top .args .answer .now) _ _ (at-table-lent .table-lent .ensures .0) (at-answer-lent .answer-lent .ensures .0) (c .before .before .vtoc-lspace .ensures)
 
 pub do-lspace-spec : {M : Type 1} → statement M
 do-lspace-spec =

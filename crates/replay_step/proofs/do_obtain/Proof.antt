@@ -11,57 +11,57 @@ use Rattle.recorded.proofs.labels_lent.Reads as labels-lent-reads
 use Rattle.recorded.proofs.name_of.Reads as name-of-reads
 use Rattle.recorded.proofs.table_lent.Reads as table-lent-reads
 
--- src/lib.rt:39:9
 table-lent-requires : tie.Need-table-lent-requires
 table-lent-requires c κs = search needs
 
--- src/lib.rt:40:9
 answer-lent-requires : tie.Need-answer-lent-requires
 answer-lent-requires c κs = search needs
 
--- src/lib.rt:41:9
 labels-lent-requires : tie.Need-labels-lent-requires
 labels-lent-requires c κs = search needs
 
--- src/lib.rt:42:25
 slice-aggregate-vtoc-obtain : tie.Need-slice-aggregate-vtoc-obtain
 slice-aggregate-vtoc-obtain c = lent-long _ 65536 (c .before .before .before .before .before .before .before .before .args .table .now) (c .before .before .before .before .before .before .before .before .pre .1) (let h = c .before .before .before .table-lent .ensures .1 in omega arith)
 
--- src/lib.rt:42:38
 name-of-requires : tie.Need-name-of-requires
 name-of-requires c κs = search needs
 
--- src/lib.rt:42:64
 slice-relend-prefix-vtoc-obtain : tie.Need-slice-relend-prefix-vtoc-obtain
 slice-relend-prefix-vtoc-obtain c = search needs
 
--- src/lib.rt:42:64
 slice-aggregate-vtoc-obtain-2 : tie.Need-slice-aggregate-vtoc-obtain-2
-slice-aggregate-vtoc-obtain-2 c = lent-long _ 288 (c .before .before .before .before .before .before .before .before .before .before .args .labels .now) (c .before .before .before .before .before .before .before .before .before .before .pre .3) (c .before .before .before .labels-lent .ensures .1)
+slice-aggregate-vtoc-obtain-2 c =
+    let at-labels-lent = c .before .before .before in
+    let top = at-labels-lent .before .before .before .before .before .before .before in
+    lent-long _ 288 (top .args .labels .now) (top .pre .3) (at-labels-lent .labels-lent .ensures .1)
 
--- src/lib.rt:42:82
 slice-relend-prefix-vtoc-obtain-2 : tie.Need-slice-relend-prefix-vtoc-obtain-2
 slice-relend-prefix-vtoc-obtain-2 c = search needs
 
--- src/lib.rt:42:82
 slice-aggregate-vtoc-obtain-3 : tie.Need-slice-aggregate-vtoc-obtain-3
-slice-aggregate-vtoc-obtain-3 c = lent-long _ 32 (c .before .before .before .before .before .before .before .before .before .before .before .args .answer .now) (c .before .before .before .before .before .before .before .before .before .before .before .pre .2) (c .before .before .before .before .before .answer-lent .ensures .1)
+slice-aggregate-vtoc-obtain-3 c =
+    let at-answer-lent = c .before .before .before .before .before in
+    let top = at-answer-lent .before .before .before .before .before .before in
+    lent-long _ 32 (top .args .answer .now) (top .pre .2) (at-answer-lent .answer-lent .ensures .1)
 
--- src/lib.rt:42:5
 vtoc-obtain-requires : tie.Need-vtoc-obtain-requires
 vtoc-obtain-requires c κs = search needs
 
--- src/lib.rt:35:1
 same-length : tie.Need-same-length
 same-length c = search needs
 
--- src/lib.rt:35:1
 same-length-2 : tie.Need-same-length-2
 same-length-2 c = search needs
 
--- src/lib.rt:35:1
 returns : tie.Need-returns
-returns c = obtains _ (c .before .before .before .before .before .before .before .before .before .before .before .before .before .before .before .before .args .asked .now) (c .before .before .before .before .before .before .before .before .before .before .before .before .before .before .before .before .args .table .now) (c .before .before .before .before .before .before .before .before .before .before .before .before .before .before .before .before .args .answer .now) (c .before .before .before .before .before .before .before .before .before .before .before .before .before .before .before .before .args .labels .now) _ _ _ (c .before .before .before .before .before .before .before .before .before .before .before .table-lent .ensures .0) (c .before .before .before .before .before .before .before .before .before .before .answer-lent .ensures .0) (c .before .before .before .before .before .before .before .before .before .labels-lent .ensures .0) (c .before .before .before .before .before .before .before .name-of .ensures) (c .before .before .before .before .vtoc-obtain .ensures)
+returns c =
+    let at-vtoc-obtain = c .before .before .before .before in
+    let at-name-of = at-vtoc-obtain .before .before .before in
+    let at-labels-lent = at-name-of .before .before in
+    let at-answer-lent = at-labels-lent .before in
+    let at-table-lent = at-answer-lent .before in
+    let top = at-table-lent .before .before .before .before .before in
+    obtains _ (top .args .asked .now) (top .args .table .now) (top .args .answer .now) (top .args .labels .now) _ _ _ (at-table-lent .table-lent .ensures .0) (at-answer-lent .answer-lent .ensures .0) (at-labels-lent .labels-lent .ensures .0) (at-name-of .name-of .ensures) (at-vtoc-obtain .vtoc-obtain .ensures)
 
 pub do-obtain-spec : {M : Type 1} → statement M
 do-obtain-spec =

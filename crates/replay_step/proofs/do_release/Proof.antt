@@ -14,53 +14,51 @@ use Rattle.recorded.proofs.four.Reads as four-reads
 use Rattle.recorded.proofs.name_of.Reads as name-of-reads
 use Rattle.recorded.proofs.table_lent.Reads as table-lent-reads
 
--- src/lib.rt:54:9
 table-lent-requires : tie.Need-table-lent-requires
 table-lent-requires c κs = search needs
 
--- src/lib.rt:55:9
 answer-lent-requires : tie.Need-answer-lent-requires
 answer-lent-requires c κs = search needs
 
--- src/lib.rt:56:9
 four-requires : tie.Need-four-requires
 four-requires c κs = search needs
 
--- src/lib.rt:57:27
 slice-relend-prefix-vtoc-release : tie.Need-slice-relend-prefix-vtoc-release
 slice-relend-prefix-vtoc-release c = search needs
 
--- src/lib.rt:57:27
 slice-aggregate-vtoc-release : tie.Need-slice-aggregate-vtoc-release
 slice-aggregate-vtoc-release c = lent-long _ 65536 (c .before .before .before .before .before .before .before .args .table .now) (c .before .before .before .before .before .before .before .pre .1) (let h = c .before .before .before .table-lent .ensures .1 in omega arith)
 
--- src/lib.rt:57:44
 name-of-requires : tie.Need-name-of-requires
 name-of-requires c κs = search needs
 
--- src/lib.rt:57:75
 slice-relend-prefix-vtoc-release-2 : tie.Need-slice-relend-prefix-vtoc-release-2
 slice-relend-prefix-vtoc-release-2 c = search needs
 
--- src/lib.rt:57:75
 slice-aggregate-vtoc-release-2 : tie.Need-slice-aggregate-vtoc-release-2
-slice-aggregate-vtoc-release-2 c = lent-long _ 32 (c .before .before .before .before .before .before .before .before .before .args .answer .now) (c .before .before .before .before .before .before .before .before .before .pre .2) (c .before .before .before .before .answer-lent .ensures .1)
+slice-aggregate-vtoc-release-2 c =
+    let at-answer-lent = c .before .before .before .before in
+    let top = at-answer-lent .before .before .before .before .before in
+    lent-long _ 32 (top .args .answer .now) (top .pre .2) (at-answer-lent .answer-lent .ensures .1)
 
--- src/lib.rt:57:5
 vtoc-release-requires : tie.Need-vtoc-release-requires
 vtoc-release-requires c κs = search needs
 
--- src/lib.rt:50:1
 same-length : tie.Need-same-length
 same-length c = search needs
 
--- src/lib.rt:50:1
 same-length-2 : tie.Need-same-length-2
 same-length-2 c = search needs
 
--- src/lib.rt:50:1
 returns : tie.Need-returns
-returns c = does-call (release (nameOf (c .before .before .before .before .before .before .before .before .before .before .before .before .before .before .args .asked .now)) (get4 (c .before .before .before .before .before .before .before .before .before .before .before .before .before .before .args .asked .now) 8)) (c .before .before .before .before .before .before .before .before .before .before .before .before .before .before .args .asked .now) (c .before .before .before .before .before .before .before .before .before .before .before .before .before .before .args .table .now) (c .before .before .before .before .before .before .before .before .before .before .before .before .before .before .args .answer .now) _ _ (ap₂ release (c .before .before .before .before .before .before .name-of .ensures) (c .before .before .before .before .before .before .before .before .four .ensures)) (c .before .before .before .before .before .before .before .before .before .before .table-lent .ensures .0) (c .before .before .before .before .before .before .before .before .before .answer-lent .ensures .0) (c .before .before .before .before .vtoc-release .ensures)
+returns c =
+    let at-vtoc-release = c .before .before .before .before in
+    let at-name-of = at-vtoc-release .before .before in
+    let at-four = at-name-of .before .before in
+    let at-answer-lent = at-four .before in
+    let at-table-lent = at-answer-lent .before in
+    let top = at-table-lent .before .before .before .before in
+    does-call (release (nameOf (top .args .asked .now)) (get4 (top .args .asked .now) 8)) (top .args .asked .now) (top .args .table .now) (top .args .answer .now) _ _ (ap₂ release (at-name-of .name-of .ensures) (at-four .four .ensures)) (at-table-lent .table-lent .ensures .0) (at-answer-lent .answer-lent .ensures .0) (at-vtoc-release .vtoc-release .ensures)
 
 pub do-release-spec : {M : Type 1} → statement M
 do-release-spec =

@@ -14,53 +14,51 @@ use Rattle.recorded.proofs.name_of.Reads as name-of-reads
 use Rattle.recorded.proofs.other_of.Reads as other-of-reads
 use Rattle.recorded.proofs.table_lent.Reads as table-lent-reads
 
--- src/lib.rt:30:9
 table-lent-requires : tie.Need-table-lent-requires
 table-lent-requires c κs = search needs
 
--- src/lib.rt:31:9
 answer-lent-requires : tie.Need-answer-lent-requires
 answer-lent-requires c κs = search needs
 
--- src/lib.rt:32:25
 slice-relend-prefix-vtoc-rename : tie.Need-slice-relend-prefix-vtoc-rename
 slice-relend-prefix-vtoc-rename c = search needs
 
--- src/lib.rt:32:25
 slice-aggregate-vtoc-rename : tie.Need-slice-aggregate-vtoc-rename
 slice-aggregate-vtoc-rename c = lent-long _ 65536 (c .before .before .before .before .before .before .args .table .now) (c .before .before .before .before .before .before .pre .1) (let h = c .before .before .table-lent .ensures .1 in omega arith)
 
--- src/lib.rt:32:42
 name-of-requires : tie.Need-name-of-requires
 name-of-requires c κs = search needs
 
--- src/lib.rt:32:68
 other-of-requires : tie.Need-other-of-requires
 other-of-requires c κs = search needs
 
--- src/lib.rt:32:95
 slice-relend-prefix-vtoc-rename-2 : tie.Need-slice-relend-prefix-vtoc-rename-2
 slice-relend-prefix-vtoc-rename-2 c = search needs
 
--- src/lib.rt:32:95
 slice-aggregate-vtoc-rename-2 : tie.Need-slice-aggregate-vtoc-rename-2
-slice-aggregate-vtoc-rename-2 c = lent-long _ 32 (c .before .before .before .before .before .before .before .before .before .args .answer .now) (c .before .before .before .before .before .before .before .before .before .pre .2) (c .before .before .before .before .answer-lent .ensures .1)
+slice-aggregate-vtoc-rename-2 c =
+    let at-answer-lent = c .before .before .before .before in
+    let top = at-answer-lent .before .before .before .before .before in
+    lent-long _ 32 (top .args .answer .now) (top .pre .2) (at-answer-lent .answer-lent .ensures .1)
 
--- src/lib.rt:32:5
 vtoc-rename-requires : tie.Need-vtoc-rename-requires
 vtoc-rename-requires c κs = search needs
 
--- src/lib.rt:26:1
 same-length : tie.Need-same-length
 same-length c = search needs
 
--- src/lib.rt:26:1
 same-length-2 : tie.Need-same-length-2
 same-length-2 c = search needs
 
--- src/lib.rt:26:1
 returns : tie.Need-returns
-returns c = does-call (rename (nameOf (c .before .before .before .before .before .before .before .before .before .before .before .before .before .before .args .asked .now)) (otherOf (c .before .before .before .before .before .before .before .before .before .before .before .before .before .before .args .asked .now))) (c .before .before .before .before .before .before .before .before .before .before .before .before .before .before .args .asked .now) (c .before .before .before .before .before .before .before .before .before .before .before .before .before .before .args .table .now) (c .before .before .before .before .before .before .before .before .before .before .before .before .before .before .args .answer .now) _ _ (ap₂ rename (c .before .before .before .before .before .before .before .name-of .ensures) (c .before .before .before .before .before .before .other-of .ensures)) (c .before .before .before .before .before .before .before .before .before .before .table-lent .ensures .0) (c .before .before .before .before .before .before .before .before .before .answer-lent .ensures .0) (c .before .before .before .before .vtoc-rename .ensures)
+returns c =
+    let at-vtoc-rename = c .before .before .before .before in
+    let at-other-of = at-vtoc-rename .before .before in
+    let at-name-of = at-other-of .before in
+    let at-answer-lent = at-name-of .before .before in
+    let at-table-lent = at-answer-lent .before in
+    let top = at-table-lent .before .before .before .before in
+    does-call (rename (nameOf (top .args .asked .now)) (otherOf (top .args .asked .now))) (top .args .asked .now) (top .args .table .now) (top .args .answer .now) _ _ (ap₂ rename (at-name-of .name-of .ensures) (at-other-of .other-of .ensures)) (at-table-lent .table-lent .ensures .0) (at-answer-lent .answer-lent .ensures .0) (at-vtoc-rename .vtoc-rename .ensures)
 
 pub do-rename-spec : {M : Type 1} → statement M
 do-rename-spec =

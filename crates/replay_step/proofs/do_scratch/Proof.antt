@@ -13,49 +13,47 @@ use Rattle.recorded.proofs.answer_lent.Reads as answer-lent-reads
 use Rattle.recorded.proofs.name_of.Reads as name-of-reads
 use Rattle.recorded.proofs.table_lent.Reads as table-lent-reads
 
--- src/lib.rt:64:9
 table-lent-requires : tie.Need-table-lent-requires
 table-lent-requires c κs = search needs
 
--- src/lib.rt:65:9
 answer-lent-requires : tie.Need-answer-lent-requires
 answer-lent-requires c κs = search needs
 
--- src/lib.rt:66:27
 slice-relend-prefix-vtoc-scratch : tie.Need-slice-relend-prefix-vtoc-scratch
 slice-relend-prefix-vtoc-scratch c = search needs
 
--- src/lib.rt:66:27
 slice-aggregate-vtoc-scratch : tie.Need-slice-aggregate-vtoc-scratch
 slice-aggregate-vtoc-scratch c = lent-long _ 65536 (c .before .before .before .before .before .before .args .table .now) (c .before .before .before .before .before .before .pre .1) (let h = c .before .before .table-lent .ensures .1 in omega arith)
 
--- src/lib.rt:66:44
 name-of-requires : tie.Need-name-of-requires
 name-of-requires c κs = search needs
 
--- src/lib.rt:66:70
 slice-relend-prefix-vtoc-scratch-2 : tie.Need-slice-relend-prefix-vtoc-scratch-2
 slice-relend-prefix-vtoc-scratch-2 c = search needs
 
--- src/lib.rt:66:70
 slice-aggregate-vtoc-scratch-2 : tie.Need-slice-aggregate-vtoc-scratch-2
-slice-aggregate-vtoc-scratch-2 c = lent-long _ 32 (c .before .before .before .before .before .before .before .before .args .answer .now) (c .before .before .before .before .before .before .before .before .pre .2) (c .before .before .before .answer-lent .ensures .1)
+slice-aggregate-vtoc-scratch-2 c =
+    let at-answer-lent = c .before .before .before in
+    let top = at-answer-lent .before .before .before .before .before in
+    lent-long _ 32 (top .args .answer .now) (top .pre .2) (at-answer-lent .answer-lent .ensures .1)
 
--- src/lib.rt:66:5
 vtoc-scratch-requires : tie.Need-vtoc-scratch-requires
 vtoc-scratch-requires c κs = search needs
 
--- src/lib.rt:60:1
 same-length : tie.Need-same-length
 same-length c = search needs
 
--- src/lib.rt:60:1
 same-length-2 : tie.Need-same-length-2
 same-length-2 c = search needs
 
--- src/lib.rt:60:1
 returns : tie.Need-returns
-returns c = does-call (scratch (nameOf (c .before .before .before .before .before .before .before .before .before .before .before .before .before .args .asked .now))) (c .before .before .before .before .before .before .before .before .before .before .before .before .before .args .asked .now) (c .before .before .before .before .before .before .before .before .before .before .before .before .before .args .table .now) (c .before .before .before .before .before .before .before .before .before .before .before .before .before .args .answer .now) _ _ (ap scratch (c .before .before .before .before .before .before .name-of .ensures)) (c .before .before .before .before .before .before .before .before .before .table-lent .ensures .0) (c .before .before .before .before .before .before .before .before .answer-lent .ensures .0) (c .before .before .before .before .vtoc-scratch .ensures)
+returns c =
+    let at-vtoc-scratch = c .before .before .before .before in
+    let at-name-of = at-vtoc-scratch .before .before in
+    let at-answer-lent = at-name-of .before .before in
+    let at-table-lent = at-answer-lent .before in
+    let top = at-table-lent .before .before .before .before in
+    does-call (scratch (nameOf (top .args .asked .now))) (top .args .asked .now) (top .args .table .now) (top .args .answer .now) _ _ (ap scratch (at-name-of .name-of .ensures)) (at-table-lent .table-lent .ensures .0) (at-answer-lent .answer-lent .ensures .0) (at-vtoc-scratch .vtoc-scratch .ensures)
 
 pub do-scratch-spec : {M : Type 1} → statement M
 do-scratch-spec =

@@ -5,7 +5,6 @@ use Rattle.replay_step.proofs.fresh_answer.Tie as tie
 use Rattle.replay_step.proofs.fresh_answer.Reads as reads
 use Rattle.replay_step.proofs.fresh_answer.Lts as lts
 
--- src/lib.rt:152:1
 returns : tie.Need-returns
 unfolding freshAnswer
 returns c = (refl, refl)

@@ -5,7 +5,6 @@ use Rattle.replay_step.proofs.fresh_labels.Tie as tie
 use Rattle.replay_step.proofs.fresh_labels.Reads as reads
 use Rattle.replay_step.proofs.fresh_labels.Lts as lts
 
--- src/lib.rt:159:1
 returns : tie.Need-returns
 unfolding freshLabels
 returns c = (refl, refl)

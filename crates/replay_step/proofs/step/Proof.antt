@@ -9,49 +9,43 @@ use Rattle.replay_step.proofs.fresh_labels.Reads as fresh-labels-reads
 use Rattle.replay_step.proofs.play.Reads as play-reads
 use Rattle.replay_step.proofs.report.Reads as report-reads
 
--- src/lib.rt:170:22
 fresh-answer-requires : tie.Need-fresh-answer-requires
 fresh-answer-requires c κs = search needs
 
--- src/lib.rt:171:22
 fresh-labels-requires : tie.Need-fresh-labels-requires
 fresh-labels-requires c κs = search needs
 
--- src/lib.rt:172:32
 slice-aggregate-play : tie.Need-slice-aggregate-play
 slice-aggregate-play c = search needs
 
--- src/lib.rt:172:45
 slice-aggregate-play-2 : tie.Need-slice-aggregate-play-2
 slice-aggregate-play-2 c = search needs
 
--- src/lib.rt:172:9
 play-requires : tie.Need-play-requires
 play-requires c κs = search needs
 
--- src/lib.rt:173:29
 slice-aggregate-report : tie.Need-slice-aggregate-report
 slice-aggregate-report c = search needs
 
--- src/lib.rt:173:38
 slice-aggregate-report-2 : tie.Need-slice-aggregate-report-2
 slice-aggregate-report-2 c = search needs
 
--- src/lib.rt:173:5
 report-requires : tie.Need-report-requires
 report-requires c κs = search needs
 
--- src/lib.rt:166:1
 same-length : tie.Need-same-length
 same-length c = search needs
 
--- src/lib.rt:166:1
 same-length-2 : tie.Need-same-length-2
 same-length-2 c = search needs
 
--- src/lib.rt:166:1
 returns : tie.Need-returns
-returns c = step-done (c .before .before .before .before .before .before .before .before .before .before .before .before .before .before .before .before .before .before .before .before .args .asked .now) (c .before .before .before .before .before .before .before .before .before .before .before .before .before .before .before .before .before .before .before .before .args .table .now) _ _ (c .before .before .before .before .before .before .before .before .before .before .before .before .before .before .before .before .fresh-answer .ensures .0) (c .before .before .before .before .before .before .before .before .before .before .before .before .before .before .before .fresh-labels .ensures .0) (c .before .before .before .before .before .before .before .before .before .before .before .play .ensures) (c .before .before .report .ensures)
+returns c =
+    let at-play = c .before .before .before .before .before .before .before .before .before .before .before in
+    let at-fresh-labels = at-play .before .before .before .before in
+    let at-fresh-answer = at-fresh-labels .before in
+    let top = at-fresh-answer .before .before .before .before in
+    step-done (top .args .asked .now) (top .args .table .now) _ _ (at-fresh-answer .fresh-answer .ensures .0) (at-fresh-labels .fresh-labels .ensures .0) (at-play .play .ensures) (c .before .before .report .ensures)
 
 pub step-spec : {M : Type 1} → statement M
 step-spec =

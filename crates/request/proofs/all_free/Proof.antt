@@ -8,7 +8,9 @@ next-run-requires : tie.Need-next-run-requires
 next-run-requires c κs = search needs
 
 returns : tie.Need-returns
-returns c = not-first (c .before .before .next-run .ensures) (c .before .before .before .before .pre .0) (c .if1 .taken)
+returns c =
+    let top = c .before .before .before .before in
+    not-first (c .before .before .next-run .ensures) (top .pre .0) (c .if1 .taken)
 
 returns-2 : tie.Need-returns-2
 returns-2 c = first-run (c .before .before .before .next-run .ensures) (c .before .before .before .before .before .pre .0) (omega arith)

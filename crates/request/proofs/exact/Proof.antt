@@ -22,10 +22,14 @@ array-set-from-pieces : tie.Need-array-set-from-pieces
 array-set-from-pieces c = search needs
 
 returns : tie.Need-returns
-returns c = exact-yes (c .before .before .before .args .map .now) (c .before .before .before .args .start) (c .before .before .before .args .n) (c .before .all-free .result) (c .before .all-free .ensures) (c .if1 .taken)
+returns c =
+    let top = c .before .before .before in
+    exact-yes (top .args .map .now) (top .args .start) (top .args .n) (c .before .all-free .result) (c .before .all-free .ensures) (c .if1 .taken)
 
 returns-2 : tie.Need-returns-2
-returns-2 c = exact-no (c .before .before .before .args .map .now) (c .before .before .before .args .start) (c .before .before .before .args .n) (c .before .all-free .result) (c .before .all-free .ensures) (c .if1 .left)
+returns-2 c =
+    let top = c .before .before .before in
+    exact-no (top .args .map .now) (top .args .start) (top .args .n) (c .before .all-free .result) (c .before .all-free .ensures) (c .if1 .left)
 
 pub exact-spec : {M : Type 1} → statement M
 exact-spec =

@@ -38,13 +38,17 @@ exact-requires c κs =
     (k .0, omega arith, omega arith)
 
 returns : tie.Need-returns
-returns c = λ ls h d.
-    let a = c .before .before .before .before .before .before .args in
+returns c =
+    let top = c .before .before .before .before .before .before in
+    λ ls h d.
+    let a = top .args in
     tracks-reply (a .map .now) (geometryOf (a .g)) ls h (a .amount) _ _ (c .before .before .amount .given .1) (c .choose .ensures _ d)
 
 returns-2 : tie.Need-returns-2
-returns-2 c = λ ls h d.
-    let a = c .before .before .before .before .before .before .args in
+returns-2 c =
+    let top = c .before .before .before .before .before .before in
+    λ ls h d.
+    let a = top .args in
     cylinders-reply (a .map .now) (geometryOf (a .g)) ls h (a .amount) _ _ (c .before .before .amount2 .given .1) (c .choose2 .ensures _ d)
 
 returns-3 : tie.Need-returns-3

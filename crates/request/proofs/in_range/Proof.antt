@@ -30,7 +30,9 @@ returns-2 : tie.Need-returns-2
 returns-2 c = rw (c .before .before .amount2 .given .1) (c .counts-ok2 .ensures)
 
 returns-3 : tie.Need-returns-3
-returns-3 c = rw (c .before .before .before .amount3 .given .1) (c .place-ok .ensures)
+returns-3 c =
+    let at-amount3 = c .before .before .before in
+    rw (at-amount3 .amount3 .given .1) (c .place-ok .ensures)
 
 pub in-range-spec : {M : Type 1} → statement M
 in-range-spec =

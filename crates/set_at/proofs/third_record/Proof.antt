@@ -10,25 +10,20 @@ use Rattle.fields.proofs.record_at.Reads as record-at-reads
 use Rattle.labels.proofs.empty_three.Reads as empty-three-reads
 use Rattle.records.proofs.record_of.Reads as record-of-reads
 
--- src/lib.rt:25:9
 empty-three-requires : tie.Need-empty-three-requires
 empty-three-requires c κs = search needs
 
--- src/lib.rt:25:9
 returns : tie.Need-returns
 returns c =
     let n : length (c .empty-three .result) ≡ 140 = search needs in
     no-third (c .before .before .before .args .table .now) (c .before .before .before .args .q) (c .empty-three .result) n (c .before .if1 .taken) (c .empty-three .ensures)
 
--- src/lib.rt:27:24
 record-at-requires : tie.Need-record-at-requires
 record-at-requires c κs = search needs
 
--- src/lib.rt:27:5
 record-of-requires : tie.Need-record-of-requires
 record-of-requires c κs = search needs
 
--- src/lib.rt:20:1
 returns-2 : tie.Need-returns-2
 returns-2 c =
     let n : length (c .record-of .result) ≡ 140 = search needs in

@@ -28,7 +28,8 @@ add-extent3-requires c κs = search needs
 
 returns-2 : tie.Need-returns-2
 returns-2 c =
-    let done = c .before .before .before .add-extent1 .ensures in
+    let at-add-extent1 = c .before .before .before in
+    let done = at-add-extent1 .add-extent1 .ensures in
     let more = c .add-extent3 .ensures in
     (λ l h x. record { one = done .0 l h (x .one); three = more .0 l h (x .three) }, done .1, more .1)
 

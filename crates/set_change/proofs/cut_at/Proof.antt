@@ -15,36 +15,32 @@ Inv-loop f1 f3 n g keep left₀ e₀ left e = (e ≤ n) × Keeping keep (readExt
 abbrev μ-loop : tie.MeasureT-loop
 μ-loop f1 f3 n g keep left₀ e₀ left e = n - e
 
--- src/lib.rt:124:5
 loop-holds : tie.Need-loop-holds Inv-loop μ-loop
 loop-holds c = (omega arith, keeping-none (c .before .before .args .keep) (readExtents (c .before .before .args .g .heads) (c .before .before .args .f1 .now) (c .before .before .args .f3 .now) (c .before .before .args .n)))
 
--- src/lib.rt:125:13
 extent-at-requires : tie.Need-extent-at-requires Inv-loop μ-loop
 extent-at-requires c κs =
     (c .before .before .before .before .pre .long1, c .before .before .before .before .pre .long3, omega (arith, c .before .before .before .before .pre .most), omega (arith, c .before .before .before .before .pre .limits .headsMost), good-read (geometryOf (c .before .before .before .before .args .g)) (c .before .before .before .before .args .f1 .now) (c .before .before .before .before .args .f3 .now) (c .before .before .before .before .args .n) (c .before .loop .e) (c .before .before .before .before .pre .good) (c .loop-test .taken) .full)
 
--- src/lib.rt:127:13
 returns : tie.Need-returns Inv-loop μ-loop
 returns c =
-    let x = at-read (geometryOf (c .before .before .before .before .before .before .before .args .g)) (c .before .before .before .before .before .before .before .args .f1 .now) (c .before .before .before .before .before .before .before .args .f3 .now) (c .before .before .before .before .before .before .before .args .n) (c .before .before .before .before .before .before .before .pre .good) (c .before .before .before .before .loop .e) (c .before .before .extent-at .result .start) (c .before .before .extent-at .result .count) (c .before .before .before .loop-test .taken) (c .before .before .extent-at .ensures) in
-    stays-part (geometryOf (c .before .before .before .before .before .before .before .args .g)) (c .before .before .before .before .before .before .before .args .keep) (readExtents (c .before .before .before .before .before .before .before .args .g .heads) (c .before .before .before .before .before .before .before .args .f1 .now) (c .before .before .before .before .before .before .before .args .f3 .now) (c .before .before .before .before .before .before .before .args .n)) (c .before .before .before .before .loop .e) (c .before .before .before .before .loop .left) (c .before .before .extent-at .result .start) (c .before .before .extent-at .result .count) x (c .before .before .before .before .loop .inv .1) (c .if1 .taken)
+    let at-loop-test = c .before .before .before in
+    let at-loop = at-loop-test .before in
+    let top = at-loop .before .before .before in
+    let x = at-read (geometryOf (top .args .g)) (top .args .f1 .now) (top .args .f3 .now) (top .args .n) (top .pre .good) (at-loop .loop .e) (c .before .before .extent-at .result .start) (c .before .before .extent-at .result .count) (at-loop-test .loop-test .taken) (c .before .before .extent-at .ensures) in
+    stays-part (geometryOf (top .args .g)) (top .args .keep) (readExtents (top .args .g .heads) (top .args .f1 .now) (top .args .f3 .now) (top .args .n)) (at-loop .loop .e) (at-loop .loop .left) (c .before .before .extent-at .result .start) (c .before .before .extent-at .result .count) x (at-loop .loop .inv .1) (c .if1 .taken)
 
--- src/lib.rt:134:9
 add-e : tie.Need-add-e Inv-loop μ-loop
 add-e c = search needs
 
--- src/lib.rt:124:5
 loop-less : tie.Need-loop-less Inv-loop μ-loop
 loop-less c = search needs
 
--- src/lib.rt:124:5
 loop-again : tie.Need-loop-again Inv-loop μ-loop
 loop-again c =
     let x = at-read (geometryOf (c .before .before .before .before .before .before .before .before .args .g)) (c .before .before .before .before .before .before .before .before .args .f1 .now) (c .before .before .before .before .before .before .before .before .args .f3 .now) (c .before .before .before .before .before .before .before .before .args .n) (c .before .before .before .before .before .before .before .before .pre .good) (c .before .before .before .before .before .loop .e) (c .before .before .before .extent-at .result .start) (c .before .before .before .extent-at .result .count) (c .before .before .before .before .loop-test .taken) (c .before .before .before .extent-at .ensures) in
     (omega arith, keeping-next (geometryOf (c .before .before .before .before .before .before .before .before .args .g)) (c .before .before .before .before .before .before .before .before .args .keep) (readExtents (c .before .before .before .before .before .before .before .before .args .g .heads) (c .before .before .before .before .before .before .before .before .args .f1 .now) (c .before .before .before .before .before .before .before .before .args .f3 .now) (c .before .before .before .before .before .before .before .before .args .n)) (c .before .before .before .before .before .loop .e) (c .before .before .before .before .before .loop .left) (c .before .before .before .extent-at .result .start) (c .before .before .before .extent-at .result .count) x (c .before .before .before .before .before .loop .inv .1) (c .before .if1 .left))
 
--- src/lib.rt:118:1
 returns-2 : tie.Need-returns-2 Inv-loop μ-loop
 returns-2 c =
     let l = read-length (geometryOf (c .before .before .before .before .args .g)) (c .before .before .before .before .args .f1 .now) (c .before .before .before .before .args .f3 .now) (c .before .before .before .before .args .n) in

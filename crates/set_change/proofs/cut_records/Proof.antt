@@ -11,20 +11,19 @@ use Rattle.labels.proofs.keep_extents1.Reads as keep-extents1-reads
 use Rattle.set_change.proofs.add_extent.Reads as add-extent-reads
 use Rattle.set_change.proofs.keep_third.Reads as keep-third-reads
 
--- src/lib.rt:250:5
 keep-extents1-requires : tie.Need-keep-extents1-requires
 keep-extents1-requires c κs = search needs
 
--- src/lib.rt:251:5
 keep-third-requires : tie.Need-keep-third-requires
 keep-third-requires c κs = search needs
 
--- src/lib.rt:253:9
 returns : tie.Need-returns
 returns c =
-    let a = c .before .before .before .before .before .before .args in
+    let at-keep-extents1 = c .before .before .before .before in
+    let top = at-keep-extents1 .before .before in
+    let a = top .args in
     let g = geometryOf (a .g) in
-    let one = c .before .before .before .before .keep-extents1 .ensures in
+    let one = at-keep-extents1 .keep-extents1 .ensures in
     let three = c .before .before .keep-third .ensures in (
       λ l h x.
           without-part (a .k .whole) (a .k .start) (a .k .count) l (c .if1 .taken)
@@ -32,7 +31,6 @@ returns c =
       one .1,
     )
 
--- src/lib.rt:255:5
 add-extent-requires : tie.Need-add-extent-requires
 add-extent-requires c κs =
     let p = c .before .before .before .before .before .before .before .before .pre in
@@ -41,16 +39,19 @@ add-extent-requires c κs =
     let three = c .before .before .before .before .keep-third .ensures in
     (one .1, three .1, p .3 (omega arith), omega arith, p .4, p .5)
 
--- src/lib.rt:246:1
 returns-2 : tie.Need-returns-2
 returns-2 c =
-    let a = c .before .before .before .before .before .before .before .before .before .args in
+    let at-if1 = c .before .before .before in
+    let at-keep-third = at-if1 .before .before in
+    let at-keep-extents1 = at-keep-third .before .before in
+    let top = at-keep-extents1 .before .before in
+    let a = top .args in
     let g = geometryOf (a .g) in
-    let one = c .before .before .before .before .before .before .before .keep-extents1 .ensures in
-    let three = c .before .before .before .before .before .keep-third .ensures in
+    let one = at-keep-extents1 .keep-extents1 .ensures in
+    let three = at-keep-third .keep-third .ensures in
     let more = c .add-extent .ensures in (
       λ l h x.
-          with-part (a .k .whole) (a .k .start) (a .k .count) l (c .before .before .before .if1 .left)
+          with-part (a .k .whole) (a .k .start) (a .k .count) l (at-if1 .if1 .left)
           (more .0 (firstExtents (a .k .whole) l) (first-length (a .k .whole) l h) (record { one = one .0 g l h (x .one); three = three .0 g l (x .three) })),
       more .1,
     )

@@ -18,61 +18,49 @@ Inv-loop f1 f3 n g keep map₀ left₀ e₀ map left e = (e ≤ n) × (length ma
 abbrev μ-loop : tie.MeasureT-loop
 μ-loop f1 f3 n g keep map₀ left₀ e₀ map left e = n - e
 
--- src/lib.rt:158:5
 loop-holds : tie.Need-loop-holds Inv-loop μ-loop
 loop-holds c =
     let es = readExtents (c .before .before .before .args .g .heads) (c .before .before .before .args .f1 .now) (c .before .before .before .args .f3 .now) (c .before .before .before .args .n) in
     (omega arith, refl, sym (sub-zero (c .before .before .before .args .keep)), giving-none (c .before .before .before .args .keep) es (c .before .before .before .args .map .now))
 
--- src/lib.rt:159:13
 extent-at-requires : tie.Need-extent-at-requires Inv-loop μ-loop
 extent-at-requires c κs =
     (c .before .before .before .before .before .pre .0 .long1, c .before .before .before .before .before .pre .0 .long3, omega (arith, c .before .before .before .before .before .pre .0 .most), omega (arith, c .before .before .before .before .before .pre .0 .limits .headsMost), good-read (geometryOf (c .before .before .before .before .before .args .g)) (c .before .before .before .before .before .args .f1 .now) (c .before .before .before .before .before .args .f3 .now) (c .before .before .before .before .before .args .n) (c .before .loop .e) (c .before .before .before .before .before .pre .0 .good) (c .loop-test .taken) .full)
 
--- src/lib.rt:160:13
 lesser-requires : tie.Need-lesser-requires Inv-loop μ-loop
 lesser-requires c κs = search needs
 
--- src/lib.rt:161:21
 add-from : tie.Need-add-from Inv-loop μ-loop
 add-from c =
     let x = at-read (geometryOf (c .before .before .before .before .before .before .before .before .args .g)) (c .before .before .before .before .before .before .before .before .args .f1 .now) (c .before .before .before .before .before .before .before .before .args .f3 .now) (c .before .before .before .before .before .before .before .before .args .n) (c .before .before .before .before .before .before .before .before .pre .0 .good) (c .before .before .before .before .loop .e) (c .before .before .extent-at .result .start) (c .before .before .extent-at .result .count) (c .before .before .before .loop-test .taken) (c .before .before .extent-at .ensures) in
     omega (arith, x .ends, c .before .before .before .before .before .before .before .before .pre .0 .limits .tracksMost, c .before .lesser .ensures)
 
--- src/lib.rt:161:20
 cast-from : tie.Need-cast-from Inv-loop μ-loop
 cast-from c = search needs
 
--- src/lib.rt:162:19
 add-to : tie.Need-add-to Inv-loop μ-loop
 add-to c =
     let x = at-read (geometryOf (c .before .before .before .before .before .before .before .before .before .args .g)) (c .before .before .before .before .before .before .before .before .before .args .f1 .now) (c .before .before .before .before .before .before .before .before .before .args .f3 .now) (c .before .before .before .before .before .before .before .before .before .args .n) (c .before .before .before .before .before .before .before .before .before .pre .0 .good) (c .before .before .before .before .before .loop .e) (c .before .before .before .extent-at .result .start) (c .before .before .before .extent-at .result .count) (c .before .before .before .before .loop-test .taken) (c .before .before .before .extent-at .ensures) in
     omega (arith, x .ends, c .before .before .before .before .before .before .before .before .before .pre .0 .limits .tracksMost)
 
--- src/lib.rt:162:18
 cast-to : tie.Need-cast-to Inv-loop μ-loop
 cast-to c = search needs
 
--- src/lib.rt:163:9
 give-range-requires : tie.Need-give-range-requires Inv-loop μ-loop
 give-range-requires c κs =
     let x = at-read (geometryOf (c .before .before .before .before .before .before .before .before .before .before .args .g)) (c .before .before .before .before .before .before .before .before .before .before .args .f1 .now) (c .before .before .before .before .before .before .before .before .before .before .args .f3 .now) (c .before .before .before .before .before .before .before .before .before .before .args .n) (c .before .before .before .before .before .before .before .before .before .before .pre .0 .good) (c .before .before .before .before .before .before .loop .e) (c .before .before .before .before .extent-at .result .start) (c .before .before .before .before .extent-at .result .count) (c .before .before .before .before .before .loop-test .taken) (c .before .before .before .before .extent-at .ensures) in
     let m = c .before .before .before .before .before .before .loop .inv .1 in
     (omega (arith, c .before .before .before .lesser .ensures), omega (arith, x .ends, c .before .before .before .before .before .before .before .before .before .before .pre .1))
 
--- src/lib.rt:164:9
 sub-left : tie.Need-sub-left Inv-loop μ-loop
 sub-left c = search needs
 
--- src/lib.rt:165:9
 add-e : tie.Need-add-e Inv-loop μ-loop
 add-e c = search needs
 
--- src/lib.rt:158:5
 loop-less : tie.Need-loop-less Inv-loop μ-loop
 loop-less c = search needs
 
--- src/lib.rt:158:5
 loop-again : tie.Need-loop-again Inv-loop μ-loop
 loop-again c =
     let es = readExtents (c .before .before .before .before .before .before .before .before .before .before .before .before .before .args .g .heads) (c .before .before .before .before .before .before .before .before .before .before .before .before .before .args .f1 .now) (c .before .before .before .before .before .before .before .before .before .before .before .before .before .args .f3 .now) (c .before .before .before .before .before .before .before .before .before .before .before .before .before .args .n) in
@@ -83,11 +71,9 @@ loop-again c =
       giving-next (geometryOf (c .before .before .before .before .before .before .before .before .before .before .before .before .before .args .g)) (c .before .before .before .before .before .before .before .before .before .before .before .before .before .args .keep) es (c .before .before .before .before .before .before .before .before .before .loop .e) (c .before .before .before .before .before .before .before .before .before .loop .left) (c .before .before .before .before .before .before .before .extent-at .result .start) (c .before .before .before .before .before .before .before .extent-at .result .count) (c .before .before .before .before .before .before .lesser .result) x (c .before .before .before .before .before .before .before .before .before .loop .inv .2) (c .before .before .before .before .before .before .lesser .ensures) (c .before .before .before .before .before .before .before .before .before .before .before .before .before .args .map .now) (c .before .before .before .before .before .before .before .before .before .loop .map) _ (c .before .before .give-range .ensures) (c .before .before .before .before .before .before .before .before .before .loop .inv .3),
     )
 
--- src/lib.rt:152:1
 same-length : tie.Need-same-length Inv-loop μ-loop
 same-length c = search needs
 
--- src/lib.rt:152:1
 returns : tie.Need-returns Inv-loop μ-loop
 returns c =
     let l = read-length (geometryOf (c .before .before .before .before .before .args .g)) (c .before .before .before .before .before .args .f1 .now) (c .before .before .before .before .before .args .f3 .now) (c .before .before .before .before .before .args .n) in

@@ -6,21 +6,18 @@ use Rattle.set_change.proofs.keep_third.Reads as reads
 use Rattle.set_change.proofs.keep_third.Lts as lts
 use Rattle.labels.proofs.keep_extents3.Reads as keep-extents3-reads
 
--- src/lib.rt:239:9
 keep-extents3-requires : tie.Need-keep-extents3-requires
 keep-extents3-requires c κs = search needs
 
--- src/lib.rt:240:9
 returns : tie.Need-returns
 returns c =
-    let a = c .before .before .before .args in
+    let top = c .before .before .before in
+    let a = top .args in
     (λ g l f. three-first g (a .n) l _ (c .before .before .if1 .taken) (c .keep-extents3 .ensures .0 g l f), c .keep-extents3 .ensures .1)
 
--- src/lib.rt:242:5
 keep-extents3-requires-2 : tie.Need-keep-extents3-requires-2
 keep-extents3-requires-2 c κs = search needs
 
--- src/lib.rt:234:1
 returns-2 : tie.Need-returns-2
 returns-2 c = search needs
 

@@ -17,27 +17,21 @@ Inv-loop pieces count most lo₀ k₀ lo k = (k ≤ count) × (lo ≤ most) × L
 abbrev μ-loop : tie.MeasureT-loop
 μ-loop pieces count most lo₀ k₀ lo k = count - k
 
--- src/lib.rt:70:5
 loop-holds : tie.Need-loop-holds Inv-loop μ-loop
 loop-holds c = (omega arith, omega arith, lowest-none (take (c .args .count) (c .args .pieces)) (c .args .most))
 
--- src/lib.rt:71:13
 piece-at-requires : tie.Need-piece-at-requires Inv-loop μ-loop
 piece-at-requires c κs = search needs
 
--- src/lib.rt:72:9
 lesser-requires : tie.Need-lesser-requires Inv-loop μ-loop
 lesser-requires c κs = search needs
 
--- src/lib.rt:73:9
 add-k : tie.Need-add-k Inv-loop μ-loop
 add-k c = search needs
 
--- src/lib.rt:70:5
 loop-less : tie.Need-loop-less Inv-loop μ-loop
 loop-less c = search needs
 
--- src/lib.rt:70:5
 loop-again : tie.Need-loop-again Inv-loop μ-loop
 loop-again c =
     let l : length (c .before .before .before .before .args .pieces) ≡ 5 = search needs in
@@ -47,7 +41,6 @@ loop-again c =
       lowest-next (c .before .before .before .before .args .count) (c .before .before .before .before .args .pieces) l (c .before .before .before .before .pre) (c .before .before .before .loop .k) (c .before .piece-at .result .start) (c .before .piece-at .result .count) (c .before .before .before .loop .lo) (c .lesser .result) (c .before .before .loop-test .taken) (c .before .piece-at .ensures .0) (c .before .piece-at .ensures .1) e (c .before .before .before .loop .inv .2),
     )
 
--- src/lib.rt:64:1
 returns : tie.Need-returns Inv-loop μ-loop
 returns c =
     let l : length (c .before .before .args .pieces) ≡ 5 = search needs in

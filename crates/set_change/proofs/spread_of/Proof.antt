@@ -21,15 +21,12 @@ Inv-loop f1 f3 n g all₀ lowest₀ e₀ all lowest e = (e ≤ n) × Spreads (tr
 abbrev μ-loop : tie.MeasureT-loop
 μ-loop f1 f3 n g all₀ lowest₀ e₀ all lowest e = n - e
 
--- src/lib.rt:147:22
 mul-lowest : tie.Need-mul-lowest Inv-loop μ-loop
 mul-lowest c = search needs
 
--- src/lib.rt:149:5
 loop-holds : tie.Need-loop-holds Inv-loop μ-loop
 loop-holds c = (omega arith, spread-none _, omega arith)
 
--- src/lib.rt:150:13
 extent-at-requires : tie.Need-extent-at-requires Inv-loop μ-loop
 extent-at-requires c κs =
     let top = c .before .before .before .before .before in
@@ -37,7 +34,6 @@ extent-at-requires c κs =
     let p = top .pre in
     (p .long1, p .long3, omega (arith, p .most), omega (arith, p .limits .headsMost), good-read (geometryOf (a .g)) (a .f1 .now) (a .f3 .now) (a .n) (c .before .loop .e) (p .good) (c .loop-test .taken) .full)
 
--- src/lib.rt:151:9
 add-all : tie.Need-add-all Inv-loop μ-loop
 add-all c =
     let top = c .before .before .before .before .before .before .before in
@@ -48,19 +44,15 @@ add-all c =
     let q = few-tracks (geometryOf (a .g)) _ (l .e) (x .result .start) (x .result .count) (top .pre .limits) y in
     omega (arith, l .inv .2, top .pre .most, c .before .before .loop-test .taken)
 
--- src/lib.rt:152:9
 lesser-requires : tie.Need-lesser-requires Inv-loop μ-loop
 lesser-requires c κs = search needs
 
--- src/lib.rt:153:9
 add-e : tie.Need-add-e Inv-loop μ-loop
 add-e c = search needs
 
--- src/lib.rt:149:5
 loop-less : tie.Need-loop-less Inv-loop μ-loop
 loop-less c = search needs
 
--- src/lib.rt:149:5
 loop-again : tie.Need-loop-again Inv-loop μ-loop
 loop-again c =
     let top = c .before .before .before .before .before .before .before .before in
@@ -74,7 +66,6 @@ loop-again c =
       omega (arith, l .inv .2),
     )
 
--- src/lib.rt:142:1
 returns : tie.Need-returns Inv-loop μ-loop
 returns c =
     let a = c .before .before .before .before .before .args in

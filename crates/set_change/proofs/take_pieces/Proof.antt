@@ -13,27 +13,21 @@ Inv-loop map₀ pieces count k₀ map k = (k ≤ count) × (length map ≡ lengt
 abbrev μ-loop : tie.MeasureT-loop
 μ-loop map₀ pieces count k₀ map k = count - k
 
--- src/lib.rt:41:5
 loop-holds : tie.Need-loop-holds Inv-loop μ-loop
 loop-holds c = (omega arith, refl, taking-none (take (c .before .args .count) (c .before .args .pieces)) (c .before .args .map .now))
 
--- src/lib.rt:42:13
 piece-at-requires : tie.Need-piece-at-requires Inv-loop μ-loop
 piece-at-requires c κs = search needs
 
--- src/lib.rt:43:20
 cast-from : tie.Need-cast-from Inv-loop μ-loop
 cast-from c = search needs
 
--- src/lib.rt:44:25
 cast-to : tie.Need-cast-to Inv-loop μ-loop
 cast-to c = search needs
 
--- src/lib.rt:44:18
 add-to : tie.Need-add-to Inv-loop μ-loop
 add-to c = search needs
 
--- src/lib.rt:45:9
 take-range-requires : tie.Need-take-range-requires Inv-loop μ-loop
 take-range-requires c κs =
     let l : length (c .before .before .before .before .before .before .before .args .pieces) ≡ 5 = search needs in
@@ -43,15 +37,12 @@ take-range-requires c κs =
     let m = c .before .before .before .before .before .loop .inv .1 in
     (omega arith, omega (arith, p .1))
 
--- src/lib.rt:46:9
 add-k : tie.Need-add-k Inv-loop μ-loop
 add-k c = search needs
 
--- src/lib.rt:41:5
 loop-less : tie.Need-loop-less Inv-loop μ-loop
 loop-less c = search needs
 
--- src/lib.rt:41:5
 loop-again : tie.Need-loop-again Inv-loop μ-loop
 loop-again c =
     let l : length (c .before .before .before .before .before .before .before .before .before .before .args .pieces) ≡ 5 = search needs in (
@@ -60,11 +51,9 @@ loop-again c =
       taking-next (c .before .before .before .before .before .before .before .before .before .before .args .count) (c .before .before .before .before .before .before .before .before .before .before .args .pieces) l (c .before .before .before .before .before .before .before .before .before .before .pre .0) (c .before .before .before .before .before .before .before .before .before .before .args .map .now) (c .before .before .before .before .before .before .before .before .loop .map) (c .before .before .before .before .before .before .before .before .loop .k) (c .before .before .before .before .before .before .piece-at .result .start) (c .before .before .before .before .before .before .piece-at .result .count) (c .before .before .before .before .before .before .before .loop-test .taken) (c .before .before .before .before .before .before .piece-at .ensures .0) (c .before .before .before .before .before .before .piece-at .ensures .1) _ _ (c .before .before .take-range .ensures) (c .before .before .before .before .before .before .before .before .loop .inv .2),
     )
 
--- src/lib.rt:36:1
 same-length : tie.Need-same-length Inv-loop μ-loop
 same-length c = search needs
 
--- src/lib.rt:36:1
 returns : tie.Need-returns Inv-loop μ-loop
 returns c =
     let l : length (c .before .before .before .args .pieces) ≡ 5 = search needs in

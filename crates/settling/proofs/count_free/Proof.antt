@@ -16,30 +16,24 @@ Inv-loop empty n count₀ at₀ count at = (at ≤ n) × (count ≤ at) × (coun
 abbrev μ-loop : tie.MeasureT-loop
 μ-loop empty n count₀ at₀ count at = n - at
 
--- src/lib.rt:28:5
 loop-holds : tie.Need-loop-holds Inv-loop μ-loop
 loop-holds c = search needs
 
--- src/lib.rt:29:13
 next-run-requires : tie.Need-next-run-requires Inv-loop μ-loop
 next-run-requires c κs = search needs
 
--- src/lib.rt:30:18
 sub-count : tie.Need-sub-count Inv-loop μ-loop
 sub-count c = search needs
 
--- src/lib.rt:30:9
 add-count : tie.Need-add-count Inv-loop μ-loop
 add-count c = search needs
 
--- src/lib.rt:28:5
 loop-less : tie.Need-loop-less Inv-loop μ-loop
 loop-less c =
     let r = c .before .next-run .ensures in
     let h = r .high in
     omega (arith, goes-on r (c .before .before .loop-test .taken))
 
--- src/lib.rt:28:5
 loop-again : tie.Need-loop-again Inv-loop μ-loop
 loop-again c =
     let r = c .before .next-run .ensures in
@@ -49,9 +43,10 @@ loop-again c =
     let e = run-total r in
     (h, omega arith, omega (arith, c .before .before .before .loop .inv .2))
 
--- src/lib.rt:22:1
 returns : tie.Need-returns Inv-loop μ-loop
-returns c = counted (c .before .before .before .args .empty .now) (c .before .before .before .args .n) (c .before .loop .at) (c .before .loop .count) (c .loop-test .left) (c .before .loop .inv .0) (c .before .loop .inv .1) (c .before .loop .inv .2)
+returns c =
+    let top = c .before .before .before in
+    counted (top .args .empty .now) (top .args .n) (c .before .loop .at) (c .before .loop .count) (c .loop-test .left) (c .before .loop .inv .0) (c .before .loop .inv .1) (c .before .loop .inv .2)
 
 pub count-free-spec : {M : Type 1} → statement M
 count-free-spec =

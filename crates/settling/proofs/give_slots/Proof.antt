@@ -15,27 +15,21 @@ Inv-loop empty₀ chain a b i₀ empty i = (a ≤ i) × (i ≤ max a b) × Gave 
 abbrev μ-loop : tie.MeasureT-loop
 μ-loop empty₀ chain a b i₀ empty i = b - i
 
--- src/lib.rt:75:5
 loop-holds : tie.Need-loop-holds Inv-loop μ-loop
 loop-holds c = (le-refl _, omega arith, gave-none _ (c .before .before .args .chain .now) (c .before .before .args .a))
 
--- src/lib.rt:76:22
 mul-wide : tie.Need-mul-wide Inv-loop μ-loop
 mul-wide c = search needs
 
--- src/lib.rt:76:22
 shared-slice-read-wide : tie.Need-shared-slice-read-wide Inv-loop μ-loop
 shared-slice-read-wide c = search needs
 
--- src/lib.rt:76:13
 wide-requires : tie.Need-wide-requires Inv-loop μ-loop
 wide-requires c κs = search needs
 
--- src/lib.rt:77:38
 add-give-range : tie.Need-add-give-range Inv-loop μ-loop
 add-give-range c = search needs
 
--- src/lib.rt:77:9
 give-range-requires : tie.Need-give-range-requires Inv-loop μ-loop
 give-range-requires c κs =
     let i = c .before .before .before .before .loop .inv in
@@ -44,15 +38,12 @@ give-range-requires c κs =
     let l = i .2 .long in
     (omega arith, omega arith)
 
--- src/lib.rt:78:9
 add-i : tie.Need-add-i Inv-loop μ-loop
 add-i c = search needs
 
--- src/lib.rt:75:5
 loop-less : tie.Need-loop-less Inv-loop μ-loop
 loop-less c = search needs
 
--- src/lib.rt:75:5
 loop-again : tie.Need-loop-again Inv-loop μ-loop
 loop-again c =
     let i = c .before .before .before .before .before .before .before .loop .inv in
@@ -60,15 +51,14 @@ loop-again c =
     let w = c .before .before .before .before .before .before .before .before .before .before .pre .0 in
     (omega arith, omega arith, gave-next (c .before .before .before .before .before .before .before .before .before .before .args .empty .now) (c .before .before .before .before .before .before .before .loop .empty) _ (c .before .before .before .before .before .before .before .before .before .before .args .chain .now) (c .before .before .before .before .before .before .before .before .before .before .args .a) (c .before .before .before .before .before .before .before .loop .i) (c .before .before .before .before .wide .result) (i .0) (omega arith) (c .before .before .before .before .wide .ensures .0) (i .2) (c .before .before .give-range .ensures))
 
--- src/lib.rt:70:1
 same-length : tie.Need-same-length Inv-loop μ-loop
 same-length c = search needs
 
--- src/lib.rt:70:1
 returns : tie.Need-returns Inv-loop μ-loop
 returns c =
+    let top = c .before .before .before .before in
     let i = c .before .loop .inv in
-    gave-all (c .before .before .before .before .args .empty .now) _ (c .before .before .before .before .args .chain .now) (c .before .before .before .before .args .a) (c .before .before .before .before .args .b) (c .before .loop .i) (i .0) (i .1) (c .loop-test .left) (i .2)
+    gave-all (top .args .empty .now) _ (top .args .chain .now) (top .args .a) (top .args .b) (c .before .loop .i) (i .0) (i .1) (c .loop-test .left) (i .2)
 
 pub give-slots-spec : {M : Type 1} → statement M
 give-slots-spec =

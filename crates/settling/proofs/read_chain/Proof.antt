@@ -25,23 +25,18 @@ Inv-loop table g chain₀ n k₀ i₀ chain k i =
 abbrev μ-loop : tie.MeasureT-loop
 μ-loop table g chain₀ n k₀ i₀ chain k i = n - i
 
--- src/lib.rt:99:14
 mul-n : tie.Need-mul-n Inv-loop μ-loop
 mul-n c = search needs
 
--- src/lib.rt:99:13
 cast-n : tie.Need-cast-n Inv-loop μ-loop
 cast-n c = search needs
 
--- src/lib.rt:102:5
 loop-holds : tie.Need-loop-holds Inv-loop μ-loop
 loop-holds c = (omega arith, omega (arith, c .before .before .before .pre .0 .least), refl, refl, tt, read-none (geometryOf (c .before .before .before .args .g)) (c .before .before .before .args .table .now) (c .before .before .before .args .chain .now))
 
--- src/lib.rt:104:13
 same-length : tie.Need-same-length Inv-loop μ-loop
 same-length c = search needs
 
--- src/lib.rt:104:13
 returns : tie.Need-returns Inv-loop μ-loop
 returns c =
     let a = c .before .before .before .before .before .before .args in
@@ -50,47 +45,36 @@ returns c =
     chained (geometryOf (a .g)) (a .table .now) (a .chain .now) (l .chain) (l .i) (l .inv .3) (p .2) (omega (arith, l .inv .0, l .inv .2)) (l .inv .4)
     (λ v e x. read-end (geometryOf (a .g)) (a .table .now) (l .chain) (l .i) (l .k) (v .chain) (l .inv .5 v e x) (c .if1 .taken))
 
--- src/lib.rt:106:20
 cast-chain : tie.Need-cast-chain Inv-loop μ-loop
 cast-chain c = search needs
 
--- src/lib.rt:106:9
 mul-chain : tie.Need-mul-chain Inv-loop μ-loop
 mul-chain c = search needs
 
--- src/lib.rt:106:9
 slice-write-chain : tie.Need-slice-write-chain Inv-loop μ-loop
 slice-write-chain c = search needs
 
--- src/lib.rt:107:13
 record-at-requires : tie.Need-record-at-requires Inv-loop μ-loop
 record-at-requires c κs = search needs
 
--- src/lib.rt:108:29
 sub-slot-of : tie.Need-sub-slot-of Inv-loop μ-loop
 sub-slot-of c = search needs
 
--- src/lib.rt:108:29
 part-slot-of-start : tie.Need-part-slot-of-start Inv-loop μ-loop
 part-slot-of-start c = search needs
 
--- src/lib.rt:108:29
 part-slot-of-end : tie.Need-part-slot-of-end Inv-loop μ-loop
 part-slot-of-end c = search needs
 
--- src/lib.rt:108:9
 slot-of-requires : tie.Need-slot-of-requires Inv-loop μ-loop
 slot-of-requires c κs = search needs
 
--- src/lib.rt:109:9
 add-i : tie.Need-add-i Inv-loop μ-loop
 add-i c = search needs
 
--- src/lib.rt:102:5
 loop-less : tie.Need-loop-less Inv-loop μ-loop
 loop-less c = search needs
 
--- src/lib.rt:102:5
 loop-again : tie.Need-loop-again Inv-loop μ-loop
 loop-again c =
     let top = c .before .before .before .before .before .before .before .before .before in
@@ -108,11 +92,9 @@ loop-again c =
       λ v same x. read-next g t (l .chain) (l .i) (l .k) (v .chain) (i .5 v same x) (top .pre .0) (c .before .before .before .if1 .left) u (c .slot-of .result) e,
     )
 
--- src/lib.rt:95:1
 same-length-2 : tie.Need-same-length-2 Inv-loop μ-loop
 same-length-2 c = search needs
 
--- src/lib.rt:95:1
 returns-2 : tie.Need-returns-2 Inv-loop μ-loop
 returns-2 c =
     let a = c .before .before .before .before .before .args in

@@ -4,35 +4,31 @@ use borrow.Author.Needs.{needs}
 use Rattle.settling.proofs.settle.Statement.{statement}
 use Rattle.settling.proofs.settle.Tie as tie
 
--- src/lib.rt:137:9
 returns : tie.Need-returns
-returns c = over-in (c .before .before .before .before .args .n) (c .before .before .before .before .args .empty .now) (c .before .before .before .before .args .chain .now) (c .before .before .before .before .args .given .now) (c .before .before .before .before .args .was) (c .before .before .before .before .args .need) (c .before .before .before .before .args .asked) (c .before .before .before .before .pre .3) (c .before .before .before .before .pre .6) (c .if1 .taken)
+returns c =
+    let top = c .before .before .before .before in
+    over-in (top .args .n) (top .args .empty .now) (top .args .chain .now) (top .args .given .now) (top .args .was) (top .args .need) (top .args .asked) (top .pre .3) (top .pre .6) (c .if1 .taken)
 
--- src/lib.rt:139:5
 give-slots-requires : tie.Need-give-slots-requires
-give-slots-requires c κs = (c .before .before .before .before .before .before .pre .3, give-low (c .before .before .before .before .before .before .args .n) _ (c .before .before .before .before .before .before .args .need) (c .before .before .before .before .before .before .args .was) (c .before .before .before .before .before .before .args .chain .now) (c .before .before .before .before .before .before .pre .1) (c .before .before .before .before .before .before .pre .6))
+give-slots-requires c κs =
+    let top = c .before .before .before .before .before .before in
+    (top .pre .3, give-low (top .args .n) _ (top .args .need) (top .args .was) (top .args .chain .now) (top .pre .1) (top .pre .6))
 
--- src/lib.rt:140:24
 longer-requires : tie.Need-longer-requires
 longer-requires c κs = search needs
 
--- src/lib.rt:140:16
 add-more : tie.Need-add-more
 add-more c = search needs
 
--- src/lib.rt:141:15
 count-free-requires : tie.Need-count-free-requires
 count-free-requires c κs = search needs
 
--- src/lib.rt:142:9
 same-length : tie.Need-same-length
 same-length c = search needs
 
--- src/lib.rt:142:9
 same-length-2 : tie.Need-same-length-2
 same-length-2 c = search needs
 
--- src/lib.rt:142:9
 returns-2 : tie.Need-returns-2
 returns-2 c =
     let l = c .before .before .before .longer .ensures in
@@ -40,27 +36,21 @@ returns-2 c =
     let u = c .if2 .taken in
     full-in (c .before .before .before .before .before .before .before .before .before .before .before .before .before .args .n) (c .before .before .before .before .before .before .before .before .before .before .before .before .before .args .empty .now) (c .before .before .before .before .before .before .before .before .before .before .before .before .before .args .chain .now) (c .before .before .before .before .before .before .before .before .before .before .before .before .before .args .given .now) (c .before .before .before .before .before .before .before .before .before .before .before .before .before .args .was) (c .before .before .before .before .before .before .before .before .before .before .before .before .before .args .need) (c .before .before .before .before .before .before .before .before .before .before .before .before .before .args .asked) (c .before .before .before .before .before .before .before .before .before .before .before .before .before .pre .3) (c .before .before .before .before .before .before .before .before .before .before .before .before .before .pre .6) (c .before .before .before .before .before .before .give-slots .last .0) (c .before .before .before .before .before .before .give-slots .ensures) (omega arith)
 
--- src/lib.rt:144:5
 take-slots-requires : tie.Need-take-slots-requires
 take-slots-requires c κs = search needs
 
--- src/lib.rt:145:5
 take-slots-requires-2 : tie.Need-take-slots-requires-2
 take-slots-requires-2 c κs = search needs
 
--- src/lib.rt:124:1
 same-length-3 : tie.Need-same-length-3
 same-length-3 c = search needs
 
--- src/lib.rt:124:1
 same-length-4 : tie.Need-same-length-4
 same-length-4 c = search needs
 
--- src/lib.rt:124:1
 same-length-5 : tie.Need-same-length-5
 same-length-5 c = search needs
 
--- src/lib.rt:124:1
 returns-3 : tie.Need-returns-3
 returns-3 c =
     let l = c .before .before .before .before .before .before .before .before .before .before .before .before .before .before .before .before .before .longer .ensures in

@@ -5,31 +5,24 @@ use borrow.Author.Needs.{needs}
 use Rattle.settling.proofs.take_lowest.Statement.{statement}
 use Rattle.settling.proofs.take_lowest.Tie as tie
 
--- src/lib.rt:41:9
 next-run-requires : tie.Need-next-run-requires
 next-run-requires c κs = search needs
 
--- src/lib.rt:44:9
 same-length : tie.Need-same-length
 same-length c = search needs
 
--- src/lib.rt:44:9
 returns : tie.Need-returns
 returns c = (lowest-none (c .before .next-run .ensures) (c .if1 .taken), le-refl _)
 
--- src/lib.rt:46:34
 add-take-range : tie.Need-add-take-range
 add-take-range c = search needs
 
--- src/lib.rt:46:5
 take-range-requires : tie.Need-take-range-requires
 take-range-requires c κs = search needs
 
--- src/lib.rt:37:1
 same-length-2 : tie.Need-same-length-2
 same-length-2 c = search needs
 
--- src/lib.rt:37:1
 returns-2 : tie.Need-returns-2
 returns-2 c =
     let u = c .before .before .before .before .if1 .left in

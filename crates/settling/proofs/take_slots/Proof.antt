@@ -16,35 +16,27 @@ Inv-loop empty₀ n into₀ a b i₀ empty into i = (a ≤ i) × (i ≤ max a b)
 abbrev μ-loop : tie.MeasureT-loop
 μ-loop empty₀ n into₀ a b i₀ empty into i = b - i
 
--- src/lib.rt:56:5
 loop-holds : tie.Need-loop-holds Inv-loop μ-loop
 loop-holds c = (le-refl _, omega arith, refl, refl, λ h. refl, filled-none _ _ (c .before .before .args .into .now) (c .before .before .args .a))
 
--- src/lib.rt:57:19
 take-lowest-requires : tie.Need-take-lowest-requires Inv-loop μ-loop
 take-lowest-requires c κs = search needs
 
--- src/lib.rt:57:19
 cast-into : tie.Need-cast-into Inv-loop μ-loop
 cast-into c = search needs
 
--- src/lib.rt:57:9
 mul-into : tie.Need-mul-into Inv-loop μ-loop
 mul-into c = search needs
 
--- src/lib.rt:57:9
 slice-write-into : tie.Need-slice-write-into Inv-loop μ-loop
 slice-write-into c = search needs
 
--- src/lib.rt:58:9
 add-i : tie.Need-add-i Inv-loop μ-loop
 add-i c = search needs
 
--- src/lib.rt:56:5
 loop-less : tie.Need-loop-less Inv-loop μ-loop
 loop-less c = search needs
 
--- src/lib.rt:56:5
 loop-again : tie.Need-loop-again Inv-loop μ-loop
 loop-again c =
     let i = c .before .before .before .before .before .loop .inv in
@@ -58,19 +50,17 @@ loop-again c =
       filled-next (c .before .before .before .before .before .before .before .before .args .n) (c .before .before .before .before .before .before .before .before .args .empty .now) (c .before .before .before .before .before .loop .empty) _ (c .before .before .before .before .before .loop .into) (c .before .before .before .before .before .before .before .before .args .a) (c .before .before .before .before .before .loop .i) _ (i .0) (omega (arith, i .2)) (i .5) (c .before .before .take-lowest .ensures .0),
     )
 
--- src/lib.rt:51:1
 same-length : tie.Need-same-length Inv-loop μ-loop
 same-length c = search needs
 
--- src/lib.rt:51:1
 same-length-2 : tie.Need-same-length-2 Inv-loop μ-loop
 same-length-2 c = search needs
 
--- src/lib.rt:51:1
 returns : tie.Need-returns Inv-loop μ-loop
 returns c =
+    let top = c .before .before .before .before in
     let i = c .before .loop .inv in
-    filled (c .before .before .before .before .args .n) (c .before .before .before .before .args .empty .now) _ (c .before .before .before .before .args .into .now) _ (c .before .before .before .before .args .a) (c .before .before .before .before .args .b) (c .before .loop .i) (i .0) (i .1) (c .loop-test .left) (i .2) (i .3) (i .4) (i .5)
+    filled (top .args .n) (top .args .empty .now) _ (top .args .into .now) _ (top .args .a) (top .args .b) (c .before .loop .i) (i .0) (i .1) (c .loop-test .left) (i .2) (i .3) (i .4) (i .5)
 
 pub take-slots-spec : {M : Type 1} → statement M
 take-slots-spec =

@@ -14,39 +14,31 @@ Inv-loop table n k₀ k = (k ≤ n) × (highestSlot table n ≡ highestSlot tabl
 abbrev μ-loop : tie.MeasureT-loop
 μ-loop table n k₀ k = k
 
--- src/lib.rt:41:5
 loop-holds : tie.Need-loop-holds Inv-loop μ-loop
 loop-holds c = (le-refl _, refl)
 
--- src/lib.rt:42:9
 sub-k : tie.Need-sub-k Inv-loop μ-loop
 sub-k c = search needs
 
--- src/lib.rt:43:13
 record-at-requires : tie.Need-record-at-requires Inv-loop μ-loop
 record-at-requires c κs = search needs
 
--- src/lib.rt:44:12
 shared-slice-read-if1 : tie.Need-shared-slice-read-if1 Inv-loop μ-loop
 shared-slice-read-if1 c = search needs
 
--- src/lib.rt:45:13
 returns : tie.Need-returns Inv-loop μ-loop
 returns c =
     let u = c .before .before .before .loop-test .taken in
     sym (c .before .before .before .before .loop .inv .1 ∙ highest-hit _ _ (c .before .before .before .before .loop .k) (c .before .before .before .before .loop .k - 1) (omega arith) (c .before .before .record-at .ensures .0) (c .if1 .taken))
 
--- src/lib.rt:41:5
 loop-less : tie.Need-loop-less Inv-loop μ-loop
 loop-less c = search needs
 
--- src/lib.rt:41:5
 loop-again : tie.Need-loop-again Inv-loop μ-loop
 loop-again c =
     let u = c .before .before .before .loop-test .taken in
     (omega arith, c .before .before .before .before .loop .inv .1 ∙ highest-miss _ _ (c .before .before .before .before .loop .k) (c .before .before .before .before .loop .k - 1) (omega arith) (c .before .before .record-at .ensures .0) (c .if1 .left))
 
--- src/lib.rt:36:1
 returns-2 : tie.Need-returns-2 Inv-loop μ-loop
 returns-2 c = sym (c .before .loop .inv .1 ∙ highest-none _ (c .before .loop .k) (omega arith))
 

@@ -16,42 +16,33 @@ Inv-loop table n empty count₀ at₀ count at = (at ≤ n) × (count ≤ at) ×
 abbrev μ-loop : tie.MeasureT-loop
 μ-loop table n empty count₀ at₀ count at = n - at
 
--- src/lib.rt:22:5
 loop-holds : tie.Need-loop-holds Inv-loop μ-loop
 loop-holds c = (omega arith, omega arith, omega arith, λ k h. absurd (omega arith))
 
--- src/lib.rt:23:13
 next-run-requires : tie.Need-next-run-requires Inv-loop μ-loop
 next-run-requires c κs = search needs
 
--- src/lib.rt:24:17
 sub-c : tie.Need-sub-c Inv-loop μ-loop
 sub-c c = search needs
 
--- src/lib.rt:25:35
 mul-part-is : tie.Need-mul-part-is Inv-loop μ-loop
 mul-part-is c = search needs
 
--- src/lib.rt:25:52
 mul-part-is-2 : tie.Need-mul-part-is-2 Inv-loop μ-loop
 mul-part-is-2 c = search needs
 
--- src/lib.rt:25:12
 part-is-requires : tie.Need-part-is-requires Inv-loop μ-loop
 part-is-requires c κs = search needs
 
--- src/lib.rt:26:13
 add-count : tie.Need-add-count Inv-loop μ-loop
 add-count c = search needs
 
--- src/lib.rt:22:5
 loop-less : tie.Need-loop-less Inv-loop μ-loop
 loop-less c =
     let r = c .before .before .before .before .next-run .ensures in
     let h = r .high in
     omega (arith, goes-on r (c .before .before .before .before .before .loop-test .taken))
 
--- src/lib.rt:22:5
 loop-again : tie.Need-loop-again Inv-loop μ-loop
 loop-again c =
     let r = c .before .before .before .before .next-run .ensures in
@@ -62,14 +53,12 @@ loop-again c =
     let e = run-total r in
     (h, omega arith, omega (arith, i .2), zero-next (c .before .before .before .before .before .before .before .before .before .args .table .now) r (c .before .before .before .before .before .before .before .before .before .pre .0) (sym (c .before .part-is .ensures) ∙ c .if1 .taken) (i .3))
 
--- src/lib.rt:29:13
 returns : tie.Need-returns Inv-loop μ-loop
 returns c =
     let r = c .before .before .before .before .next-run .ensures in
     let i = c .before .before .before .before .before .before .loop .inv in
     spared-not (c .before .before .before .before .before .before .before .before .before .args .table .now) (c .before .before .before .before .before .before .before .before .before .args .empty .now) (c .before .before .before .before .before .before .before .before .before .args .n) (c .before .before .before .before .before .before .loop .count) (omega arith) (zero-not (c .before .before .before .before .before .before .before .before .before .args .table .now) r (c .before .before .before .before .before .before .before .before .before .pre .0) (sym (c .before .part-is .ensures) ∙ c .if1 .left))
 
--- src/lib.rt:16:1
 returns-2 : tie.Need-returns-2 Inv-loop μ-loop
 returns-2 c =
     let i = c .before .loop .inv in

@@ -15,33 +15,36 @@ use Rattle.table.proofs.look.Lts as lts
 use Rattle.fields.proofs.record_at.Reads as record-at-reads
 use Rattle.label_check.proofs.take_label.Reads as take-label-reads
 
--- src/lib.rt:19:9
 record-at-requires : tie.Need-record-at-requires
 record-at-requires c κs = search needs
 
--- src/lib.rt:20:8
 shared-slice-read-if1 : tie.Need-shared-slice-read-if1
 shared-slice-read-if1 c = search needs
 
--- src/lib.rt:21:9
 returns : tie.Need-returns
-returns c = look-other (geometryOf (c .before .before .before .before .before .before .args .g)) (c .before .before .before .before .before .before .args .table .now) (c .before .before .before .before .before .before .args .map .now) (c .before .before .before .before .before .before .args .empty .now) (c .before .before .before .before .before .before .args .k) (subst (λ (x : List ℕ). isLabel x ≡ false) (c .before .before .record-at .ensures .0) (ne-eqb _ _ (c .if1 .taken)))
+returns c =
+    let top = c .before .before .before .before .before .before in
+    look-other (geometryOf (top .args .g)) (top .args .table .now) (top .args .map .now) (top .args .empty .now) (top .args .k) (subst (λ (x : List ℕ). isLabel x ≡ false) (c .before .before .record-at .ensures .0) (ne-eqb _ _ (c .if1 .taken)))
 
--- src/lib.rt:23:5
 take-label-requires : tie.Need-take-label-requires
-take-label-requires c κs = (record { limits = c .before .before .before .before .before .before .before .before .pre .0; long = c .before .before .before .before .before .before .before .before .pre .1; low = c .before .before .before .before .before .before .before .before .pre .2; high = c .before .before .before .before .before .before .before .before .pre .3; id = ap (λ (x : List ℕ). getD x 44 0) (sym (c .before .before .before .before .record-at .ensures .0)) ∙ c .before .before .if1 .left }, c .before .before .before .before .before .before .before .before .pre .4, c .before .before .before .before .before .before .before .before .pre .5)
+take-label-requires c κs =
+    let at-record-at = c .before .before .before .before in
+    let top = at-record-at .before .before .before .before in
+    (record { limits = top .pre .0; long = top .pre .1; low = top .pre .2; high = top .pre .3; id = ap (λ (x : List ℕ). getD x 44 0) (sym (at-record-at .record-at .ensures .0)) ∙ c .before .before .if1 .left }, top .pre .4, top .pre .5)
 
--- src/lib.rt:15:1
 same-length : tie.Need-same-length
 same-length c = search needs
 
--- src/lib.rt:15:1
 same-length-2 : tie.Need-same-length-2
 same-length-2 c = search needs
 
--- src/lib.rt:15:1
 returns-2 : tie.Need-returns-2
-returns-2 c = look-label (geometryOf (c .before .before .before .before .before .before .before .before .before .before .before .before .before .args .g)) (c .before .before .before .before .before .before .before .before .before .before .before .before .before .args .table .now) (c .before .before .before .before .before .before .before .before .before .before .before .before .before .args .map .now) _ (c .before .before .before .before .before .before .before .before .before .before .before .before .before .args .empty .now) _ (c .before .before .before .before .before .before .before .before .before .before .before .before .before .args .k) (c .before .before .before .before .take-label .result) (subst (λ (x : List ℕ). isLabel x ≡ true) (c .before .before .before .before .before .before .before .before .before .record-at .ensures .0) (eq-eqb _ _ (c .before .before .before .before .before .before .before .if1 .left))) (c .before .before .before .before .take-label .ensures)
+returns-2 c =
+    let at-take-label = c .before .before .before .before in
+    let at-if1 = at-take-label .before .before .before in
+    let at-record-at = at-if1 .before .before in
+    let top = at-record-at .before .before .before .before in
+    look-label (geometryOf (top .args .g)) (top .args .table .now) (top .args .map .now) _ (top .args .empty .now) _ (top .args .k) (at-take-label .take-label .result) (subst (λ (x : List ℕ). isLabel x ≡ true) (at-record-at .record-at .ensures .0) (eq-eqb _ _ (at-if1 .if1 .left))) (at-take-label .take-label .ensures)
 
 pub look-spec : {M : Type 1} → statement M
 look-spec =

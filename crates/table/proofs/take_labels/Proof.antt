@@ -23,36 +23,29 @@ Inv-loop table g map₀ empty₀ n tags₀ seen₀ k₀ map empty tags seen k =
 abbrev μ-loop : tie.MeasureT-loop
 μ-loop table g map₀ empty₀ n tags₀ seen₀ k₀ map empty tags seen k = n - k
 
--- src/lib.rt:32:14
 mul-n : tie.Need-mul-n Inv-loop μ-loop
 mul-n c = search needs
 
--- src/lib.rt:32:13
 cast-n : tie.Need-cast-n Inv-loop μ-loop
 cast-n c = search needs
 
--- src/lib.rt:36:5
 loop-holds : tie.Need-loop-holds Inv-loop μ-loop
 loop-holds c =
     let a = c .before .before .before .before in
     (omega arith, omega (arith, a .pre .0 .least), refl, refl, refl, scan-start (geometryOf (a .args .g)) (a .args .table .now) (a .args .map .now) (a .args .empty .now) (a .pre .2), entering-start (a .args .table .now) _ _ (slots (geometryOf (a .args .g))) (a .pre .2) (omega (arith, a .pre .0 .least)) refl refl)
 
--- src/lib.rt:37:12
 look-requires : tie.Need-look-requires Inv-loop μ-loop
 look-requires c κs =
     let a = c .before .before .before .before .before .before .before .before in
     let l = c .before .before .before .loop .inv in
     (a .pre .0, a .pre .1, l .0, omega arith, omega (arith, l .3, a .pre .3), l .4 ∙ a .pre .4)
 
--- src/lib.rt:38:13
 same-length : tie.Need-same-length Inv-loop μ-loop
 same-length c = search needs
 
--- src/lib.rt:38:13
 same-length-2 : tie.Need-same-length-2 Inv-loop μ-loop
 same-length-2 c = search needs
 
--- src/lib.rt:38:13
 returns : tie.Need-returns Inv-loop μ-loop
 returns c =
     let a = c .before .before .before .before .before .before .before .before .before .before .before .before .before .before in
@@ -61,15 +54,12 @@ returns c =
     taken-wrong (geometryOf (a .args .g)) (a .args .table .now) (a .args .map .now) (k .last .1 .1 .1 .0) (a .args .empty .now) (k .last .1 .1 .1 .1 .0) (slots (geometryOf (a .args .g)))
     (scan-stop (geometryOf (a .args .g)) (a .args .table .now) (a .args .map .now) (l .map) (k .last .1 .1 .1 .0) (a .args .empty .now) (l .empty) (k .last .1 .1 .1 .1 .0) (l .k) (l .inv .5) (k .result) (slots (geometryOf (a .args .g))) (c .if1 .left) (omega arith) (k .ensures))
 
--- src/lib.rt:40:35
 slice-aggregate-enter : tie.Need-slice-aggregate-enter Inv-loop μ-loop
 slice-aggregate-enter c = search needs
 
--- src/lib.rt:40:46
 slice-aggregate-enter-2 : tie.Need-slice-aggregate-enter-2 Inv-loop μ-loop
 slice-aggregate-enter-2 c = search needs
 
--- src/lib.rt:40:12
 enter-requires : tie.Need-enter-requires Inv-loop μ-loop
 enter-requires c κs =
     let a = c .before .before .before .before .before .before .before .before .before .before .before .before .before .before .before .before in
@@ -77,15 +67,12 @@ enter-requires c κs =
     let e = l .inv .6 in
     (omega arith, omega (arith, e .long, a .pre .0 .most), e .tagged, e .wide, e .marked)
 
--- src/lib.rt:41:13
 add-k : tie.Need-add-k Inv-loop μ-loop
 add-k c = search needs
 
--- src/lib.rt:36:5
 loop-less : tie.Need-loop-less Inv-loop μ-loop
 loop-less c = search needs
 
--- src/lib.rt:36:5
 loop-again : tie.Need-loop-again Inv-loop μ-loop
 loop-again c =
     let a = c .before .before .before .before .before .before .before .before .before .before .before .before .before .before .before .before .before .before .before .before in
@@ -101,34 +88,34 @@ loop-again c =
       entering-next (a .args .table .now) (l .tags) _ (l .seen) _ (l .k) (slots (geometryOf (a .args .g))) (l .inv .6) (c .before .before .before .before .before .before .before .before .before .before .before .before .before .before .loop-test .taken) (e .result) (e .ensures) (c .if2 .taken),
     )
 
--- src/lib.rt:43:13
 same-length-3 : tie.Need-same-length-3 Inv-loop μ-loop
 same-length-3 c = search needs
 
--- src/lib.rt:43:13
 same-length-4 : tie.Need-same-length-4 Inv-loop μ-loop
 same-length-4 c = search needs
 
--- src/lib.rt:43:13
 returns-2 : tie.Need-returns-2 Inv-loop μ-loop
 returns-2 c =
-    let a = c .before .before .before .before .before .before .before .before .before .before .before .before .before .before .before .before .before .before .before .before in
-    let l = c .before .before .before .before .before .before .before .before .before .before .before .before .before .before .before .loop in
-    let k = c .before .before .before .before .before .before .before .before .before .before .before .look in
-    let e = c .before .before .before .enter in
+    let at-enter = c .before .before .before in
+    let at-if1 = at-enter .before .before .before in
+    let at-look = at-if1 .before .before .before .before .before in
+    let at-loop-test = at-look .before .before .before in
+    let at-loop = at-loop-test .before in
+    let top = at-loop .before .before .before .before .before in
+    let a = top in
+    let l = at-loop .loop in
+    let k = at-look .look in
+    let e = at-enter .enter in
     taken-twice (geometryOf (a .args .g)) (a .args .table .now) (a .args .map .now) (k .last .1 .1 .1 .0) (a .args .empty .now) (k .last .1 .1 .1 .1 .0) (l .k + 1) (slots (geometryOf (a .args .g)))
-    (scan-next (geometryOf (a .args .g)) (a .args .table .now) (a .args .map .now) (l .map) (k .last .1 .1 .1 .0) (a .args .empty .now) (l .empty) (k .last .1 .1 .1 .1 .0) (l .k) (l .inv .5) (k .result) (c .before .before .before .before .before .before .if1 .taken) (k .ensures))
-    (entering-stop (a .args .table .now) (l .tags) _ (l .seen) _ (l .k) (slots (geometryOf (a .args .g))) (l .inv .6) (c .before .before .before .before .before .before .before .before .before .before .before .before .before .before .loop-test .taken) (e .result) (e .ensures) (c .if2 .left))
+    (scan-next (geometryOf (a .args .g)) (a .args .table .now) (a .args .map .now) (l .map) (k .last .1 .1 .1 .0) (a .args .empty .now) (l .empty) (k .last .1 .1 .1 .1 .0) (l .k) (l .inv .5) (k .result) (at-if1 .if1 .taken) (k .ensures))
+    (entering-stop (a .args .table .now) (l .tags) _ (l .seen) _ (l .k) (slots (geometryOf (a .args .g))) (l .inv .6) (at-loop-test .loop-test .taken) (e .result) (e .ensures) (c .if2 .left))
 
--- src/lib.rt:28:1
 same-length-5 : tie.Need-same-length-5 Inv-loop μ-loop
 same-length-5 c = search needs
 
--- src/lib.rt:28:1
 same-length-6 : tie.Need-same-length-6 Inv-loop μ-loop
 same-length-6 c = search needs
 
--- src/lib.rt:28:1
 returns-3 : tie.Need-returns-3 Inv-loop μ-loop
 returns-3 c =
     let a = c .before .before .before .before .before .before in

@@ -16,74 +16,71 @@ use Rattle.forms.proofs.geometry_of.Reads as geometry-of-reads
 use Rattle.forms.proofs.limits.Reads as limits-reads
 use Rattle.table_check.proofs.contents_ok.Reads as contents-ok-reads
 
--- src/lib.rt:67:9
 returns : tie.Need-returns
-returns c = too-short (c .before .before .before .before .args .table .now) (c .before .before .before .before .args .map .now) (c .before .before .before .before .args .empty .now) (c .if1 .taken)
+returns c =
+    let top = c .before .before .before .before in
+    too-short (top .args .table .now) (top .args .map .now) (top .args .empty .now) (c .if1 .taken)
 
--- src/lib.rt:69:9
 record-at-requires : tie.Need-record-at-requires
 record-at-requires c κs = search needs
 
--- src/lib.rt:70:8
 shared-slice-read-if2 : tie.Need-shared-slice-read-if2
 shared-slice-read-if2 c = search needs
 
--- src/lib.rt:71:9
 returns-2 : tie.Need-returns-2
 returns-2 c = no-four (c .before .before .before .before .before .before .before .args .table .now) (c .before .before .before .before .before .before .before .args .map .now) (c .before .before .before .before .before .before .before .args .empty .now) (c .before .before .record-at .result .now) (omega (arith, c .before .before .before .if1 .left)) (c .before .before .record-at .ensures .0) (c .if2 .taken)
 
--- src/lib.rt:73:9
 geometry-of-requires : tie.Need-geometry-of-requires
 geometry-of-requires c κs = search needs
 
--- src/lib.rt:74:8
 limits-requires : tie.Need-limits-requires
 limits-requires c κs = search needs
 
--- src/lib.rt:75:9
 returns-3 : tie.Need-returns-3
 returns-3 c =
     out-of-limits (c .before .before .before .before .before .before .before .before .before .before .args .table .now) (c .before .before .before .before .before .before .before .before .before .before .args .map .now) (c .before .before .before .before .before .before .before .before .before .before .args .empty .now) (geometryOf (c .before .before .geometry-of .result)) (omega (arith, c .before .before .before .before .before .before .if1 .left)) (c .before .before .geometry-of .ensures ∙ ap readGeometry (c .before .before .before .before .before .record-at .ensures .0)) (sym (c .before .limits .ensures) ∙ c .if3 .left)
 
--- src/lib.rt:77:30
 mul-if4 : tie.Need-mul-if4
 mul-if4 c = omega (arith, limits→ (geometryOf (c .before .before .before .geometry-of .result)) (true-is (sym (c .before .before .limits .ensures) ∙ c .before .if3 .taken)) .most)
 
--- src/lib.rt:77:29
 cast-if4 : tie.Need-cast-if4
 cast-if4 c = omega (arith, limits→ (geometryOf (c .before .before .before .geometry-of .result)) (true-is (sym (c .before .before .limits .ensures) ∙ c .before .if3 .taken)) .most)
 
--- src/lib.rt:77:23
 mul-if4-2 : tie.Need-mul-if4-2
 mul-if4-2 c = omega (arith, limits→ (geometryOf (c .before .before .before .geometry-of .result)) (true-is (sym (c .before .before .limits .ensures) ∙ c .before .if3 .taken)) .most)
 
--- src/lib.rt:78:9
 returns-4 : tie.Need-returns-4
 returns-4 c =
     wrong-length (c .before .before .before .before .before .before .before .before .before .before .before .before .args .table .now) (c .before .before .before .before .before .before .before .before .before .before .before .before .args .map .now) (c .before .before .before .before .before .before .before .before .before .before .before .before .args .empty .now) (geometryOf (c .before .before .before .before .geometry-of .result)) (omega (arith, c .before .before .before .before .before .before .before .before .if1 .left)) (c .before .before .before .before .geometry-of .ensures ∙ ap readGeometry (c .before .before .before .before .before .before .before .record-at .ensures .0)) (c .if4 .taken)
 
--- src/lib.rt:80:5
 contents-ok-requires : tie.Need-contents-ok-requires
 contents-ok-requires c κs =
-    let b = c .before .before .before .before .before .before in
+    let at-if3 = c .before .before .before .before in
+    let at-limits = at-if3 .before in
+    let top = at-limits .before in
+    let b = top in
     let a = b .before .before .before .before .before .before .before .before in
-    let l = limits→ (geometryOf (b .geometry-of .result)) (true-is (sym (c .before .before .before .before .before .limits .ensures) ∙ c .before .before .before .before .if3 .taken)) in
+    let l = limits→ (geometryOf (b .geometry-of .result)) (true-is (sym (at-limits .limits .ensures) ∙ at-if3 .if3 .taken)) in
     let e = b .before .before .before .record-at .ensures .0 in
     (l, c .before .before .if4 .left, no-label (a .args .table .now) (b .before .before .before .record-at .result .now) e (b .before .if2 .left), free-for (a .args .table .now) (a .args .map .now) _ (a .pre .0) (b .geometry-of .ensures ∙ ap readGeometry e) l, room-for (a .args .table .now) (a .args .map .now) _ (a .pre .0) (b .geometry-of .ensures ∙ ap readGeometry e) l, a .pre .1)
 
--- src/lib.rt:62:1
 same-length : tie.Need-same-length
 same-length c = search needs
 
--- src/lib.rt:62:1
 same-length-2 : tie.Need-same-length-2
 same-length-2 c = search needs
 
--- src/lib.rt:62:1
 returns-5 : tie.Need-returns-5
 returns-5 c =
-    contents-decide (c .before .before .before .before .before .before .before .before .before .before .before .before .before .before .before .before .before .before .before .args .table .now) (c .before .before .before .before .before .before .before .before .before .before .before .before .before .before .before .before .before .before .before .args .map .now) _ (c .before .before .before .before .before .before .before .before .before .before .before .before .before .before .before .before .before .before .before .args .empty .now) _ (geometryOf (c .before .before .before .before .before .before .before .before .before .before .before .geometry-of .result)) (c .before .before .before .before .contents-ok .result) (limits→ (geometryOf (c .before .before .before .before .before .before .before .before .before .before .before .geometry-of .result)) (true-is (sym (c .before .before .before .before .before .before .before .before .before .before .limits .ensures) ∙ c .before .before .before .before .before .before .before .before .before .if3 .taken)))
-    (c .before .before .before .before .before .before .before .before .before .before .before .geometry-of .ensures ∙ ap readGeometry (c .before .before .before .before .before .before .before .before .before .before .before .before .before .before .record-at .ensures .0)) (c .before .before .before .before .before .before .before .if4 .left) (c .before .before .before .before .contents-ok .ensures)
+    let at-contents-ok = c .before .before .before .before in
+    let at-if4 = at-contents-ok .before .before .before in
+    let at-if3 = at-if4 .before .before in
+    let at-limits = at-if3 .before in
+    let at-geometry-of = at-limits .before in
+    let at-record-at = at-geometry-of .before .before .before in
+    let top = at-record-at .before .before .before .before .before in
+    contents-decide (top .args .table .now) (top .args .map .now) _ (top .args .empty .now) _ (geometryOf (at-geometry-of .geometry-of .result)) (at-contents-ok .contents-ok .result) (limits→ (geometryOf (at-geometry-of .geometry-of .result)) (true-is (sym (at-limits .limits .ensures) ∙ at-if3 .if3 .taken)))
+    (at-geometry-of .geometry-of .ensures ∙ ap readGeometry (at-record-at .record-at .ensures .0)) (at-if4 .if4 .left) (at-contents-ok .contents-ok .ensures)
 
 pub check-spec : {M : Type 1} → statement M
 check-spec =

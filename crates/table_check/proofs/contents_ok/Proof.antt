@@ -10,68 +10,68 @@ use Rattle.table.proofs.take_labels.Reads as take-labels-reads
 use Rattle.table_check.proofs.begin_maps.Reads as begin-maps-reads
 use Rattle.table_check.proofs.rest_ok.Reads as rest-ok-reads
 
--- src/lib.rt:63:5
 begin-maps-requires : tie.Need-begin-maps-requires
 begin-maps-requires c κs = search needs
 
--- src/lib.rt:64:8
 take-labels-requires : tie.Need-take-labels-requires
 take-labels-requires c κs = search needs
 
--- src/lib.rt:65:9
 same-length : tie.Need-same-length
 same-length c = search needs
 
--- src/lib.rt:65:9
 same-length-2 : tie.Need-same-length-2
 same-length-2 c = search needs
 
--- src/lib.rt:65:9
 returns : tie.Need-returns
 returns c =
-    let a = c .before .before .before .before .before .before .before .before .before .before .before .before .before .before .before .before .before .before in
-    let l = c .before .before .before .before .before .take-labels in
-    labels-wrong (geometryOf (a .args .g)) (a .pre .0) (a .args .table .now) (a .pre .1) (a .args .map .now) _ _ (a .args .empty .now) _ _ (c .before .before .before .before .before .before .before .before .before .before .before .before .begin-maps .ensures) (l .result) (c .if1 .left) (l .ensures)
+    let at-take-labels = c .before .before .before .before .before in
+    let at-begin-maps = at-take-labels .before .before .before .before .before .before .before in
+    let top = at-begin-maps .before .before .before .before .before .before in
+    let a = top in
+    let l = at-take-labels .take-labels in
+    labels-wrong (geometryOf (a .args .g)) (a .pre .0) (a .args .table .now) (a .pre .1) (a .args .map .now) _ _ (a .args .empty .now) _ _ (at-begin-maps .begin-maps .ensures) (l .result) (c .if1 .left) (l .ensures)
 
--- src/lib.rt:67:8
 take-chain-requires : tie.Need-take-chain-requires
 take-chain-requires c κs = search needs
 
--- src/lib.rt:68:9
 same-length-3 : tie.Need-same-length-3
 same-length-3 c = search needs
 
--- src/lib.rt:68:9
 same-length-4 : tie.Need-same-length-4
 same-length-4 c = search needs
 
--- src/lib.rt:68:9
 returns-2 : tie.Need-returns-2
 returns-2 c =
-    let a = c .before .before .before .before .before .before .before .before .before .before .before .before .before .before .before .before .before .before .before .before .before .before .before .before in
-    let l = c .before .before .before .before .before .before .before .before .before .before .before .take-labels in
-    let z = c .before .before .before .take-chain in
-    chain-wrong (geometryOf (a .args .g)) (a .pre .0) (a .args .table .now) (a .pre .1) (a .args .map .now) _ _ (a .args .empty .now) _ _ (c .before .before .before .before .before .before .before .before .before .before .before .before .before .before .before .before .before .before .begin-maps .ensures) (l .result) (c .before .before .before .before .before .before .if1 .taken) (l .ensures) _ (z .result) (z .ensures) (c .if2 .left)
+    let at-take-chain = c .before .before .before in
+    let at-if1 = at-take-chain .before .before .before in
+    let at-take-labels = at-if1 .before .before .before .before .before in
+    let at-begin-maps = at-take-labels .before .before .before .before .before .before .before in
+    let top = at-begin-maps .before .before .before .before .before .before in
+    let a = top in
+    let l = at-take-labels .take-labels in
+    let z = at-take-chain .take-chain in
+    chain-wrong (geometryOf (a .args .g)) (a .pre .0) (a .args .table .now) (a .pre .1) (a .args .map .now) _ _ (a .args .empty .now) _ _ (at-begin-maps .begin-maps .ensures) (l .result) (at-if1 .if1 .taken) (l .ensures) _ (z .result) (z .ensures) (c .if2 .left)
 
--- src/lib.rt:70:5
 rest-ok-requires : tie.Need-rest-ok-requires
 rest-ok-requires c κs = search needs
 
--- src/lib.rt:59:1
 same-length-5 : tie.Need-same-length-5
 same-length-5 c = search needs
 
--- src/lib.rt:59:1
 same-length-6 : tie.Need-same-length-6
 same-length-6 c = search needs
 
--- src/lib.rt:59:1
 returns-3 : tie.Need-returns-3
 returns-3 c =
-    let a = c .before .before .before .before .before .before .before .before .before .before .before .before .before .before .before .before .before .before .before .before .before .before .before .before .before .before in
-    let l = c .before .before .before .before .before .before .before .before .before .before .before .before .before .take-labels in
-    let z = c .before .before .before .before .before .take-chain in
-    rest-decides (geometryOf (a .args .g)) (a .pre .0) (a .args .table .now) (a .pre .1) (a .args .map .now) _ _ (a .args .empty .now) _ _ (c .before .before .before .before .before .before .before .before .before .before .before .before .before .before .before .before .before .before .before .before .begin-maps .ensures) (l .result) (c .before .before .before .before .before .before .before .before .if1 .taken) (l .ensures) _ (z .result) (z .ensures) (c .before .before .if2 .taken) (c .rest-ok .result) (c .rest-ok .ensures)
+    let at-take-chain = c .before .before .before .before .before in
+    let at-if1 = at-take-chain .before .before .before in
+    let at-take-labels = at-if1 .before .before .before .before .before in
+    let at-begin-maps = at-take-labels .before .before .before .before .before .before .before in
+    let top = at-begin-maps .before .before .before .before .before .before in
+    let a = top in
+    let l = at-take-labels .take-labels in
+    let z = at-take-chain .take-chain in
+    rest-decides (geometryOf (a .args .g)) (a .pre .0) (a .args .table .now) (a .pre .1) (a .args .map .now) _ _ (a .args .empty .now) _ _ (at-begin-maps .begin-maps .ensures) (l .result) (at-if1 .if1 .taken) (l .ensures) _ (z .result) (z .ensures) (c .before .before .if2 .taken) (c .rest-ok .result) (c .rest-ok .ensures)
 
 pub contents-ok-spec : {M : Type 1} → statement M
 contents-ok-spec =

@@ -4,15 +4,12 @@ use Rattle.table_check.proofs.good_length.Tie as tie
 use Rattle.table_check.proofs.good_length.Reads as reads
 use Rattle.table_check.proofs.good_length.Lts as lts
 
--- src/lib.rt:136:9
 returns : tie.Need-returns
 returns c = odd-length (c .before .args .table .now) (c .if1 .taken)
 
--- src/lib.rt:140:9
 returns-2 : tie.Need-returns-2
 returns-2 c = few-records (c .before .before .args .table .now) (c .before .if1 .left) (c .if2 .taken)
 
--- src/lib.rt:132:1
 returns-3 : tie.Need-returns-3
 returns-3 c = some-records (c .before .before .args .table .now) (c .before .if1 .left) (c .if2 .left)
 

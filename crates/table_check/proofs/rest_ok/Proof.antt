@@ -16,27 +16,23 @@ use Rattle.records.proofs.four.Reads as four-reads
 use Rattle.spare.proofs.highest.Reads as highest-reads
 use Rattle.spare.proofs.spare.Reads as spare-reads
 
--- src/lib.rt:33:14
 mul-n : tie.Need-mul-n
 mul-n c = search needs
 
--- src/lib.rt:33:13
 cast-n : tie.Need-cast-n
 cast-n c = search needs
 
--- src/lib.rt:34:9
 spare-requires : tie.Need-spare-requires
 spare-requires c κs = search needs
 
--- src/lib.rt:36:9
 returns : tie.Need-returns
-returns c = rest-unclear (geometryOf (c .before .before .before .before .before .args .g)) (c .before .before .before .before .before .args .table .now) (c .before .before .before .before .before .args .empty .now) (c .before .spare .result .clear) (c .before .spare .result .count) (c .before .spare .ensures) (c .if1 .left)
+returns c =
+    let top = c .before .before .before .before .before in
+    rest-unclear (geometryOf (top .args .g)) (top .args .table .now) (top .args .empty .now) (c .before .spare .result .clear) (c .before .spare .result .count) (c .before .spare .ensures) (c .if1 .left)
 
--- src/lib.rt:38:9
 highest-requires : tie.Need-highest-requires
 highest-requires c κs = search needs
 
--- src/lib.rt:39:16
 four-requires : tie.Need-four-requires
 four-requires c κs = (
   subst (λ (x : ℕ). x < slots (geometryOf (c .before .before .before .before .before .before .args .g))) (sym (c .highest .ensures)) (highest-below (c .before .before .before .before .before .before .args .table .now) (slots (geometryOf (c .before .before .before .before .before .before .args .g))) (omega (arith, c .before .before .before .before .before .before .pre .0 .least))),
@@ -44,23 +40,24 @@ four-requires c κs = (
   c .before .before .before .before .before .before .pre .0,
 )
 
--- src/lib.rt:40:18
 slice-aggregate-same : tie.Need-slice-aggregate-same
 slice-aggregate-same c = search needs
 
--- src/lib.rt:40:25
 record-at-requires : tie.Need-record-at-requires
 record-at-requires c κs = search needs
 
--- src/lib.rt:40:5
 same-requires : tie.Need-same-requires
 same-requires c κs = search needs
 
--- src/lib.rt:29:1
 returns-2 : tie.Need-returns-2
 returns-2 c =
-    rest-told (geometryOf (c .before .before .before .before .before .before .before .before .before .before .args .g)) (c .before .before .before .before .before .before .before .before .before .before .args .table .now) (c .before .before .before .before .before .before .before .before .before .before .args .empty .now) (c .before .before .before .before .before .before .spare .result .clear) (c .before .before .before .before .before .before .spare .result .count) (c .before .before .before .before .before .before .spare .ensures) (c .before .before .before .before .before .if1 .taken)
-    (c .before .before .before .four .result) (c .before .record-at .result .now) (c .before .before .before .before .highest .result) (c .same .result) (c .before .before .before .before .highest .ensures) (c .before .before .before .four .ensures) (c .before .record-at .ensures .0) (c .same .ensures)
+    let at-four = c .before .before .before in
+    let at-highest = at-four .before in
+    let at-if1 = at-highest .before in
+    let at-spare = at-if1 .before in
+    let top = at-spare .before .before .before .before in
+    rest-told (geometryOf (top .args .g)) (top .args .table .now) (top .args .empty .now) (at-spare .spare .result .clear) (at-spare .spare .result .count) (at-spare .spare .ensures) (at-if1 .if1 .taken)
+    (at-four .four .result) (c .before .record-at .result .now) (at-highest .highest .result) (c .same .result) (at-highest .highest .ensures) (at-four .four .ensures) (c .before .record-at .ensures .0) (c .same .ensures)
 
 pub rest-ok-spec : {M : Type 1} → statement M
 rest-ok-spec =

@@ -17,31 +17,28 @@ Inv-loop map n out₀ at p₀ t₀ out p t = (t ≤ n) × (length out ≡ length
 abbrev μ-loop : tie.MeasureT-loop
 μ-loop map n out₀ at p₀ t₀ out p t = n - t
 
--- src/lib.rt:42:5
 loop-holds : tie.Need-loop-holds Inv-loop μ-loop
 loop-holds c = (omega arith, refl, free-start (c .before .before .args .map .now) (c .before .before .args .n) (c .before .before .args .at) (c .before .before .args .out .now))
 
--- src/lib.rt:43:13
 next-run-requires : tie.Need-next-run-requires Inv-loop μ-loop
 next-run-requires c κs = search needs
 
--- src/lib.rt:44:9
 put-free-requires : tie.Need-put-free-requires Inv-loop μ-loop
 put-free-requires c κs = let l = c .before .before .before .loop .inv in (omega (arith, l .1, l .2 .done .end, c .before .before .loop-test .taken, c .before .before .before .before .before .before .pre .2), c .before .next-run .ensures .low, omega (arith, c .before .next-run .ensures .high, c .before .before .before .before .before .before .pre .0))
 
--- src/lib.rt:42:5
 loop-less : tie.Need-loop-less Inv-loop μ-loop
 loop-less c = omega (arith, run-on _ _ _ _ _ (c .before .before .before .before .next-run .ensures) (c .before .before .before .before .before .loop-test .taken), c .before .before .before .before .next-run .ensures .high)
 
--- src/lib.rt:42:5
 loop-again : tie.Need-loop-again Inv-loop μ-loop
-loop-again c = let l = c .before .before .before .before .before .before .loop .inv in (c .before .before .before .before .next-run .ensures .high, c .before .before .put-free .ensures .long ∙ l .1, free-next (l .2) (c .before .before .before .before .before .loop-test .taken) (c .before .before .before .before .next-run .ensures) (c .before .before .put-free .ensures))
+loop-again c =
+    let at-next-run = c .before .before .before .before in
+    let at-loop-test = at-next-run .before in
+    let at-loop = at-loop-test .before in
+    let l = at-loop .loop .inv in (at-next-run .next-run .ensures .high, c .before .before .put-free .ensures .long ∙ l .1, free-next (l .2) (at-loop-test .loop-test .taken) (at-next-run .next-run .ensures) (c .before .before .put-free .ensures))
 
--- src/lib.rt:36:1
 same-length : tie.Need-same-length Inv-loop μ-loop
 same-length c = search needs
 
--- src/lib.rt:36:1
 returns : tie.Need-returns Inv-loop μ-loop
 returns c = let l = c .before .loop .inv in free-done (l .2) (l .0) (c .loop-test .left)
 

@@ -19,71 +19,62 @@ use Rattle.table_check.proofs.check.Reads as check-reads
 use Rattle.table_check.proofs.good_length.Reads as good-length-reads
 use Rattle.table_list.proofs.list_taken.Reads as list-taken-reads
 
--- src/lib.rt:156:8
 good-length-requires : tie.Need-good-length-requires
 good-length-requires c κs = search needs
 
--- src/lib.rt:157:9
 refusal-line-requires : tie.Need-refusal-line-requires
 refusal-line-requires c κs = search needs
 
--- src/lib.rt:157:9
 same-length : tie.Need-same-length
 same-length c = search needs
 
--- src/lib.rt:157:9
 returns : tie.Need-returns
 returns c = (c .before .before .refusal-line .ensures .long, c .before .before .refusal-line .ensures .text ∙ wrong-length (c .before .before .before .before .before .before .before .before .before .before .args .table .now) (sym (c .before .before .before .before .before .good-length .ensures) ∙ c .before .before .before .before .if1 .left), omega (arith, c .before .before .refusal-line .ensures .end))
 
--- src/lib.rt:159:8
 check-requires : tie.Need-check-requires
-check-requires c κs = (roomy-large (c .before .before .before .before .before .before .before .before .args .table .now) _ (c .before .before .before .before .before .before .before .before .pre .0), c .before .before .before .before .before .before .before .before .pre .1)
+check-requires c κs =
+    let top = c .before .before .before .before .before .before .before .before in
+    (roomy-large (top .args .table .now) _ (top .pre .0), top .pre .1)
 
--- src/lib.rt:160:9
 refusal-line-requires-2 : tie.Need-refusal-line-requires-2
 refusal-line-requires-2 c κs = search needs
 
--- src/lib.rt:160:9
 same-length-2 : tie.Need-same-length-2
 same-length-2 c = search needs
 
--- src/lib.rt:160:9
 same-length-3 : tie.Need-same-length-3
 same-length-3 c = search needs
 
--- src/lib.rt:160:9
 same-length-4 : tie.Need-same-length-4
 same-length-4 c = search needs
 
--- src/lib.rt:160:9
 returns-2 : tie.Need-returns-2
 returns-2 c = (c .before .before .refusal-line2 .ensures .long, c .before .before .refusal-line2 .ensures .text ∙ not-taken (c .before .before .before .before .before .before .before .before .before .before .before .before .before .before .before .before .before .before .args .table .now) (sym (c .before .before .before .before .before .before .before .before .before .before .before .before .before .good-length .ensures) ∙ c .before .before .before .before .before .before .before .before .before .before .before .before .if1 .taken) (sym (c .before .before .before .before .before .before .before .before .before .check .ensures .told) ∙ c .before .before .before .before .if2 .left), omega (arith, c .before .before .refusal-line2 .ensures .end))
 
--- src/lib.rt:162:32
 record-at-requires : tie.Need-record-at-requires
 record-at-requires c κs = omega (arith, good-long (c .before .before .before .before .before .before .before .before .before .before .before .before .before .before .args .table .now) (sym (c .before .before .before .before .before .before .before .before .before .good-length .ensures) ∙ c .before .before .before .before .before .before .before .before .if1 .taken))
 
--- src/lib.rt:162:9
 geometry-of-requires : tie.Need-geometry-of-requires
 geometry-of-requires c κs = search needs
 
--- src/lib.rt:163:5
 list-taken-requires : tie.Need-list-taken-requires
-list-taken-requires c κs = (ready (c .before .before .before .before .before .before .before .before .before .before .before .before .before .before .before .before .before .before .before .args .table .now) _ _ (geometryOf (c .before .before .before .geometry-of .result)) (true-is (sym (c .before .before .before .before .before .before .before .before .before .before .check .ensures .told) ∙ c .before .before .before .before .before .if2 .taken)) (c .before .before .before .before .before .before .before .before .before .before .check .ensures .shown (c .before .before .before .before .before .if2 .taken)) (c .before .before .before .geometry-of .ensures ∙ ap readGeometry (c .before .before .before .before .record-at .ensures .0)), c .before .before .before .before .before .before .before .before .before .before .check .ensures .longMap ∙ ap length (c .before .before .before .before .before .before .before .before .before .before .before .before .before .before .before .before .before .before .before .pre .0), c .before .before .before .before .before .before .before .before .before .before .check .ensures .longSlots ∙ c .before .before .before .before .before .before .before .before .before .before .before .before .before .before .before .before .before .before .before .pre .1, c .before .before .before .before .before .before .before .before .before .before .before .before .before .before .before .before .before .before .before .pre .2)
+list-taken-requires c κs =
+    let at-geometry-of = c .before .before .before in
+    let at-record-at = at-geometry-of .before in
+    let at-if2 = at-record-at .before in
+    let at-check = at-if2 .before .before .before .before .before in
+    let top = at-check .before .before .before .before .before .before .before .before .before in
+    (ready (top .args .table .now) _ _ (geometryOf (at-geometry-of .geometry-of .result)) (true-is (sym (at-check .check .ensures .told) ∙ at-if2 .if2 .taken)) (at-check .check .ensures .shown (at-if2 .if2 .taken)) (at-geometry-of .geometry-of .ensures ∙ ap readGeometry (at-record-at .record-at .ensures .0)), at-check .check .ensures .longMap ∙ ap length (top .pre .0), at-check .check .ensures .longSlots ∙ top .pre .1, top .pre .2)
 
--- src/lib.rt:152:1
 same-length-5 : tie.Need-same-length-5
 same-length-5 c = search needs
 
--- src/lib.rt:152:1
 same-length-6 : tie.Need-same-length-6
 same-length-6 c = search needs
 
--- src/lib.rt:152:1
 same-length-7 : tie.Need-same-length-7
 same-length-7 c = search needs
 
--- src/lib.rt:152:1
 returns-3 : tie.Need-returns-3
 returns-3 c = (c .before .before .list-taken .ensures .long, c .before .before .list-taken .ensures .text ∙ is-taken (c .before .before .before .before .before .before .before .before .before .before .before .before .before .before .before .before .before .before .before .before .before .before .args .table .now) (sym (c .before .before .before .before .before .before .before .before .before .before .before .before .before .before .before .before .before .good-length .ensures) ∙ c .before .before .before .before .before .before .before .before .before .before .before .before .before .before .before .before .if1 .taken) (sym (c .before .before .before .before .before .before .before .before .before .before .before .before .before .check .ensures .told) ∙ c .before .before .before .before .before .before .before .before .if2 .taken), omega (arith, c .before .before .list-taken .ensures .end))
 

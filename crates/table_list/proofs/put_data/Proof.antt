@@ -31,7 +31,9 @@ same-length : tie.Need-same-length
 same-length c = search needs
 
 returns : tie.Need-returns
-returns c = placed-64 (dataText (take 44 (c .before .before .before .before .before .before .before .args .f1 .now)) (c .before .before .before .before .before .before .before .args .many) (c .before .before .before .before .before .before .before .args .n)) (c .before .before .before .before .before .before .before .args .out .now) (c .before .before .data-line .last .0) (c .before .before .before .before .before .before .before .args .at) (c .before .before .data-line .result) (c .before .before .before .before .before .before .before .pre .3) (c .before .before .data-line .ensures)
+returns c =
+    let top = c .before .before .before .before .before .before .before in
+    placed-64 (dataText (take 44 (top .args .f1 .now)) (top .args .many) (top .args .n)) (top .args .out .now) (c .before .before .data-line .last .0) (top .args .at) (c .before .before .data-line .result) (top .pre .3) (c .before .before .data-line .ensures)
 
 pub put-data-spec : {M : Type 1} → statement M
 put-data-spec =

@@ -7,49 +7,41 @@ use Rattle.table_list.proofs.put_free.Reads as reads
 use Rattle.table_list.proofs.put_free.Lts as lts
 use Rattle.listing.proofs.free_line.Reads as free-line-reads
 
--- src/lib.rt:29:9
 returns : tie.Need-returns
 returns c = no-span (c .before .before .args .from) (c .before .before .args .to) (c .before .before .args .out .now) (c .before .before .args .at) (c .if1 .taken)
 
--- src/lib.rt:31:32
 sub-free-line : tie.Need-sub-free-line
 sub-free-line c = search needs
 
--- src/lib.rt:31:32
 part-free-line-start : tie.Need-part-free-line-start
 part-free-line-start c = search needs
 
--- src/lib.rt:31:32
 part-free-line-end : tie.Need-part-free-line-end
 part-free-line-end c = search needs
 
--- src/lib.rt:31:48
 cast-free-line : tie.Need-cast-free-line
 cast-free-line c = search needs
 
--- src/lib.rt:31:62
 sub-free-line-2 : tie.Need-sub-free-line-2
 sub-free-line-2 c = search needs
 
--- src/lib.rt:31:61
 cast-free-line-2 : tie.Need-cast-free-line-2
 cast-free-line-2 c = search needs
 
--- src/lib.rt:31:9
 free-line-requires : tie.Need-free-line-requires
 free-line-requires c κs = search needs
 
--- src/lib.rt:32:5
 add-result : tie.Need-add-result
 add-result c = search needs
 
--- src/lib.rt:24:1
 same-length : tie.Need-same-length
 same-length c = search needs
 
--- src/lib.rt:24:1
 returns-2 : tie.Need-returns-2
-returns-2 c = one-span (c .before .before .before .before .before .before .args .from) (c .before .before .before .before .before .before .args .to) (c .before .before .before .before .before .before .args .out .now) (c .before .before .free-line .last .0) (c .before .before .before .before .before .before .args .at) (c .before .before .free-line .result) (c .before .before .before .before .if1 .left) (c .before .before .before .before .before .before .pre .0) (c .before .before .free-line .ensures)
+returns-2 c =
+    let at-if1 = c .before .before .before .before in
+    let top = at-if1 .before .before in
+    one-span (top .args .from) (top .args .to) (top .args .out .now) (c .before .before .free-line .last .0) (top .args .at) (c .before .before .free-line .result) (at-if1 .if1 .left) (top .pre .0) (c .before .before .free-line .ensures)
 
 pub put-free-spec : {M : Type 1} → statement M
 put-free-spec =

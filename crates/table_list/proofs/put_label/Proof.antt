@@ -38,7 +38,14 @@ same-length : tie.Need-same-length
 same-length c = search needs
 
 returns : tie.Need-returns
-returns c = laws.reads (dataLine (labelAt (geometryOf (c .before .before .before .before .before .before .before .before .before .before .before .before .args .g)) (c .before .before .before .before .before .before .before .before .before .before .before .before .args .table .now) (c .before .before .before .before .before .before .before .before .before .before .before .before .args .k))) (text-is (geometryOf (c .before .before .before .before .before .before .before .before .before .before .before .before .args .g)) (c .before .before .before .before .before .before .before .before .before .before .before .before .args .table .now) (c .before .before .before .before .before .before .before .before .before .before .before .before .args .k) (c .before .before .before .before .before .before .before .before .third .result) (c .before .before .before .before .before .before .before .before .before .record-at .result .now) (c .before .before .before .before .before .before .before .before .before .before .before .before .pre .3) (c .before .before .before .before .before .before .before .before .before .record-at .ensures .0) (c .before .before .before .before .before .before .before .before .third .ensures) (c .before .before .before .before .before .before .before .record-at2 .result .now) (c .before .before .before .before .before .wide .result) (c .before .before .before .before .before .before .before .record-at2 .ensures .0) (c .before .before .before .before .before .wide .ensures .0) (c .before .before .before .before .tracks-of .result) (c .before .before .before .before .tracks-of .ensures)) (c .before .before .put-data .ensures)
+returns c =
+    let at-tracks-of = c .before .before .before .before in
+    let at-wide = at-tracks-of .before in
+    let at-record-at2 = at-wide .before .before in
+    let at-third = at-record-at2 .before in
+    let at-record-at = at-third .before in
+    let top = at-record-at .before .before .before in
+    laws.reads (dataLine (labelAt (geometryOf (top .args .g)) (top .args .table .now) (top .args .k))) (text-is (geometryOf (top .args .g)) (top .args .table .now) (top .args .k) (at-third .third .result) (at-record-at .record-at .result .now) (top .pre .3) (at-record-at .record-at .ensures .0) (at-third .third .ensures) (at-record-at2 .record-at2 .result .now) (at-wide .wide .result) (at-record-at2 .record-at2 .ensures .0) (at-wide .wide .ensures .0) (at-tracks-of .tracks-of .result) (at-tracks-of .tracks-of .ensures)) (c .before .before .put-data .ensures)
 
 pub put-label-spec : {M : Type 1} → statement M
 put-label-spec =

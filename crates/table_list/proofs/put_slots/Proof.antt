@@ -7,37 +7,31 @@ use Rattle.table_list.proofs.put_slots.Reads as reads
 use Rattle.table_list.proofs.put_slots.Lts as lts
 use Rattle.listing.proofs.slot_line.Reads as slot-line-reads
 
--- src/lib.rt:115:32
 sub-slot-line : tie.Need-sub-slot-line
 sub-slot-line c = search needs
 
--- src/lib.rt:115:32
 part-slot-line-start : tie.Need-part-slot-line-start
 part-slot-line-start c = search needs
 
--- src/lib.rt:115:32
 part-slot-line-end : tie.Need-part-slot-line-end
 part-slot-line-end c = search needs
 
--- src/lib.rt:115:48
 cast-slot-line : tie.Need-cast-slot-line
 cast-slot-line c = search needs
 
--- src/lib.rt:115:9
 slot-line-requires : tie.Need-slot-line-requires
 slot-line-requires c κs = search needs
 
--- src/lib.rt:116:5
 add-result : tie.Need-add-result
 add-result c = search needs
 
--- src/lib.rt:111:1
 same-length : tie.Need-same-length
 same-length c = search needs
 
--- src/lib.rt:111:1
 returns : tie.Need-returns
-returns c = placed-64 (slotLine (c .before .before .before .before .before .args .n)) (c .before .before .before .before .before .args .out .now) (c .before .before .slot-line .last .0) (c .before .before .before .before .before .args .at) (c .before .before .slot-line .result) (c .before .before .before .before .before .pre .0) (c .before .before .slot-line .ensures)
+returns c =
+    let top = c .before .before .before .before .before in
+    placed-64 (slotLine (top .args .n)) (top .args .out .now) (c .before .before .slot-line .last .0) (top .args .at) (c .before .before .slot-line .result) (top .pre .0) (c .before .before .slot-line .ensures)
 
 pub put-slots-spec : {M : Type 1} → statement M
 put-slots-spec =

@@ -10,41 +10,36 @@ use Rattle.fields.proofs.track_at.Reads as track-at-reads
 use Rattle.fields.proofs.wide.Reads as wide-reads
 use Rattle.table_list.proofs.less.Reads as less-reads
 
--- src/lib.rt:67:9
 track-at-requires : tie.Need-track-at-requires
 track-at-requires c κs = search needs
 
--- src/lib.rt:68:9
 less-requires : tie.Need-less-requires
 less-requires c κs = search needs
 
--- src/lib.rt:69:26
 shared-slice-read-wide : tie.Need-shared-slice-read-wide
 shared-slice-read-wide c = search needs
 
--- src/lib.rt:69:9
 wide-requires : tie.Need-wide-requires
 wide-requires c κs = search needs
 
--- src/lib.rt:70:10
 mul-less : tie.Need-mul-less
 mul-less c = omega (arith, product-fits (c .before .before .before .less .result) (c .before .before .before .before .before .before .args .g .records) (distance-most (c .before .before .before .less .result) (c .before .before .before .before .track-at .result) (c .before .before .before .before .before .before .args .g .heads) (c .before .before .before .less .ensures .1) (c .before .before .before .before .track-at .ensures .1) (c .before .before .before .before .before .before .pre .1 .headsMost)) (c .before .before .before .before .before .before .pre .1 .recordsMost))
 
--- src/lib.rt:70:10
 add-less : tie.Need-add-less
 add-less c = omega (arith, product-most (c .before .before .before .less .result) (c .before .before .before .before .before .before .args .g .records) (c .before .wide .result) (distance-most (c .before .before .before .less .result) (c .before .before .before .before .track-at .result) (c .before .before .before .before .before .before .args .g .heads) (c .before .before .before .less .ensures .1) (c .before .before .before .before .track-at .ensures .1) (c .before .before .before .before .before .before .pre .1 .headsMost)) (c .before .before .before .before .before .before .pre .1 .recordsMost) (omega (arith, c .before .wide .ensures .1)))
 
--- src/lib.rt:70:5
 less-requires-2 : tie.Need-less-requires-2
 less-requires-2 c κs = search needs
 
--- src/lib.rt:70:5
 cast-result : tie.Need-cast-result
 cast-result c = search needs
 
--- src/lib.rt:63:1
 returns : tie.Need-returns
-returns c = third-so (geometryOf (c .before .before .before .before .before .before .before .args .g)) (c .before .before .before .before .before .before .before .args .f1 .now) (c .before .before .before .before .before .track-at .result) (c .before .before .before .before .less .result) (c .before .before .wide .result) (c .less2 .result) (c .before .before .before .before .before .track-at .ensures .0) (c .before .before .before .before .less .ensures .0) (c .before .before .wide .ensures .0) (c .less2 .ensures .0)
+returns c =
+    let at-less = c .before .before .before .before in
+    let at-track-at = at-less .before in
+    let top = at-track-at .before .before in
+    third-so (geometryOf (top .args .g)) (top .args .f1 .now) (at-track-at .track-at .result) (at-less .less .result) (c .before .before .wide .result) (c .less2 .result) (at-track-at .track-at .ensures .0) (at-less .less .ensures .0) (c .before .before .wide .ensures .0) (c .less2 .ensures .0)
 
 pub third-spec : {M : Type 1} → statement M
 third-spec =

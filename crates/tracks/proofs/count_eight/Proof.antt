@@ -10,48 +10,40 @@ use Rattle.tracks.proofs.eight_plain.Reads as eight-plain-reads
 use Rattle.tracks.proofs.flip.Reads as flip-reads
 use Rattle.tracks.proofs.starts_in_eight.Reads as starts-in-eight-reads
 
--- src/lib.rt:399:28
 flip-requires : tie.Need-flip-requires
 flip-requires c κs = search needs
 
--- src/lib.rt:399:8
 eight-plain-requires : tie.Need-eight-plain-requires
 eight-plain-requires c κs = search needs
 
--- src/lib.rt:400:9
 returns : tie.Need-returns
 returns c =
     let a = c .before .before .before .before .args in
     eight-plain (a .map .now) (a .w) (a .from .runs) (a .from .last) (c .before .before .flip .result) (omega arith) (c .before .before .flip .ensures) (c .before .eight-plain .ensures (c .if1 .taken)) (c .before .before .before .before .pre .2)
 
--- src/lib.rt:402:28
 starts-in-eight-requires : tie.Need-starts-in-eight-requires
 starts-in-eight-requires c κs = search needs
 
--- src/lib.rt:402:16
 add-runs : tie.Need-add-runs
 add-runs c =
     let a = c .before .before .before .before .before .before .args in
     let k = c .before .before .before .before .before .before .pre .2 in
     omega (arith, k .runs, few-runs (a .map .now) (64 * a .w + 512), c .before .starts-in-eight .ensures)
 
--- src/lib.rt:405:19
 add-t9 : tie.Need-add-t9
 add-t9 c = search needs
 
--- src/lib.rt:405:15
 mul-t10 : tie.Need-mul-t10
 mul-t10 c = search needs
 
--- src/lib.rt:405:15
 shared-slice-read-t7 : tie.Need-shared-slice-read-t7
 shared-slice-read-t7 c = search needs
 
--- src/lib.rt:394:1
 returns-2 : tie.Need-returns-2
 returns-2 c =
-    let a = c .before .before .before .before .before .before .before .args in
-    counts-eight (a .map .now) (a .w) (a .from .runs) (a .from .last) (c .before .before .starts-in-eight .result) (c .before .before .before .before .before .before .before .pre .2) (c .before .before .starts-in-eight .ensures)
+    let top = c .before .before .before .before .before .before .before in
+    let a = top .args in
+    counts-eight (a .map .now) (a .w) (a .from .runs) (a .from .last) (c .before .before .starts-in-eight .result) (top .pre .2) (c .before .before .starts-in-eight .ensures)
 
 pub count-eight-spec : {M : Type 1} → statement M
 count-eight-spec =

@@ -17,34 +17,27 @@ Inv-loop map e c₀ w₀ c w = (w ≤ e) × (w % 8 ≡ 0) × (e ≤ length map) 
 abbrev μ-loop : tie.MeasureT-loop
 μ-loop map e c₀ w₀ c w = e - w
 
--- src/lib.rt:416:5
 loop-holds : tie.Need-loop-holds Inv-loop μ-loop
 loop-holds c = (omega arith, omega arith, c .before .pre .0, c .before .pre .1, counts-none _)
 
--- src/lib.rt:416:16
 sub-loop : tie.Need-sub-loop Inv-loop μ-loop
 sub-loop c = search needs
 
--- src/lib.rt:417:9
 count-eight-requires : tie.Need-count-eight-requires Inv-loop μ-loop
 count-eight-requires c κs = search needs
 
--- src/lib.rt:418:9
 add-w : tie.Need-add-w Inv-loop μ-loop
 add-w c = search needs
 
--- src/lib.rt:416:5
 loop-less : tie.Need-loop-less Inv-loop μ-loop
 loop-less c = search needs
 
--- src/lib.rt:416:5
 loop-again : tie.Need-loop-again Inv-loop μ-loop
 loop-again c =
     let l = c .before .before .loop in
     let e : 64 * l .w + 512 ≡ 64 * (l .w + 8) = omega arith in
     (omega arith, omega arith, l .inv .2, l .inv .3, rw e at (c .count-eight .ensures))
 
--- src/lib.rt:410:1
 returns : tie.Need-returns Inv-loop μ-loop
 returns c =
     let l = c .before .loop in

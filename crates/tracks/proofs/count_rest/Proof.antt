@@ -17,53 +17,41 @@ Inv-loop map w e runs₀ last₀ i₀ runs last i = (i ≤ e) × (e ≤ length m
 abbrev μ-loop : tie.MeasureT-loop
 μ-loop map w e runs₀ last₀ i₀ runs last i = e - i
 
--- src/lib.rt:431:5
 loop-holds : tie.Need-loop-holds Inv-loop μ-loop
 loop-holds c = (c .before .pre .0, c .before .pre .1, c .before .pre .2, c .before .pre .3)
 
--- src/lib.rt:432:46
 mul-starts : tie.Need-mul-starts Inv-loop μ-loop
 mul-starts c = search needs
 
--- src/lib.rt:432:46
 shared-slice-read-starts : tie.Need-shared-slice-read-starts Inv-loop μ-loop
 shared-slice-read-starts c = search needs
 
--- src/lib.rt:432:33
 starts-requires : tie.Need-starts-requires Inv-loop μ-loop
 starts-requires c κs = search needs
 
--- src/lib.rt:432:17
 cast-runs : tie.Need-cast-runs Inv-loop μ-loop
 cast-runs c = omega (arith, starts-few _ _ _ (c .starts .ensures))
 
--- src/lib.rt:432:9
 add-runs : tie.Need-add-runs Inv-loop μ-loop
 add-runs c = let l = c .before .before .before .loop in omega (arith, starts-few _ _ _ (c .starts .ensures), l .inv .3 .runs, few-runs (c .before .before .before .before .before .args .map .now) (64 * l .i))
 
--- src/lib.rt:433:16
 mul-last : tie.Need-mul-last Inv-loop μ-loop
 mul-last c = search needs
 
--- src/lib.rt:433:16
 shared-slice-read-last : tie.Need-shared-slice-read-last Inv-loop μ-loop
 shared-slice-read-last c = search needs
 
--- src/lib.rt:434:9
 add-i : tie.Need-add-i Inv-loop μ-loop
 add-i c = search needs
 
--- src/lib.rt:431:5
 loop-less : tie.Need-loop-less Inv-loop μ-loop
 loop-less c = search needs
 
--- src/lib.rt:431:5
 loop-again : tie.Need-loop-again Inv-loop μ-loop
 loop-again c =
     let l = c .before .before .before .before .loop in
     (omega arith, l .inv .1, l .inv .2, counts-more (c .before .before .before .before .before .before .args .map .now) (l .i) (l .runs) (l .last) (c .before .starts .result) (l .inv .3) (c .before .starts .ensures))
 
--- src/lib.rt:424:1
 returns : tie.Need-returns Inv-loop μ-loop
 returns c =
     let l = c .before .loop in

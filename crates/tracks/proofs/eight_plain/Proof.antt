@@ -19,37 +19,29 @@ Inv-loop map w plain unlike₀ i₀ unlike i = (i ≤ 8) × (w + 8 ≤ length ma
 abbrev μ-loop : tie.MeasureT-loop
 μ-loop map w plain unlike₀ i₀ unlike i = 8 - i
 
--- src/lib.rt:366:5
 loop-holds : tie.Need-loop-holds Inv-loop μ-loop
 loop-holds c = search needs
 
--- src/lib.rt:367:32
 add-unlike : tie.Need-add-unlike Inv-loop μ-loop
 add-unlike c = search needs
 
--- src/lib.rt:367:28
 mul-unlike : tie.Need-mul-unlike Inv-loop μ-loop
 mul-unlike c = search needs
 
--- src/lib.rt:367:28
 shared-slice-read-unlike : tie.Need-shared-slice-read-unlike Inv-loop μ-loop
 shared-slice-read-unlike c = search needs
 
--- src/lib.rt:368:9
 add-i : tie.Need-add-i Inv-loop μ-loop
 add-i c = search needs
 
--- src/lib.rt:366:5
 loop-less : tie.Need-loop-less Inv-loop μ-loop
 loop-less c = search needs
 
--- src/lib.rt:366:5
 loop-again : tie.Need-loop-again Inv-loop μ-loop
 loop-again c =
     let l = c .before .before .loop in
     (omega arith, l .inv .1, alike-turn (c .before .before .before .args .map .now) _ _ (l .i) (l .unlike) (l .inv .2))
 
--- src/lib.rt:360:1
 returns : tie.Need-returns Inv-loop μ-loop
 returns c =
     let l = c .before .loop in

@@ -15,31 +15,24 @@ Inv-loop map₀ n w₀ map w = (w ≤ length map₀) × (length map ≡ length m
 abbrev μ-loop : tie.MeasureT-loop
 μ-loop map₀ n w₀ map w = length map₀ - w
 
--- src/lib.rt:60:5
 loop-holds : tie.Need-loop-holds Inv-loop μ-loop
 loop-holds c = (omega arith, refl, λ t u. absurd (omega arith))
 
--- src/lib.rt:60:11
 mul-loop : tie.Need-mul-loop Inv-loop μ-loop
 mul-loop c = search needs
 
--- src/lib.rt:61:9
 mul-map : tie.Need-mul-map Inv-loop μ-loop
 mul-map c = search needs
 
--- src/lib.rt:61:9
 slice-write-map : tie.Need-slice-write-map Inv-loop μ-loop
 slice-write-map c = search needs
 
--- src/lib.rt:62:9
 add-w : tie.Need-add-w Inv-loop μ-loop
 add-w c = search needs
 
--- src/lib.rt:60:5
 loop-less : tie.Need-loop-less Inv-loop μ-loop
 loop-less c = search needs
 
--- src/lib.rt:60:5
 loop-again : tie.Need-loop-again Inv-loop μ-loop
 loop-again c = (
   omega arith,
@@ -47,11 +40,9 @@ loop-again c = (
   upto-more (c .before .loop .map) (c .before .loop .w) (64 * length (c .before .before .args .map .now)) 0xffff_ffff_ffff_ffff (omega arith) (c .before .loop .inv .2) (word-all (c .before .loop .w * 64) (64 * length (c .before .before .args .map .now)) (omega arith)),
 )
 
--- src/lib.rt:55:1
 same-length : tie.Need-same-length Inv-loop μ-loop
 same-length c = search needs
 
--- src/lib.rt:55:1
 returns : tie.Need-returns Inv-loop μ-loop
 returns c =
     record { long = c .before .loop .inv .1; below = upto-ones (c .before .loop .map) (c .before .loop .w) (length (c .before .before .args .map .now)) (c .before .before .args .n) (c .before .loop .inv .0) (omega arith) (c .before .loop .inv .2) }

@@ -6,19 +6,15 @@ use Rattle.tracks.proofs.is_free.Tie as tie
 use Rattle.tracks.proofs.is_free.Reads as reads
 use Rattle.tracks.proofs.is_free.Lts as lts
 
--- src/lib.rt:179:13
 mul-x : tie.Need-mul-x
 mul-x c = search needs
 
--- src/lib.rt:179:13
 shared-slice-read-x : tie.Need-shared-slice-read-x
 shared-slice-read-x c = search needs
 
--- src/lib.rt:180:6
 shr-result : tie.Need-shr-result
 shr-result c = search needs
 
--- src/lib.rt:174:1
 returns : tie.Need-returns
 unfolding isFree freeBit
 returns c = refl

@@ -7,30 +7,25 @@ use Rattle.tracks.proofs.pass.Lts as lts
 use Rattle.tracks.proofs.pass_fours.Reads as pass-fours-reads
 use Rattle.tracks.proofs.pass_ones.Reads as pass-ones-reads
 
--- src/lib.rt:222:17
 mul-x : tie.Need-mul-x
 mul-x c = search needs
 
--- src/lib.rt:222:17
 shared-slice-read-x : tie.Need-shared-slice-read-x
 shared-slice-read-x c = search needs
 
--- src/lib.rt:224:13
 returns : tie.Need-returns
 returns c = search needs
 
--- src/lib.rt:227:9
 pass-fours-requires : tie.Need-pass-fours-requires
 pass-fours-requires c κs = search needs
 
--- src/lib.rt:228:5
 pass-ones-requires : tie.Need-pass-ones-requires
 pass-ones-requires c κs = search needs
 
--- src/lib.rt:217:1
 returns-2 : tie.Need-returns-2
 returns-2 c =
-    let a = c .before .before .before .before .args in
+    let top = c .before .before .before .before in
+    let a = top .args in
     let p = c .before .pass-fours .ensures in
     unlike-on (a .map .now) (a .plain) (a .w) (a .e) (c .before .pass-fours .result) _ _ (p .0) (p .2) (c .pass-ones .ensures)
 

@@ -5,23 +5,18 @@ use Rattle.tracks.proofs.rest_of.Tie as tie
 use Rattle.tracks.proofs.rest_of.Reads as reads
 use Rattle.tracks.proofs.rest_of.Lts as lts
 
--- src/lib.rt:237:16
 mul-result : tie.Need-mul-result
 mul-result c = search needs
 
--- src/lib.rt:237:16
 shared-slice-read-result : tie.Need-shared-slice-read-result
 shared-slice-read-result c = search needs
 
--- src/lib.rt:237:26
 shl-result : tie.Need-shl-result
 shl-result c = search needs
 
--- src/lib.rt:237:9
 returns : tie.Need-returns
 returns c = rest-law (c .before .before .args .map .now) (c .before .before .args .n) (c .before .before .args .t)
 
--- src/lib.rt:231:1
 returns-2 : tie.Need-returns-2
 returns-2 c = rest-none (c .before .args .map .now) (c .before .args .n) (c .before .args .t) (c .if1 .left)
 

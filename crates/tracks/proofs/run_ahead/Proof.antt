@@ -11,35 +11,27 @@ use Rattle.tracks.proofs.run_ahead.Reads as reads
 use Rattle.tracks.proofs.run_ahead.Lts as lts
 use Rattle.tracks.proofs.run_far.Reads as run-far-reads
 
--- src/lib.rt:334:22
 sub-y : tie.Need-sub-y
 sub-y c = search needs
 
--- src/lib.rt:336:21
 add-z : tie.Need-add-z
 add-z c = omega (arith, more-fits (c .before .before .before .args .x) (c .before .if1 .taken) (omega arith) (c .if2 .taken))
 
--- src/lib.rt:337:24
 sub-base : tie.Need-sub-base
 sub-base c = search needs
 
--- src/lib.rt:338:29
 cast-to : tie.Need-cast-to
 cast-to c = omega (arith, stop-lt (c .before .before .before .args .x) (c .before .if1 .taken) (omega arith) (c .if2 .taken))
 
--- src/lib.rt:338:22
 add-to : tie.Need-add-to
 add-to c = omega (arith, stop-lt (c .before .before .before .args .x) (c .before .if1 .taken) (omega arith) (c .if2 .taken))
 
--- src/lib.rt:341:34
 cast-t16 : tie.Need-cast-t16
 cast-t16 c = omega (arith, start-lt (c .before .before .before .before .args .x) (c .before .before .if1 .taken) (omega arith))
 
--- src/lib.rt:341:27
 add-t17 : tie.Need-add-t17
 add-t17 c = omega (arith, start-lt (c .before .before .before .before .args .x) (c .before .before .if1 .taken) (omega arith))
 
--- src/lib.rt:340:17
 returns : tie.Need-returns
 returns c =
     let top = c .before .before .before .before in
@@ -52,29 +44,26 @@ returns c =
     let far = c .if3 .taken in
     (run-here x some (omega arith) gap m n t (top .pre .2) far, rest-here x some (omega arith) gap m n t (top .pre .2) far)
 
--- src/lib.rt:348:13
 sub-run-far : tie.Need-sub-run-far
 sub-run-far c = search needs
 
--- src/lib.rt:348:13
 part-run-far-start : tie.Need-part-run-far-start
 part-run-far-start c = search needs
 
--- src/lib.rt:348:13
 part-run-far-end : tie.Need-part-run-far-end
 part-run-far-end c = search needs
 
--- src/lib.rt:348:5
 run-far-requires : tie.Need-run-far-requires
 run-far-requires c κs =
-    let p = c .before .before .before .pre in
-    let a = c .before .before .before .args in
+    let top = c .before .before .before in
+    let p = top .pre in
+    let a = top .args in
     (p .0, lent (a .map .now) (λ m. a .n ≤ 64 * length m) (p .1), lent (a .map .now) (λ m. Rest m (a .n) (a .t) (a .x)) (p .2))
 
--- src/lib.rt:329:1
 returns-2 : tie.Need-returns-2
 returns-2 c =
-    let a = c .before .before .before .before .args in
+    let top = c .before .before .before .before in
+    let a = top .args in
     let r = c .run-far .result in
     back (a .map .now) (λ m. NextRun m (a .n) (a .t) (r .from) (r .to) × Rest m (a .n) (r .to) (r .rest)) (c .run-far .ensures)
 

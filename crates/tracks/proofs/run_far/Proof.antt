@@ -17,25 +17,20 @@ use Rattle.tracks.proofs.pass.Reads as pass-reads
 use Rattle.tracks.proofs.stop_at.Reads as stop-at-reads
 use Rattle.tracks.proofs.word_ahead.Reads as word-ahead-reads
 
--- src/lib.rt:273:9
 returns : tie.Need-returns
 returns c =
     let a = c .before .before .args in
     (no-run (a .map .now) (a .n) (a .t) (first-end (a .map .now) (a .n) (a .t) (c .if1 .left) (c .before .before .pre .0)), rest-none (a .map .now) (a .n) (a .n) (le-refl (a .n)))
 
--- src/lib.rt:275:14
 sub-e : tie.Need-sub-e
 sub-e c = search needs
 
--- src/lib.rt:275:13
 add-e : tie.Need-add-e
 add-e c = search needs
 
--- src/lib.rt:276:9
 word-ahead-requires : tie.Need-word-ahead-requires
 word-ahead-requires c κs = search needs
 
--- src/lib.rt:280:9
 returns-2 : tie.Need-returns-2
 returns-2 c =
     let top = c .before .before .before .before in
@@ -44,7 +39,6 @@ returns-2 c =
     let p = c .before .word-ahead .ensures (a .n) (omega arith) (top .pre .2) in
     (no-run (a .map .now) (a .n) (a .t) (first-none (a .map .now) (a .n) (a .t) ((a .n - 1) / 64 + 1) (r .at) (r .word) p (c .if2 .taken) (top .pre .0)), rest-none (a .map .now) (a .n) (a .n) (le-refl (a .n)))
 
--- src/lib.rt:282:16
 mul-from : tie.Need-mul-from
 mul-from c =
     let top = c .before .before .before .before in
@@ -54,11 +48,9 @@ mul-from c =
     let h = p .some (c .if2 .left) in
     omega arith
 
--- src/lib.rt:282:25
 cast-from : tie.Need-cast-from
 cast-from c = omega (arith, trailing-le 64 (c .before .word-ahead .result .word))
 
--- src/lib.rt:282:16
 add-from : tie.Need-add-from
 add-from c =
     let top = c .before .before .before .before in
@@ -68,7 +60,6 @@ add-from c =
     let h = p .some (c .if2 .left) in
     omega (arith, trailing-small 64 (r .word) (omega arith) (c .if2 .left))
 
--- src/lib.rt:284:9
 returns-3 : tie.Need-returns-3
 returns-3 c =
     let top = c .before .before .before .before .before in
@@ -77,15 +68,12 @@ returns-3 c =
     let p = c .before .before .word-ahead .ensures (a .n) (omega arith) (top .pre .2) in
     (no-run (a .map .now) (a .n) (a .t) (first-off (a .map .now) (a .n) (a .t) ((a .n - 1) / 64 + 1) (r .at) (r .word) p (c .before .if2 .left) (omega arith) (c .if3 .left) (top .pre .0)), rest-none (a .map .now) (a .n) (a .n) (le-refl (a .n)))
 
--- src/lib.rt:286:20
 sub-low : tie.Need-sub-low
 sub-low c = search needs
 
--- src/lib.rt:288:9
 stop-at-requires : tie.Need-stop-at-requires
 stop-at-requires c κs = search needs
 
--- src/lib.rt:288:9
 returns-4 : tie.Need-returns-4
 returns-4 c =
     let top = c .before .before .before .before .before .before .before in
@@ -96,11 +84,9 @@ returns-4 c =
     let s = c .stop-at .ensures .1 (a .map .now) (ending-own (a .map .now) (a .n) (a .t) ((a .n - 1) / 64 + 1) (r .at) (r .word) p (c .before .before .before .if2 .left) (omega arith)) in
     (subst (λ (x : ℕ). NextRun (a .map .now) (a .n) (a .t) x (c .stop-at .result .to)) (sym (c .stop-at .ensures .0)) (next-run-law (a .map .now) (a .n) (a .t) (64 * r .at + trailingZeros 64 (r .word)) (c .stop-at .result .to) f (s .0)), s .1)
 
--- src/lib.rt:290:23
 add-pass : tie.Need-add-pass
 add-pass c = search needs
 
--- src/lib.rt:290:9
 pass-requires : tie.Need-pass-requires
 pass-requires c κs = search needs
 

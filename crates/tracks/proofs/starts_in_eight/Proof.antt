@@ -17,84 +17,65 @@ Inv-loop map w y count₀ i₀ count i = (1 ≤ i) × (i ≤ 8) × (w + 8 ≤ le
 abbrev μ-loop : tie.MeasureT-loop
 μ-loop map w y count₀ i₀ count i = 8 - i
 
--- src/lib.rt:378:47
 mul-starts : tie.Need-mul-starts Inv-loop μ-loop
 mul-starts c = search needs
 
--- src/lib.rt:378:47
 shared-slice-read-starts : tie.Need-shared-slice-read-starts Inv-loop μ-loop
 shared-slice-read-starts c = search needs
 
--- src/lib.rt:378:37
 starts-requires : tie.Need-starts-requires Inv-loop μ-loop
 starts-requires c κs = search needs
 
--- src/lib.rt:378:21
 cast-count : tie.Need-cast-count Inv-loop μ-loop
 cast-count c = omega (arith, starts-few _ _ _ (c .starts .ensures))
 
--- src/lib.rt:380:5
 loop-holds : tie.Need-loop-holds Inv-loop μ-loop
 loop-holds c =
     let a = c .before .before .before .args in
     (omega arith, omega arith, c .before .before .before .pre .0, omega (arith, starts-few _ _ _ (c .starts .ensures)), word-runs (a .map .now) (a .w) (a .y) (c .starts .result) (c .before .before .before .pre .1) (c .starts .ensures))
 
--- src/lib.rt:381:45
 add-starts : tie.Need-add-starts Inv-loop μ-loop
 add-starts c = search needs
 
--- src/lib.rt:381:45
 sub-starts : tie.Need-sub-starts Inv-loop μ-loop
 sub-starts c = search needs
 
--- src/lib.rt:381:41
 mul-starts-2 : tie.Need-mul-starts-2 Inv-loop μ-loop
 mul-starts-2 c = search needs
 
--- src/lib.rt:381:41
 shared-slice-read-starts-2 : tie.Need-shared-slice-read-starts-2 Inv-loop μ-loop
 shared-slice-read-starts-2 c = search needs
 
--- src/lib.rt:381:61
 add-starts-2 : tie.Need-add-starts-2 Inv-loop μ-loop
 add-starts-2 c = search needs
 
--- src/lib.rt:381:57
 mul-starts-3 : tie.Need-mul-starts-3 Inv-loop μ-loop
 mul-starts-3 c = search needs
 
--- src/lib.rt:381:57
 shared-slice-read-starts-3 : tie.Need-shared-slice-read-starts-3 Inv-loop μ-loop
 shared-slice-read-starts-3 c = search needs
 
--- src/lib.rt:381:34
 starts-requires-2 : tie.Need-starts-requires-2 Inv-loop μ-loop
 starts-requires-2 c κs = search needs
 
--- src/lib.rt:381:18
 cast-count-2 : tie.Need-cast-count-2 Inv-loop μ-loop
 cast-count-2 c = omega (arith, starts-few _ _ _ (c .starts2 .ensures))
 
--- src/lib.rt:381:9
 add-count : tie.Need-add-count Inv-loop μ-loop
 add-count c = omega (arith, starts-few _ _ _ (c .starts2 .ensures))
 
--- src/lib.rt:382:9
 add-i : tie.Need-add-i Inv-loop μ-loop
 add-i c = search needs
 
--- src/lib.rt:380:5
 loop-less : tie.Need-loop-less Inv-loop μ-loop
 loop-less c = search needs
 
--- src/lib.rt:380:5
 loop-again : tie.Need-loop-again Inv-loop μ-loop
 loop-again c =
     let l = c .before .before .before .before .loop in
     let a = c .before .before .before .before .before .before .before .before .args in
     (omega arith, omega arith, l .inv .2, omega (arith, starts-few _ _ _ (c .starts2 .ensures)), starts-more (a .map .now) (a .w) (l .i) (l .count) (c .starts2 .result) (l .inv .0) (l .inv .4) (c .starts2 .ensures))
 
--- src/lib.rt:374:1
 returns : tie.Need-returns Inv-loop μ-loop
 returns c =
     let l = c .before .loop in

@@ -12,29 +12,23 @@ use Rattle.tracks.proofs.stop_at.Tie as tie
 use Rattle.tracks.proofs.stop_at.Reads as reads
 use Rattle.tracks.proofs.stop_at.Lts as lts
 
--- src/lib.rt:255:13
 add-z : tie.Need-add-z
 add-z c = search needs
 
--- src/lib.rt:256:14
 mul-to : tie.Need-mul-to
 mul-to c = search needs
 
--- src/lib.rt:256:23
 cast-to : tie.Need-cast-to
 cast-to c = omega (arith, trailing-le 64 (c .args .low + 1))
 
--- src/lib.rt:256:14
 add-to : tie.Need-add-to
 add-to c = omega (arith, trailing-small 64 (c .args .low + 1) (omega arith) (λ e. absurd (omega arith)))
 
--- src/lib.rt:258:9
 returns : tie.Need-returns
 returns c =
     let a = c .before .args in
     (refl, λ m d. (stop-first m (a .n) (a .from) (a .w) (a .y) (a .low) d (omega arith) (c .before .pre .2) (c .if1 .taken), stop-rest m (a .n) (a .from) (a .w) (a .y) (a .low) d (omega arith) (c .before .pre .2)))
 
--- src/lib.rt:251:1
 returns-2 : tie.Need-returns-2
 returns-2 c =
     let a = c .before .args in

@@ -11,95 +11,87 @@ use Rattle.tracks.proofs.take_far.Lts as lts
 use Rattle.tracks.proofs.mask.Reads as mask-reads
 use Rattle.tracks.proofs.take_words.Reads as take-words-reads
 
--- src/lib.rt:80:14
 sub-v : tie.Need-sub-v
 sub-v c = search needs
 
--- src/lib.rt:81:26
 sub-mask : tie.Need-sub-mask
 sub-mask c = search needs
 
--- src/lib.rt:81:9
 mask-requires : tie.Need-mask-requires
 mask-requires c κs = search needs
 
--- src/lib.rt:82:22
 sub-mask-2 : tie.Need-sub-mask-2
 sub-mask-2 c = search needs
 
--- src/lib.rt:82:21
 add-mask : tie.Need-add-mask
 add-mask c = search needs
 
--- src/lib.rt:82:9
 mask-requires-2 : tie.Need-mask-requires-2
 mask-requires-2 c κs = search needs
 
--- src/lib.rt:83:13
 mul-x : tie.Need-mul-x
 mul-x c = search needs
 
--- src/lib.rt:83:13
 slice-read-x : tie.Need-slice-read-x
 slice-read-x c = search needs
 
--- src/lib.rt:84:13
 mul-y : tie.Need-mul-y
 mul-y c = search needs
 
--- src/lib.rt:84:13
 slice-read-y : tie.Need-slice-read-y
 slice-read-y c = search needs
 
--- src/lib.rt:86:9
 returns : tie.Need-returns
 returns c =
-    let a = c .before .before .before .before .before .before .args in
-    let p = c .before .before .before .before .before .before .pre in
+    let at-mask2 = c .before .before .before in
+    let at-mask = at-mask2 .before in
+    let top = at-mask .before .before in
+    let a = top .args in
+    let p = top .pre in
     record {
       long = refl;
       were = λ r. clash r refl;
       made = λ r. clash r refl;
-      hit = λ _. far-hit (a .map .now) (a .s) (a .e) _ _ (p .0) (p .1) (p .2) (c .before .before .before .before .mask .ensures) (c .before .before .before .mask2 .ensures) (c .if1 .taken);
+      hit = λ _. far-hit (a .map .now) (a .s) (a .e) _ _ (p .0) (p .1) (p .2) (at-mask .mask .ensures) (at-mask2 .mask2 .ensures) (c .if1 .taken);
     }
 
--- src/lib.rt:88:5
 mul-map : tie.Need-mul-map
 mul-map c = search needs
 
--- src/lib.rt:88:5
 slice-write-map : tie.Need-slice-write-map
 slice-write-map c = search needs
 
--- src/lib.rt:89:5
 mul-map-2 : tie.Need-mul-map-2
 mul-map-2 c = search needs
 
--- src/lib.rt:89:5
 slice-write-map-2 : tie.Need-slice-write-map-2
 slice-write-map-2 c = simp length-set (search needs)
 
--- src/lib.rt:90:21
 add-take-words : tie.Need-add-take-words
 add-take-words c = search needs
 
--- src/lib.rt:90:5
 take-words-requires : tie.Need-take-words-requires
 take-words-requires c κs = simp length-set (search needs)
 
--- src/lib.rt:75:1
 same-length : tie.Need-same-length
 same-length c =
-    let a = c .before .before .before .before .before .before .before .before .before .before .args in
-    let p = c .before .before .before .before .before .before .before .before .before .before .pre in
-    far-took (a .map .now) (a .s) (a .e) _ _ (p .0) (p .1) (p .2) (c .before .before .before .before .before .before .before .before .mask .ensures) (c .before .before .before .before .before .before .before .mask2 .ensures) (c .before .before .before .before .if1 .left) _ _ (c .before .before .take-words .ensures) .long
+    let at-if1 = c .before .before .before .before in
+    let at-mask2 = at-if1 .before .before .before in
+    let at-mask = at-mask2 .before in
+    let top = at-mask .before .before in
+    let a = top .args in
+    let p = top .pre in
+    far-took (a .map .now) (a .s) (a .e) _ _ (p .0) (p .1) (p .2) (at-mask .mask .ensures) (at-mask2 .mask2 .ensures) (at-if1 .if1 .left) _ _ (c .before .before .take-words .ensures) .long
 
--- src/lib.rt:75:1
 returns-2 : tie.Need-returns-2
 returns-2 c =
-    let a = c .before .before .before .before .before .before .before .before .before .before .args in
-    let p = c .before .before .before .before .before .before .before .before .before .before .pre in
-    far-took (a .map .now) (a .s) (a .e) _ _ (p .0) (p .1) (p .2) (c .before .before .before .before .before .before .before .before .mask .ensures) (c .before .before .before .before .before .before .before .mask2 .ensures) (c .before .before .before .before .if1 .left) _ _ (c .before .before .take-words .ensures)
+    let at-if1 = c .before .before .before .before in
+    let at-mask2 = at-if1 .before .before .before in
+    let at-mask = at-mask2 .before in
+    let top = at-mask .before .before in
+    let a = top .args in
+    let p = top .pre in
+    far-took (a .map .now) (a .s) (a .e) _ _ (p .0) (p .1) (p .2) (at-mask .mask .ensures) (at-mask2 .mask2 .ensures) (at-if1 .if1 .left) _ _ (c .before .before .take-words .ensures)
 
 pub take-far-spec : {M : Type 1} → statement M
 take-far-spec =

@@ -7,41 +7,32 @@ use Rattle.tracks.proofs.take_near.Reads as reads
 use Rattle.tracks.proofs.take_near.Lts as lts
 use Rattle.tracks.proofs.mask.Reads as mask-reads
 
--- src/lib.rt:72:26
 sub-mask : tie.Need-sub-mask
 sub-mask c = search needs
 
--- src/lib.rt:72:9
 mask-requires : tie.Need-mask-requires
 mask-requires c κs = search needs
 
--- src/lib.rt:73:13
 mul-x : tie.Need-mul-x
 mul-x c = search needs
 
--- src/lib.rt:73:13
 slice-read-x : tie.Need-slice-read-x
 slice-read-x c = search needs
 
--- src/lib.rt:75:9
 returns : tie.Need-returns
 returns c =
     let top = c .before .before .before .before in
     took-none (top .args .map .now) (top .args .s) (top .args .e) (c .before .before .mask .result) (top .pre .2) (top .pre .0) (top .pre .1) (c .before .before .mask .ensures) (c .if1 .taken)
 
--- src/lib.rt:77:5
 mul-map : tie.Need-mul-map
 mul-map c = search needs
 
--- src/lib.rt:77:5
 slice-write-map : tie.Need-slice-write-map
 slice-write-map c = search needs
 
--- src/lib.rt:67:1
 same-length : tie.Need-same-length
 same-length c = search needs
 
--- src/lib.rt:67:1
 returns-2 : tie.Need-returns-2
 returns-2 c =
     let top = c .before .before .before .before in

@@ -10,35 +10,27 @@ use Rattle.tracks.proofs.take_range.Lts as lts
 use Rattle.tracks.proofs.take_far.Reads as take-far-reads
 use Rattle.tracks.proofs.take_near.Reads as take-near-reads
 
--- src/lib.rt:99:23
 sub-if2 : tie.Need-sub-if2
 sub-if2 c = search needs
 
--- src/lib.rt:100:13
 take-near-requires : tie.Need-take-near-requires
 take-near-requires c κs = search needs
 
--- src/lib.rt:100:13
 same-length : tie.Need-same-length
 same-length c = search needs
 
--- src/lib.rt:100:13
 returns : tie.Need-returns
 returns c = search needs
 
--- src/lib.rt:102:9
 take-far-requires : tie.Need-take-far-requires
 take-far-requires c κs = search needs
 
--- src/lib.rt:102:9
 same-length-2 : tie.Need-same-length-2
 same-length-2 c = search needs
 
--- src/lib.rt:102:9
 returns-2 : tie.Need-returns-2
 returns-2 c = search needs
 
--- src/lib.rt:94:1
 returns-3 : tie.Need-returns-3
 returns-3 c =
     let a = c .before .before .args in

@@ -17,23 +17,18 @@ Inv-loop map₀ w v i₀ map i = (w ≤ i) × (i ≤ v) × (v ≤ length map) ×
 abbrev μ-loop : tie.MeasureT-loop
 μ-loop map₀ w v i₀ map i = v - i
 
--- src/lib.rt:63:5
 loop-holds : tie.Need-loop-holds Inv-loop μ-loop
 loop-holds c = (omega arith, c .pre .0, c .pre .1, (λ t a b. absurd (omega arith)), made-none _ _ _)
 
--- src/lib.rt:64:12
 mul-if1 : tie.Need-mul-if1 Inv-loop μ-loop
 mul-if1 c = search needs
 
--- src/lib.rt:64:12
 slice-read-if1 : tie.Need-slice-read-if1 Inv-loop μ-loop
 slice-read-if1 c = search needs
 
--- src/lib.rt:65:13
 same-length : tie.Need-same-length Inv-loop μ-loop
 same-length c = search needs
 
--- src/lib.rt:65:13
 returns : tie.Need-returns Inv-loop μ-loop
 returns c =
     let l = c .before .before .before .loop in
@@ -46,23 +41,18 @@ returns c =
           (word-hit (l .map) (l .i) (64 * a .v) (omega arith) (omega arith) (c .before .slice-known .given (l .i) .fits) (c .if1 .taken));
     }
 
--- src/lib.rt:67:9
 mul-map : tie.Need-mul-map Inv-loop μ-loop
 mul-map c = search needs
 
--- src/lib.rt:67:9
 slice-write-map : tie.Need-slice-write-map Inv-loop μ-loop
 slice-write-map c = search needs
 
--- src/lib.rt:68:9
 add-i : tie.Need-add-i Inv-loop μ-loop
 add-i c = search needs
 
--- src/lib.rt:63:5
 loop-less : tie.Need-loop-less Inv-loop μ-loop
 loop-less c = search needs
 
--- src/lib.rt:63:5
 loop-again : tie.Need-loop-again Inv-loop μ-loop
 loop-again c =
     let l = c .before .before .before .loop in
@@ -75,11 +65,9 @@ loop-again c =
       subst (Made 0 (a .map .now) _ (64 * a .w)) e (made-more 0 (a .map .now) (l .map) _ (64 * a .w) (64 * l .i) (64 * l .i + 64) (omega arith) (omega arith) (l .inv .4) (word-taken (l .map) (l .i) (omega arith))),
     )
 
--- src/lib.rt:58:1
 same-length-2 : tie.Need-same-length-2 Inv-loop μ-loop
 same-length-2 c = search needs
 
--- src/lib.rt:58:1
 returns-2 : tie.Need-returns-2 Inv-loop μ-loop
 returns-2 c =
     let l = c .before .loop in

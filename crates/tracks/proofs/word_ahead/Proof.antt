@@ -6,24 +6,21 @@ use Rattle.tracks.proofs.word_ahead.Reads as reads
 use Rattle.tracks.proofs.word_ahead.Lts as lts
 use Rattle.tracks.proofs.pass.Reads as pass-reads
 
--- src/lib.rt:238:9
 returns : tie.Need-returns
 returns c =
     let a = c .before .before .args in
     λ n k r. word-own (a .map .now) n (a .t) (a .e) (a .x) (c .before .before .pre .0) (c .if1 .taken) r
 
--- src/lib.rt:240:15
 add-pass : tie.Need-add-pass
 add-pass c = search needs
 
--- src/lib.rt:240:5
 pass-requires : tie.Need-pass-requires
 pass-requires c κs = search needs
 
--- src/lib.rt:232:1
 returns-2 : tie.Need-returns-2
 returns-2 c =
-    let a = c .before .before .before .args in
+    let top = c .before .before .before in
+    let a = top .args in
     λ n k r. word-later (a .map .now) n (a .t) (a .e) _ _ (a .x) (c .pass .ensures) (c .before .if1 .left) r k
 
 pub word-ahead-spec : {M : Type 1} → statement M

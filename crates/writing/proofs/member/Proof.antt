@@ -8,23 +8,18 @@ use mathlib.Core.Path.{_∙_}
 use native.Mathlib.Omega.{arith}
 use Rattle.writing.proofs.Slots.{entry-in, entry-past}
 
--- src/lib.rt:61:21
 mul-wide : tie.Need-mul-wide
 mul-wide c = search needs
 
--- src/lib.rt:61:21
 shared-slice-read-wide : tie.Need-shared-slice-read-wide
 shared-slice-read-wide c = search needs
 
--- src/lib.rt:61:9
 wide-requires : tie.Need-wide-requires
 wide-requires c κs = search needs
 
--- src/lib.rt:61:9
 returns : tie.Need-returns
 returns c = c .wide .ensures ∙ entry-in (c .before .before .before .before .args .chain .now) (c .before .before .before .before .args .i) (c .before .before .before .before .args .n) (omega arith) (c .before .before .before .before .pre)
 
--- src/lib.rt:56:1
 returns-2 : tie.Need-returns-2
 returns-2 c = entry-past (c .before .before .args .chain .now) (c .before .before .args .i) (c .before .before .args .n) (omega arith)
 

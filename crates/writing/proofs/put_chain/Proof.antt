@@ -20,63 +20,48 @@ Inv-loop table₀ g map chain n from start t at₀ i₀ table at i = Chaining (g
 abbrev μ-loop : tie.MeasureT-loop
 μ-loop table₀ g map chain n from start t at₀ i₀ table at i = n - i
 
--- src/lib.rt:119:14
 mul-t : tie.Need-mul-t Inv-loop μ-loop
 mul-t c = search needs
 
--- src/lib.rt:119:13
 cast-t : tie.Need-cast-t Inv-loop μ-loop
 cast-t c = search needs
 
--- src/lib.rt:122:5
 loop-holds : tie.Need-loop-holds Inv-loop μ-loop
 loop-holds c = chain-begin (geometryOf (c .before .before .before .before .args .g)) (c .before .before .before .before .args .map .now) (take (c .before .before .before .before .args .n) (c .before .before .before .before .args .chain .now)) (c .before .before .before .before .args .table .now) (c .before .before .before .before .args .from) (c .before .before .before .before .args .start) (let l = length-take (c .before .before .before .before .args .n) (c .before .before .before .before .args .chain .now) in let q = c .before .before .before .before .pre .1 .0 in omega (arith, c .before .before .before .before .pre .1 .2)) (c .before .before .before .before .pre .1 .3)
 
--- src/lib.rt:123:23
 member-requires : tie.Need-member-requires Inv-loop μ-loop
 member-requires c κs = search needs
 
--- src/lib.rt:123:17
 mul-a : tie.Need-mul-a Inv-loop μ-loop
 mul-a c = let b = entry-below (slots (geometryOf (c .before .before .before .before .before .before .before .args .g))) (take (c .before .before .before .before .before .before .before .args .n) (c .before .before .before .before .before .before .before .args .chain .now)) (c .before .before .loop .i) (omega (arith, c .before .before .before .before .before .before .before .pre .0 .0 .least)) (c .before .before .before .before .before .before .before .pre .1 .1) in let e = c .member .ensures in let l = c .before .before .loop .inv .long in let m = c .before .before .before .before .before .before .before .pre .0 .1 in let o = c .before .before .before .before .before .before .before .pre .0 .0 .most in omega arith
 
--- src/lib.rt:124:17
 add-e : tie.Need-add-e Inv-loop μ-loop
 add-e c = let b = entry-below (slots (geometryOf (c .before .before .before .before .before .before .before .args .g))) (take (c .before .before .before .before .before .before .before .args .n) (c .before .before .before .before .before .before .before .args .chain .now)) (c .before .before .loop .i) (omega (arith, c .before .before .before .before .before .before .before .pre .0 .0 .least)) (c .before .before .before .before .before .before .before .pre .1 .1) in let e = c .member .ensures in let l = c .before .before .loop .inv .long in let m = c .before .before .before .before .before .before .before .pre .0 .1 in let o = c .before .before .before .before .before .before .before .pre .0 .0 .most in omega arith
 
--- src/lib.rt:125:34
 add-member : tie.Need-add-member Inv-loop μ-loop
 add-member c = search needs
 
--- src/lib.rt:125:13
 member-requires-2 : tie.Need-member-requires-2 Inv-loop μ-loop
 member-requires-2 c κs = search needs
 
--- src/lib.rt:126:28
 sub-five : tie.Need-sub-five Inv-loop μ-loop
 sub-five c = let b = entry-below (slots (geometryOf (c .before .before .before .before .before .before .before .before .args .g))) (take (c .before .before .before .before .before .before .before .before .args .n) (c .before .before .before .before .before .before .before .before .args .chain .now)) (c .before .before .before .loop .i) (omega (arith, c .before .before .before .before .before .before .before .before .pre .0 .0 .least)) (c .before .before .before .before .before .before .before .before .pre .1 .1) in let e = c .before .member .ensures in let l = c .before .before .before .loop .inv .long in let m = c .before .before .before .before .before .before .before .before .pre .0 .1 in let o = c .before .before .before .before .before .before .before .before .pre .0 .0 .most in search needs
 
--- src/lib.rt:126:28
 part-five-start : tie.Need-part-five-start Inv-loop μ-loop
 part-five-start c = let b = entry-below (slots (geometryOf (c .before .before .before .before .before .before .before .before .args .g))) (take (c .before .before .before .before .before .before .before .before .args .n) (c .before .before .before .before .before .before .before .before .args .chain .now)) (c .before .before .before .loop .i) (omega (arith, c .before .before .before .before .before .before .before .before .pre .0 .0 .least)) (c .before .before .before .before .before .before .before .before .pre .1 .1) in let e = c .before .member .ensures in let l = c .before .before .before .loop .inv .long in let m = c .before .before .before .before .before .before .before .before .pre .0 .1 in let o = c .before .before .before .before .before .before .before .before .pre .0 .0 .most in search needs
 
--- src/lib.rt:126:28
 part-five-end : tie.Need-part-five-end Inv-loop μ-loop
 part-five-end c = let b = entry-below (slots (geometryOf (c .before .before .before .before .before .before .before .before .args .g))) (take (c .before .before .before .before .before .before .before .before .args .n) (c .before .before .before .before .before .before .before .before .args .chain .now)) (c .before .before .before .loop .i) (omega (arith, c .before .before .before .before .before .before .before .before .pre .0 .0 .least)) (c .before .before .before .before .before .before .before .before .pre .1 .1) in let e = c .before .member .ensures in let l = c .before .before .before .loop .inv .long in let m = c .before .before .before .before .before .before .before .before .pre .0 .1 in let o = c .before .before .before .before .before .before .before .before .pre .0 .0 .most in search needs
 
--- src/lib.rt:126:9
 five-requires : tie.Need-five-requires Inv-loop μ-loop
 five-requires c κs = let b = entry-below (slots (geometryOf (c .before .before .before .before .before .before .before .before .before .args .g))) (take (c .before .before .before .before .before .before .before .before .before .args .n) (c .before .before .before .before .before .before .before .before .before .args .chain .now)) (c .before .before .before .before .loop .i + 1) (omega (arith, c .before .before .before .before .before .before .before .before .before .pre .0 .0 .least)) (c .before .before .before .before .before .before .before .before .before .pre .1 .1) in let e = c .before .member2 .ensures in (search needs, c .before .before .before .before .loop .inv .atUp, c .before .before .before .before .before .before .before .before .before .pre .0 .2, c .before .before .before .before .before .before .before .before .before .pre .0 .0 .tracksMost, omega arith, c .before .before .before .before .before .before .before .before .before .pre .0 .0)
 
--- src/lib.rt:127:9
 add-i : tie.Need-add-i Inv-loop μ-loop
 add-i c = search needs
 
--- src/lib.rt:122:5
 loop-less : tie.Need-loop-less Inv-loop μ-loop
 loop-less c = let l = length-take (c .before .before .before .before .before .before .before .before .before .before .before .before .args .n) (c .before .before .before .before .before .before .before .before .before .before .before .before .args .chain .now) in let u = c .before .before .before .before .before .before .before .loop .inv .upTo in omega arith
 
--- src/lib.rt:122:5
 loop-again : tie.Need-loop-again Inv-loop μ-loop
 loop-again c =
     let b = entry-below (slots (geometryOf (c .before .before .before .before .before .before .before .before .before .before .before .before .args .g))) (take (c .before .before .before .before .before .before .before .before .before .before .before .before .args .n) (c .before .before .before .before .before .before .before .before .before .before .before .before .args .chain .now)) (c .before .before .before .before .before .before .before .loop .i) (omega (arith, c .before .before .before .before .before .before .before .before .before .before .before .before .pre .0 .0 .least)) (c .before .before .before .before .before .before .before .before .before .before .before .before .pre .1 .1) in
@@ -90,11 +75,9 @@ loop-again c =
     (let l = length-take (c .before .before .before .before .before .before .before .before .before .before .before .before .args .n) (c .before .before .before .before .before .before .before .before .before .before .before .before .args .chain .now) in let q = c .before .before .before .before .before .before .before .before .before .before .before .before .pre .1 .0 in omega arith) made (c .before .before .five .result)
     (subst (λ (j : ℕ). Fills (geometryOf (c .before .before .before .before .before .before .before .before .before .before .before .before .args .g)) (c .before .before .before .before .before .before .before .before .before .before .before .before .args .map .now) (tracks (geometryOf (c .before .before .before .before .before .before .before .before .before .before .before .before .args .g))) (c .before .before .before .before .before .before .before .loop .at) j made (c .before .before .five .result)) (c .before .before .before .before .member2 .ensures) (c .before .before .five .ensures)) (omega arith))
 
--- src/lib.rt:106:1
 same-length : tie.Need-same-length Inv-loop μ-loop
 same-length c = c .before .loop .inv .long
 
--- src/lib.rt:106:1
 returns : tie.Need-returns Inv-loop μ-loop
 returns c = chain-end (geometryOf (c .before .before .before .before .before .before .args .g)) (c .before .before .before .before .before .before .args .map .now) (take (c .before .before .before .before .before .before .args .n) (c .before .before .before .before .before .before .args .chain .now)) (c .before .before .before .before .before .before .args .table .now) (c .before .loop .table) (c .before .before .before .before .before .before .args .from) (c .before .before .before .before .before .before .args .start) (c .before .loop .at) (c .before .loop .i) (c .before .loop .inv) (let l = length-take (c .before .before .before .before .before .before .args .n) (c .before .before .before .before .before .before .args .chain .now) in omega arith)
 

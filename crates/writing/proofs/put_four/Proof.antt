@@ -14,34 +14,30 @@ use Rattle.forms.specs.Forms.{geometryOf}
 use Rattle.spare.proofs.Laws.{highest-below}
 use Rattle.writing.specs.Writing.{fourPut}
 
--- src/lib.rt:90:42
 mul-highest : tie.Need-mul-highest
 mul-highest c = search needs
 
--- src/lib.rt:90:41
 cast-highest : tie.Need-cast-highest
 cast-highest c = search needs
 
--- src/lib.rt:90:9
 highest-requires : tie.Need-highest-requires
 highest-requires c κs = search needs
 
--- src/lib.rt:91:16
 four-requires : tie.Need-four-requires
 four-requires c κs = (subst (λ (x : ℕ). x < slots (geometryOf (c .before .before .before .before .args .g))) (sym (c .highest .ensures)) (highest-below (c .before .before .before .before .args .table .now) (slots (geometryOf (c .before .before .before .before .args .g))) (omega (arith, c .before .before .before .before .pre .0 .least))), c .before .before .before .before .pre .2, c .before .before .before .before .pre .0)
 
--- src/lib.rt:92:5
 put-record-requires : tie.Need-put-record-requires
 put-record-requires c κs = search needs
 
--- src/lib.rt:86:1
 same-length : tie.Need-same-length
 same-length c = search needs
 
--- src/lib.rt:86:1
 returns : tie.Need-returns
 unfolding fourPut
-returns c = rw (c .before .before .put-record .ensures, c .before .before .before .before .before .four .ensures, c .before .before .before .before .before .before .highest .ensures)
+returns c =
+    let at-four = c .before .before .before .before .before in
+    let at-highest = at-four .before in
+    rw (c .before .before .put-record .ensures, at-four .four .ensures, at-highest .highest .ensures)
 
 pub put-four-spec : {M : Type 1} → statement M
 put-four-spec =
