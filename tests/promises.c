@@ -1,6 +1,6 @@
 /*
- * promises.c: what include/vtoc.h tells hosts they may do, done with the library. One buffer for two that are only read; a file closed
- * in the table; the header's limits, its readers and its inline functions on tables and labels that the library writes.
+ * promises.c: what include/vtoc.h tells hosts they may do, done with the library. One buffer for two that are only read; a file
+ * closed in the table; the header's limits, its readers and other inline functions on tables and labels that the library writes.
  *
  *   cc -std=c99 -Iinclude tests/promises.c target/staticlib/libvtoc.a -o target/promises && target/promises
  */
@@ -196,8 +196,8 @@ static void sixteen_extents(void)
 
 static void geometries(void)
 {
-    static const struct vtoc_geometry some[] = {
-        {4, 5, 4, 1, 2}, {404, 19, 39, 1, 2}, {65535, 1, 3, 65534, 1}, {257, 255, 255, 65534, 1}, {257, 255, 1, 254, 468}, {1, 4, 1, 1, 3}};
+    static const struct vtoc_geometry some[] = {{4, 5, 4, 1, 2},           {404, 19, 39, 1, 2},     {65535, 1, 3, 65534, 1},
+                                                {257, 255, 255, 65534, 1}, {257, 255, 1, 254, 468}, {1, 4, 1, 1, 3}};
     static uint8_t one[VTOC_MOST_TABLE_LENGTH], again[VTOC_MOST_TABLE_LENGTH];
     for (size_t i = 0; i < sizeof some / sizeof some[0]; i++) {
         size_t length = (size_t)some[i].v * some[i].d * VTOC_RECORD_LENGTH;

@@ -1,7 +1,7 @@
 /*
- * warned.c: what a compiler must warn of in a host that uses include/vtoc.h. It is compiled and never run. A comment at the end of a
- * line says what is warned of there: a result that is not looked at, or an argument, by its place, that is `restrict` and overlaps
- * another one (gcc alone tells). A line without such a comment must compile without a warning. tests/header compares.
+ * warned.c: what a compiler must warn of in a host that uses include/vtoc.h. It is compiled, never run. A comment at the end of
+ * a line says what is warned of there: a result that is not looked at, or an argument, by its place, that is `restrict` and
+ * overlaps another one (gcc alone tells). A line without such a comment must compile without a warning. tests/header compares.
  */
 #include "vtoc.h"
 
