@@ -21,40 +21,7 @@ static uint8_t table[VTOC_LENGTH * RECORDS_A_TRACK * VTOC_RECORD_LENGTH];
 static uint8_t answer[VTOC_ANSWER_LENGTH];
 static uint8_t table_before[sizeof table], answer_before[sizeof answer]; /* as they were before a call */
 
-/* ---- Names: ASCII to EBCDIC ---------------------------------------------------------------------------------------------- */
-
-/* The EBCDIC of a character that a name may hold; X'00', which no name holds, for any other. */
-static uint8_t ebcdic(char c)
-{
-    static const char ascii[] = "ABCDEFGHIJKLMNOPQRSTUVWXYZ0123456789$#@-.";
-    static const uint8_t codes[] = {
-        0xC1, 0xC2, 0xC3, 0xC4, 0xC5, 0xC6, 0xC7, 0xC8, 0xC9, /* A to I */
-        0xD1, 0xD2, 0xD3, 0xD4, 0xD5, 0xD6, 0xD7, 0xD8, 0xD9, /* J to R */
-        0xE2, 0xE3, 0xE4, 0xE5, 0xE6, 0xE7, 0xE8, 0xE9,       /* S to Z */
-        0xF0, 0xF1, 0xF2, 0xF3, 0xF4, 0xF5, 0xF6, 0xF7, 0xF8, 0xF9,
-        0x5B, 0x7B, 0x7C, 0x60, 0x4B};
-    const char *found = c == '\0' ? NULL : strchr(ascii, c);
-    return found == NULL ? 0x00 : codes[found - ascii];
-}
-
-/* The 44 bytes of a name: the text, then blanks. A text that is too long becomes a name that every call refuses. */
-static void make_name(uint8_t name[VTOC_NAME_LENGTH], const char *text)
-{
-    size_t length = strlen(text);
-    memset(name, length <= VTOC_NAME_LENGTH ? 0x40 : 0x00, VTOC_NAME_LENGTH);
-    for (size_t i = 0; i < length && i < VTOC_NAME_LENGTH; i++)
-        name[i] = ebcdic(text[i]);
-}
-
 /* ---- What the operator reads --------------------------------------------------------------------------------------------- */
-
-static const char *word_of(uint32_t result)
-{
-    static const char *const words[] = {"accepted",  "geometry", "length",       "VTOC unsound", "name",    "not found",
-                                        "duplicate", "amount",   "no secondary", "no space",     "extents", "VTOC full",
-                                        "TTR"};
-    return result < sizeof words / sizeof words[0] ? words[result] : "unknown result";
-}
 
 static void print_track(uint32_t track)
 {
@@ -96,14 +63,14 @@ static void say(const char *format, ...)
 static void expect(uint32_t result, uint32_t wanted)
 {
     if (result != wanted) {
-        printf("   result %lu (%s) where %lu (%s) was expected: the week ends here\n", (unsigned long)result, word_of(result),
-               (unsigned long)wanted, word_of(wanted));
+        printf("   result %lu (%s) where %lu (%s) was expected: the week ends here\n", (unsigned long)result,
+               vtoc_refusal_word(result), (unsigned long)wanted, vtoc_refusal_word(wanted));
         exit(EXIT_FAILURE);
     }
     if (result != VTOC_OK) {
         check(memcmp(table, table_before, sizeof table) == 0 && memcmp(answer, answer_before, sizeof answer) == 0,
               "a refusal writes no byte");
-        printf("      refused, %lu: %s; no byte was written\n", (unsigned long)result, word_of(result));
+        printf("      refused, %lu: %s; no byte was written\n", (unsigned long)result, vtoc_refusal_word(result));
     }
 }
 
@@ -115,7 +82,7 @@ static void allocate(const char *text, uint32_t kind, uint32_t start, uint32_t a
     uint8_t name[VTOC_NAME_LENGTH];
     uint8_t attributes[VTOC_ATTRIBUTES_LENGTH] = {0}; /* a real host fills in dates, organisation, block sizes */
     uint32_t result;
-    make_name(name, text);
+    vtoc_name_from_text(name, text);
     say("allocate %s, %lu %s, secondary %lu", text, (unsigned long)amount, units[kind], (unsigned long)secondary);
     result = vtoc_allocate(table, sizeof table, name, sizeof name, attributes, sizeof attributes, kind, start, amount, secondary,
                            answer, sizeof answer);
@@ -128,7 +95,7 @@ static void extend(const char *text, uint32_t wanted)
 {
     uint8_t name[VTOC_NAME_LENGTH];
     uint32_t result;
-    make_name(name, text);
+    vtoc_name_from_text(name, text);
     say("extend %s", text);
     result = vtoc_extend(table, sizeof table, name, sizeof name, answer, sizeof answer);
     expect(result, wanted);
@@ -140,7 +107,7 @@ static void release(const char *text, uint32_t tt, uint32_t r, uint32_t wanted)
 {
     uint8_t name[VTOC_NAME_LENGTH];
     uint32_t result;
-    make_name(name, text);
+    vtoc_name_from_text(name, text);
     say("release %s after its last block, track %lu of the data set, record %lu", text, (unsigned long)tt, (unsigned long)r);
     result = vtoc_release(table, sizeof table, name, sizeof name, vtoc_ttr(tt, r), answer, sizeof answer);
     expect(result, wanted);
@@ -152,7 +119,7 @@ static void scratch(const char *text, uint32_t wanted)
 {
     uint8_t name[VTOC_NAME_LENGTH];
     uint32_t result;
-    make_name(name, text);
+    vtoc_name_from_text(name, text);
     say("scratch %s", text);
     result = vtoc_scratch(table, sizeof table, name, sizeof name, answer, sizeof answer);
     expect(result, wanted);
@@ -162,9 +129,9 @@ static void scratch(const char *text, uint32_t wanted)
 
 static void rename_set(const char *old_text, const char *new_text, uint32_t wanted)
 {
-    uint8_t old_name[VTOC_NAME_LENGTH], new_name[VTOC_NAME_LENGTH]; /* two buffers: they must not overlap */
-    make_name(old_name, old_text);
-    make_name(new_name, new_text);
+    uint8_t old_name[VTOC_NAME_LENGTH], new_name[VTOC_NAME_LENGTH];
+    vtoc_name_from_text(old_name, old_text);
+    vtoc_name_from_text(new_name, new_text);
     say("rename %s to %s", old_text, new_text);
     expect(vtoc_rename(table, sizeof table, old_name, sizeof old_name, new_name, sizeof new_name, answer, sizeof answer), wanted);
 }
@@ -173,14 +140,16 @@ static void rename_set(const char *old_text, const char *new_text, uint32_t want
 static void obtain(const char *text)
 {
     uint8_t name[VTOC_NAME_LENGTH], labels[VTOC_LABELS_LENGTH];
-    make_name(name, text);
+    vtoc_name_from_text(name, text);
     say("obtain %s", text);
     expect(vtoc_obtain(table, sizeof table, name, sizeof name, labels, sizeof labels, answer, sizeof answer), VTOC_OK);
     for (unsigned e = 0; e < labels[VTOC_LABEL_EXTENTS]; e++) {
         const uint8_t *extent = vtoc_label_extent(labels, e);
-        printf("      extent %u: cylinder %d head %d to cylinder %d head %d%s\n", (unsigned)extent[1], extent[2] << 8 | extent[3],
-               extent[4] << 8 | extent[5], extent[6] << 8 | extent[7], extent[8] << 8 | extent[9],
-               extent[0] == 0x81 ? ", whole cylinders" : "");
+        printf("      extent %u: track ", (unsigned)extent[VTOC_EXTENT_NUMBER]);
+        print_track(vtoc_track(extent + VTOC_EXTENT_FIRST, HEADS));
+        printf(" to ");
+        print_track(vtoc_track(extent + VTOC_EXTENT_LAST, HEADS));
+        printf("%s\n", extent[VTOC_EXTENT_TYPE] == 0x81 ? ", whole cylinders" : "");
     }
 }
 

@@ -17,22 +17,34 @@
  * refused ones; no call reads or writes outside the buffers it was lent; every call ends. docs/THEOREM.md has the one theorem
  * about lists of calls: each track lies in exactly one place, and the data sets are those that the replies have granted.
  *
- * WHAT THE HOST OWES, since no proof sees it
- *   - The buffers of one call do not overlap, not by a byte (`restrict` below): a name does not point into the table or into
- *     the labels of the same call, and in vtoc_rename the old and the new name are two buffers.
- *   - A pointer points to as many bytes as the length after it says; with length 0 it may be null.
- *   - Nobody else writes a lent buffer while the call runs, or reads one that the call may write.
- *   - Between two calls nobody but the host's own reading and writing of the volume changes the table. A table changed in some
- *     other way is refused (VTOC_E_UNSOUND) or, where it still meets every rule of the layout, taken as it now is.
+ * The inline functions of this header are plain C and are not proved; tests/header.c tries each of them.
+ *
+ * DUTIES THAT ARE C'S OWN. No proof sees a C program, so these are the host's; in Rattle the types keep 1 to 3.
+ *   1. Pointers are valid and lengths are true: a pointer points to as many bytes as the length after it says, to be read, and to
+ *      be written where it is not const. With length 0 it may be null.
+ *   2. What a call may write (each buffer that is not const) overlaps no other buffer of that call, not by a byte: `restrict`
+ *      below. Buffers that a call only reads may overlap or be one buffer, since they are shared borrows (`&`) in Rattle: the two
+ *      names of vtoc_rename, name and attributes of vtoc_allocate, and in vtoc_obtain a name that lies in the table.
+ *   3. While a call runs, nothing else (a thread, a signal handler, a device) writes a buffer that was lent to it, or reads one
+ *      that it may write. So no two threads are at one table, but for vtoc_obtain and vtoc_lspace: these may run side by side on
+ *      one table, each with an answer and labels of its own. Calls on different tables may always run at the same time.
+ *   4. There are VTOC_STACK_NEED bytes of stack (tests/stack.c measures what a call needs).
+ * There is no other. Bytes, numbers, lengths and the order of calls may be any; buffers need no alignment; a table that was
+ * changed between two calls is refused (VTOC_E_UNSOUND) or, where it still meets every rule of the layout, taken as it now is.
+ * For the inline functions 1 to 3 hold too, with as many bytes as each of them says.
  *
  * A REFUSAL WRITES NO BYTE: not of the table, not of the answer, not of the labels. Nothing needs to be undone.
  *
- * THREADS. The library has no state of its own, takes no lock and makes no system call. Calls on different tables may run at
- * the same time. On one table vtoc_obtain and vtoc_lspace may run side by side, each with an answer and labels of its own; any
- * other call needs the table to itself.
+ * The library has no state of its own, takes no lock, allocates nothing and makes no system call.
  *
- * MEMORY. Nothing is allocated. A call needs less than VTOC_STACK_NEED bytes of stack (tests/stack.c measures it). Buffers need
- * no alignment.
+ * A FILE IS CLOSED by the host itself, in the table: no call is needed. In the format 1 of a data set it may write the TTR of the
+ * last block (bytes 98-100, DS1LSTAR) and the attributes (bytes 45-58, 60-93 and 101-104; DS1TRBAL is among them), and no other
+ * byte of the table. The layout lets these be any bytes, so the table stays taken, and no track, name or record changes hands.
+ * The theorem about lists of calls does not speak of such a write; tests/promises.c tries all values of each of these bytes.
+ *   uint32_t slot = vtoc_find_slot(table, table_length, name);
+ *   if (slot != 0 && vtoc_label_set_last_block(table + slot * VTOC_RECORD_LENGTH, vtoc_ttr(tt, r)) == VTOC_OK)
+ *       .. write record slot back to the volume ..
+ * vtoc_release stores a TTR too, and gives back the tracks behind it.
  *
  * BUILD
  *   rt staticlib vtoc && cc -Iinclude examples/host.c target/staticlib/libvtoc.a -o target/host
@@ -53,9 +65,25 @@
 #endif
 #endif
 
+/* A host that does not look at a result may take a refusal for a grant: compilers that can, warn of it. */
+#ifndef VTOC_NODISCARD
+#if defined(__GNUC__)
+#define VTOC_NODISCARD __attribute__((warn_unused_result))
+#elif (defined(__cplusplus) && __cplusplus >= 201703L) || (defined(__STDC_VERSION__) && __STDC_VERSION__ >= 202311L)
+#define VTOC_NODISCARD [[nodiscard]]
+#else
+#define VTOC_NODISCARD
+#endif
+#endif
+
 #ifdef __cplusplus
 extern "C" {
 #endif
+
+/* ---- Version ------------------------------------------------------------------------------------------------------------ */
+
+#define VTOC_VERSION 100 /* of this header, 100 x major + minor: a new major number where a host must change, else a new minor */
+#define VTOC_REQUESTS 0  /* how many of document 02's requests are in, from the first on */
 
 /* ---- Lengths, in bytes unless said otherwise ---------------------------------------------------------------------------- */
 
@@ -64,14 +92,17 @@ extern "C" {
 #define VTOC_MOST_RECORDS 468     /* .. to 468 */
 #define VTOC_MOST_TABLE_LENGTH 65520 /* 468 records */
 #define VTOC_NAME_LENGTH 44       /* a data set name, filled up with blanks, X'40' */
+#define VTOC_TEXT_LENGTH 45       /* the same as a C string */
 #define VTOC_ATTRIBUTES_LENGTH 52 /* format 1 bytes 45-58, 60-93 and 101-104, in this order: any bytes */
 #define VTOC_ANSWER_LENGTH 24     /* the answer of every call */
 #define VTOC_LABELS_LENGTH 280    /* vtoc_obtain: format 1, then format 3 or zeros */
 #define VTOC_MOST_PIECES 5        /* pieces of one grant */
 #define VTOC_MOST_EXTENTS 16      /* extents of one data set */
 #define VTOC_MOST_TRACKS 65535    /* tracks of a volume, and the most tracks or cylinders of one request */
+#define VTOC_MOST_HEADS 255       /* tracks to a cylinder */
 #define VTOC_MOST_SECONDARY 16777215 /* tracks or cylinders */
 #define VTOC_STACK_NEED 16384     /* no call needs more stack */
+#define VTOC_NO_TRACK UINT32_MAX  /* no track of any volume; as a start it is refused (VTOC_E_AMOUNT) */
 
 /* ---- Kinds of a request (vtoc_allocate) ---------------------------------------------------------------------------------- */
 
@@ -136,9 +167,11 @@ extern "C" {
 
 /*
  * Writes the table of a volume with no data set: c cylinders of h tracks, and a VTOC of v tracks from track s with d records on
- * each. table_length is v * d * 140; what was in the table counts for nothing. The answer is 24 zeros.
+ * each. c counts the primary cylinders alone: each track of each cylinder that is counted may be granted, and alternate tracks
+ * must not be. table_length is v * d * 140; what was in the table counts for nothing. The answer is 24 zeros.
  * Refusals: 1, 2.
  */
+VTOC_NODISCARD
 uint32_t vtoc_initialise(uint8_t *VTOC_RESTRICT table, size_t table_length, uint32_t c, uint32_t h, uint32_t d, uint32_t s,
                          uint32_t v, uint8_t *VTOC_RESTRICT answer, size_t answer_length);
 
@@ -147,15 +180,17 @@ uint32_t vtoc_initialise(uint8_t *VTOC_RESTRICT table, size_t table_length, uint
  * secondary is what each later vtoc_extend grants, in the unit of kind. The answer has the tracks granted and the pieces.
  * Refusals: 2, 3, 4, 7, 6, 9, 11.
  */
-uint32_t vtoc_allocate(uint8_t *VTOC_RESTRICT table, size_t table_length, const uint8_t *VTOC_RESTRICT name, size_t name_length,
-                       const uint8_t *VTOC_RESTRICT attributes, size_t attributes_length, uint32_t kind, uint32_t start,
-                       uint32_t amount, uint32_t secondary, uint8_t *VTOC_RESTRICT answer, size_t answer_length);
+VTOC_NODISCARD
+uint32_t vtoc_allocate(uint8_t *VTOC_RESTRICT table, size_t table_length, const uint8_t *name, size_t name_length,
+                       const uint8_t *attributes, size_t attributes_length, uint32_t kind, uint32_t start, uint32_t amount,
+                       uint32_t secondary, uint8_t *VTOC_RESTRICT answer, size_t answer_length);
 
 /*
  * Grants the secondary amount once more; the new pieces follow the extents that the data set has, and are not joined to them.
  * The answer has the tracks granted and the pieces. Refusals: 2, 3, 4, 5, 8, 9, 10, 11.
  */
-uint32_t vtoc_extend(uint8_t *VTOC_RESTRICT table, size_t table_length, const uint8_t *VTOC_RESTRICT name, size_t name_length,
+VTOC_NODISCARD
+uint32_t vtoc_extend(uint8_t *VTOC_RESTRICT table, size_t table_length, const uint8_t *name, size_t name_length,
                      uint8_t *VTOC_RESTRICT answer, size_t answer_length);
 
 /*
@@ -163,43 +198,52 @@ uint32_t vtoc_extend(uint8_t *VTOC_RESTRICT table, size_t table_length, const ui
  * answer has the tracks given back, which may be 0. TT 0, R 0 (an empty data set) keeps one track.
  * Refusals: 2, 3, 4, 5, 12, 11.
  */
-uint32_t vtoc_release(uint8_t *VTOC_RESTRICT table, size_t table_length, const uint8_t *VTOC_RESTRICT name, size_t name_length,
+VTOC_NODISCARD
+uint32_t vtoc_release(uint8_t *VTOC_RESTRICT table, size_t table_length, const uint8_t *name, size_t name_length,
                       uint32_t ttr, uint8_t *VTOC_RESTRICT answer, size_t answer_length);
 
 /*
  * Removes a data set; its tracks and records are free again. The answer has the tracks given back. Refusals: 2, 3, 4, 5.
  */
-uint32_t vtoc_scratch(uint8_t *VTOC_RESTRICT table, size_t table_length, const uint8_t *VTOC_RESTRICT name, size_t name_length,
+VTOC_NODISCARD
+uint32_t vtoc_scratch(uint8_t *VTOC_RESTRICT table, size_t table_length, const uint8_t *name, size_t name_length,
                       uint8_t *VTOC_RESTRICT answer, size_t answer_length);
 
 /*
- * Changes the name of a data set. The answer is 24 zeros. Refusals: 2, 3, 4 (either name), 5, 6.
+ * Changes the name of a data set. The answer is 24 zeros. Refusals: 2, 3, 4 (either name), 5, 6. Old and new name may be one
+ * buffer: that is a name renamed to itself, and refused by 4, 5 or 6.
  */
-uint32_t vtoc_rename(uint8_t *VTOC_RESTRICT table, size_t table_length, const uint8_t *VTOC_RESTRICT old_name,
-                     size_t old_name_length, const uint8_t *VTOC_RESTRICT new_name, size_t new_name_length,
-                     uint8_t *VTOC_RESTRICT answer, size_t answer_length);
+VTOC_NODISCARD
+uint32_t vtoc_rename(uint8_t *VTOC_RESTRICT table, size_t table_length, const uint8_t *old_name, size_t old_name_length,
+                     const uint8_t *new_name, size_t new_name_length, uint8_t *VTOC_RESTRICT answer, size_t answer_length);
 
 /*
  * Reads the labels of a data set: its format 1, then its format 3 or 140 zeros. vtoc_label_extent, below, finds an extent in
  * them. The answer is 24 zeros. Refusals: 2, 3, 4, 5.
  */
-uint32_t vtoc_obtain(const uint8_t *VTOC_RESTRICT table, size_t table_length, const uint8_t *VTOC_RESTRICT name,
-                     size_t name_length, uint8_t *VTOC_RESTRICT labels, size_t labels_length, uint8_t *VTOC_RESTRICT answer,
-                     size_t answer_length);
+VTOC_NODISCARD
+uint32_t vtoc_obtain(const uint8_t *table, size_t table_length, const uint8_t *name, size_t name_length,
+                     uint8_t *VTOC_RESTRICT labels, size_t labels_length, uint8_t *VTOC_RESTRICT answer, size_t answer_length);
 
 /*
  * Says how much is free: the answer has the six numbers of vtoc_answer_space, below. It is also the simplest way to ask whether a
  * table is taken at all. Refusals: 2, 3.
  */
-uint32_t vtoc_lspace(const uint8_t *VTOC_RESTRICT table, size_t table_length, uint8_t *VTOC_RESTRICT answer,
-                     size_t answer_length);
+VTOC_NODISCARD
+uint32_t vtoc_lspace(const uint8_t *table, size_t table_length, uint8_t *VTOC_RESTRICT answer, size_t answer_length);
 
 /* ---- Readers of the answer. Each is for an answer of 24 bytes that a call with result VTOC_OK has written. --------------- */
+
+/* The number in two bytes. */
+static inline uint32_t vtoc_two(const uint8_t *bytes)
+{
+    return (uint32_t)bytes[0] << 8 | bytes[1];
+}
 
 /* allocate and extend: tracks granted. release and scratch: tracks given back. */
 static inline uint32_t vtoc_answer_tracks(const uint8_t *answer)
 {
-    return (uint32_t)answer[0] << 8 | answer[1];
+    return vtoc_two(answer);
 }
 
 /* allocate and extend: the number of pieces, 1 to 5. */
@@ -211,13 +255,13 @@ static inline uint32_t vtoc_answer_pieces(const uint8_t *answer)
 /* The first track of piece i, from 0; 0 where there is no such piece. */
 static inline uint32_t vtoc_answer_start(const uint8_t *answer, uint32_t i)
 {
-    return i < VTOC_MOST_PIECES ? (uint32_t)answer[3 + 4 * i] << 8 | answer[4 + 4 * i] : 0;
+    return i < VTOC_MOST_PIECES ? vtoc_two(answer + 3 + 4 * i) : 0;
 }
 
 /* The tracks of piece i, from 0; 0 where there is no such piece. */
 static inline uint32_t vtoc_answer_count(const uint8_t *answer, uint32_t i)
 {
-    return i < VTOC_MOST_PIECES ? (uint32_t)answer[5 + 4 * i] << 8 | answer[6 + 4 * i] : 0;
+    return i < VTOC_MOST_PIECES ? vtoc_two(answer + 5 + 4 * i) : 0;
 }
 
 /* The numbers of vtoc_lspace, in the order of the answer. */
@@ -228,28 +272,215 @@ static inline uint32_t vtoc_answer_count(const uint8_t *answer, uint32_t i)
 #define VTOC_SPACE_LONGEST_ODD 4       /* and its tracks left over */
 #define VTOC_SPACE_RECORDS 5           /* free records (format 0s) */
 
+/* One of these six numbers; 0 where there is no such number. */
 static inline uint32_t vtoc_answer_space(const uint8_t *answer, uint32_t number)
 {
-    return number <= VTOC_SPACE_RECORDS ? (uint32_t)answer[2 * number] << 8 | answer[2 * number + 1] : 0;
+    return number <= VTOC_SPACE_RECORDS ? vtoc_two(answer + 2 * number) : 0;
 }
 
-/* ---- Readers of the labels that vtoc_obtain has written --------------------------------------------------------------- */
+/* The trade's word for a result: "accepted" for VTOC_OK, a refusal's word, "unknown" for any other number. */
+static inline const char *vtoc_refusal_word(uint32_t result)
+{
+    static const char *const words[] = {"accepted",  "geometry", "length",       "VTOC unsound", "name",    "not found",
+                                        "duplicate", "amount",   "no secondary", "no space",     "extents", "VTOC full",
+                                        "TTR"};
+    return result < sizeof words / sizeof words[0] ? words[result] : "unknown";
+}
 
+/* ---- Labels: the 280 bytes that vtoc_obtain has written. A format 1 in the table has the same places. -------------------- */
+
+#define VTOC_LABEL_ID 44         /* X'F1', a format 1 (DS1FMTID) */
 #define VTOC_LABEL_EXTENTS 59    /* the number of extents, 1 to 16 (DS1NOEPV) */
 #define VTOC_LABEL_UNIT 94       /* X'80' tracks, X'C0' cylinders, X'00' absolute (DS1SCALO) */
 #define VTOC_LABEL_SECONDARY 95  /* the secondary amount, 3 bytes */
 #define VTOC_LABEL_LAST_BLOCK 98 /* TTR of the last block, 3 bytes (DS1LSTAR) */
 
-/* The ten bytes of extent e, from 0 and below the number of extents: type, number, CCHH of the first track and of the last. */
+/* The ten bytes of extent e, from 0, in labels of 280 bytes; zeros from the number of extents on. Null where e is above 15. */
 static inline const uint8_t *vtoc_label_extent(const uint8_t *labels, uint32_t e)
 {
+    if (e >= VTOC_MOST_EXTENTS)
+        return NULL;
     return labels + (e < 3 ? 105 + 10 * e : VTOC_RECORD_LENGTH + (e < 7 ? 4 + 10 * (e - 3) : 45 + 10 * (e - 7)));
 }
+
+/* Places in the ten bytes of an extent. */
+#define VTOC_EXTENT_TYPE 0   /* X'81' starts a cylinder and ends one, X'01' needn't */
+#define VTOC_EXTENT_NUMBER 1 /* counted from 0 */
+#define VTOC_EXTENT_FIRST 2  /* CCHH of the first track, 4 bytes */
+#define VTOC_EXTENT_LAST 6   /* CCHH of the last track, 4 bytes */
 
 /* A TTR as vtoc_release takes it. A track or record too large for its bytes makes a TTR that is refused, never another one. */
 static inline uint32_t vtoc_ttr(uint32_t track, uint32_t record)
 {
     return track > 65535 || record > 255 ? UINT32_MAX : track << 8 | record;
+}
+
+/* The TTR of the last block in a format 1 of 140 bytes. */
+static inline uint32_t vtoc_label_last_block(const uint8_t *label)
+{
+    return vtoc_two(label + VTOC_LABEL_LAST_BLOCK) << 8 | label[VTOC_LABEL_LAST_BLOCK + 2];
+}
+
+/* Writes the TTR of the last block into a format 1 of 140 bytes: VTOC_OK. Wider than three bytes: VTOC_E_TTR, nothing written. */
+static inline uint32_t vtoc_label_set_last_block(uint8_t *label, uint32_t ttr)
+{
+    if (ttr > 0xFFFFFF)
+        return VTOC_E_TTR;
+    label[VTOC_LABEL_LAST_BLOCK] = (uint8_t)(ttr >> 16);
+    label[VTOC_LABEL_LAST_BLOCK + 1] = (uint8_t)(ttr >> 8 & 0xFF);
+    label[VTOC_LABEL_LAST_BLOCK + 2] = (uint8_t)(ttr & 0xFF);
+    return VTOC_OK;
+}
+
+/* The byte of a format 1 where attribute byte i, from 0, lies: 45-58, 60-93, 101-104; 0 where i is above 51. */
+static inline uint32_t vtoc_attribute_place(uint32_t i)
+{
+    return i < 14 ? 45 + i : i < 48 ? 60 + (i - 14) : i < VTOC_ATTRIBUTES_LENGTH ? 101 + (i - 48) : 0;
+}
+
+/* Copies the 52 attribute bytes out of a format 1 of 140 bytes. */
+static inline void vtoc_label_attributes(const uint8_t *label, uint8_t *attributes)
+{
+    for (uint32_t i = 0; i < VTOC_ATTRIBUTES_LENGTH; i++)
+        attributes[i] = label[vtoc_attribute_place(i)];
+}
+
+/* Writes the 52 attribute bytes into a format 1 of 140 bytes. */
+static inline void vtoc_label_set_attributes(uint8_t *label, const uint8_t *attributes)
+{
+    for (uint32_t i = 0; i < VTOC_ATTRIBUTES_LENGTH; i++)
+        label[vtoc_attribute_place(i)] = attributes[i];
+}
+
+/* ---- Tables and tracks --------------------------------------------------------------------------------------------------- */
+
+/* The track of four bytes CCHH on a volume with h tracks to a cylinder. VTOC_NO_TRACK where HH is not below h, where the track is
+   not below 65,535, and where h is not 1 to 255: no track of such a volume has that address. */
+static inline uint32_t vtoc_track(const uint8_t *cchh, uint32_t h)
+{
+    uint32_t hh = vtoc_two(cchh + 2), track = vtoc_two(cchh) * h + hh;
+    return h <= VTOC_MOST_HEADS && hh < h && track < VTOC_MOST_TRACKS ? track : VTOC_NO_TRACK;
+}
+
+/* Writes the four bytes CCHH of a track, and four times X'FF' where vtoc_track finds the track in no address. */
+static inline void vtoc_cchh(uint8_t *cchh, uint32_t track, uint32_t h)
+{
+    uint32_t is_one = h > 0 && h <= VTOC_MOST_HEADS && track < VTOC_MOST_TRACKS;
+    uint32_t cc = is_one ? track / h : 0xFFFF, hh = is_one ? track % h : 0xFFFF;
+    cchh[0] = (uint8_t)(cc >> 8);
+    cchh[1] = (uint8_t)(cc & 0xFF);
+    cchh[2] = (uint8_t)(hh >> 8);
+    cchh[3] = (uint8_t)(hh & 0xFF);
+}
+
+/* A volume as vtoc_initialise takes it. */
+struct vtoc_geometry {
+    uint32_t c; /* cylinders */
+    uint32_t h; /* tracks to a cylinder */
+    uint32_t d; /* records on a track of the VTOC */
+    uint32_t s; /* the VTOC's first track */
+    uint32_t v; /* the VTOC's tracks */
+};
+
+/* The geometry in the format 4 of a table that is taken. Of other bytes the numbers mean nothing; below 140 bytes they are 0. */
+static inline struct vtoc_geometry vtoc_table_geometry(const uint8_t *table, size_t table_length)
+{
+    struct vtoc_geometry g = {0, 0, 0, 0, 0};
+    if (table_length >= VTOC_RECORD_LENGTH) {
+        const uint8_t *extent = table + 105;
+        g.c = vtoc_two(table + 62);
+        g.h = vtoc_two(table + 64);
+        g.d = table[74];
+        g.s = vtoc_track(extent + VTOC_EXTENT_FIRST, g.h);
+        g.v = vtoc_track(extent + VTOC_EXTENT_LAST, g.h) - g.s + 1;
+    }
+    return g;
+}
+
+/* The slot of the format 1 with a name of 44 bytes, which is record slot of the table, from byte slot * 140 on. 0 where there is
+   none: slots 0 and 1 have a format 4 and a format 5. For a table that is taken; of a longer one 468 records are read. */
+static inline uint32_t vtoc_find_slot(const uint8_t *table, size_t table_length, const uint8_t *name)
+{
+    for (uint32_t slot = 2; slot < VTOC_MOST_RECORDS && table_length / VTOC_RECORD_LENGTH > slot; slot++) {
+        const uint8_t *record = table + slot * VTOC_RECORD_LENGTH;
+        uint32_t same = 0;
+        while (same < VTOC_NAME_LENGTH && record[same] == name[same])
+            same++;
+        if (same == VTOC_NAME_LENGTH && record[VTOC_LABEL_ID] == 0xF1)
+            return slot;
+    }
+    return 0;
+}
+
+/* ---- Names --------------------------------------------------------------------------------------------------------------- */
+
+/* The EBCDIC of a character that a name may have (A to Z, 0 to 9, $ # @, hyphen, period); X'00' for any other, lower case too. */
+static inline uint8_t vtoc_ebcdic(char character)
+{
+    if (character >= 'A' && character <= 'I')
+        return (uint8_t)(0xC1 + (character - 'A'));
+    if (character >= 'J' && character <= 'R')
+        return (uint8_t)(0xD1 + (character - 'J'));
+    if (character >= 'S' && character <= 'Z')
+        return (uint8_t)(0xE2 + (character - 'S'));
+    if (character >= '0' && character <= '9')
+        return (uint8_t)(0xF0 + (character - '0'));
+    switch (character) {
+    case '$': return 0x5B;
+    case '#': return 0x7B;
+    case '@': return 0x7C;
+    case '-': return 0x60;
+    case '.': return 0x4B;
+    default: return 0x00;
+    }
+}
+
+/* The character of an EBCDIC byte that a name may have; '?' for any other, as vtlist prints it. */
+static inline char vtoc_character(uint8_t byte)
+{
+    if (byte >= 0xC1 && byte <= 0xC9)
+        return (char)('A' + (byte - 0xC1));
+    if (byte >= 0xD1 && byte <= 0xD9)
+        return (char)('J' + (byte - 0xD1));
+    if (byte >= 0xE2 && byte <= 0xE9)
+        return (char)('S' + (byte - 0xE2));
+    if (byte >= 0xF0 && byte <= 0xF9)
+        return (char)('0' + (byte - 0xF0));
+    switch (byte) {
+    case 0x5B: return '$';
+    case 0x7B: return '#';
+    case 0x7C: return '@';
+    case 0x60: return '-';
+    case 0x4B: return '.';
+    default: return '?';
+    }
+}
+
+/* Makes the 44 bytes of a name from a C string: its EBCDIC, then blanks. VTOC_OK where it is 1 to 44 characters that a name may
+   have. Any other text has no EBCDIC name: the result is VTOC_E_NAME and the name 44 zeros, which every call refuses with that
+   number; so the result may be left aside. Parts and their first characters are not looked at here: the calls do that. */
+static inline uint32_t vtoc_name_from_text(uint8_t *name, const char *text)
+{
+    uint32_t length = 0, is_one;
+    while (length < VTOC_NAME_LENGTH && vtoc_ebcdic(text[length]) != 0)
+        length++;
+    is_one = length > 0 && text[length] == '\0';
+    for (uint32_t i = 0; i < VTOC_NAME_LENGTH; i++)
+        name[i] = (uint8_t)(!is_one ? 0x00 : i < length ? vtoc_ebcdic(text[i]) : 0x40);
+    return is_one ? VTOC_OK : VTOC_E_NAME;
+}
+
+/* Makes a C string from the 44 bytes of a name, without the blanks at its end; a byte that no name has becomes '?'. The text has
+   room for VTOC_TEXT_LENGTH characters and is also what the function returns. */
+static inline char *vtoc_text_from_name(char *text, const uint8_t *name)
+{
+    uint32_t length = VTOC_NAME_LENGTH;
+    while (length > 0 && name[length - 1] == 0x40)
+        length--;
+    for (uint32_t i = 0; i < length; i++)
+        text[i] = vtoc_character(name[i]);
+    text[length] = '\0';
+    return text;
 }
 
 #ifdef __cplusplus

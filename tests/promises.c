@@ -1,0 +1,257 @@
+/*
+ * promises.c: what include/vtoc.h tells hosts they may do, done with the library. One buffer for two that are only read; a file
+ * closed in the table; the header's limits, its readers and other inline functions on tables and labels that the library writes.
+ *
+ *   cc -std=c99 -Iinclude tests/promises.c target/staticlib/libvtoc.a -o target/promises && target/promises
+ */
+#include <stdio.h>
+#include <stdlib.h>
+#include <string.h>
+
+#include "vtoc.h"
+
+enum { C = 40, H = 5, D = 10, S = 7, V = 2, LENGTH = V * D * VTOC_RECORD_LENGTH };
+
+static uint8_t table[LENGTH], copy[LENGTH];
+static uint8_t answer[VTOC_ANSWER_LENGTH], other_answer[VTOC_ANSWER_LENGTH];
+static uint8_t labels[VTOC_LABELS_LENGTH];
+static uint8_t attributes[VTOC_ATTRIBUTES_LENGTH];
+
+static void check_at(int holds, int line, const char *what)
+{
+    if (!holds) {
+        printf("promises.c:%d: not so: %s\n", line, what);
+        exit(EXIT_FAILURE);
+    }
+}
+#define CHECK(holds) check_at((holds) ? 1 : 0, __LINE__, #holds)
+
+/* The name of a text, in one of two buffers that stay. */
+static const uint8_t *name_of(const char *text)
+{
+    static uint8_t names[2][VTOC_NAME_LENGTH];
+    static int turn;
+    turn = 1 - turn;
+    vtoc_name_from_text(names[turn], text);
+    return names[turn];
+}
+
+static uint32_t initialise(void)
+{
+    return vtoc_initialise(table, LENGTH, C, H, D, S, V, answer, sizeof answer);
+}
+
+static uint32_t allocate(const char *text, uint32_t kind, uint32_t start, uint32_t amount, uint32_t secondary)
+{
+    return vtoc_allocate(table, LENGTH, name_of(text), 44, attributes, 52, kind, start, amount, secondary, answer, sizeof answer);
+}
+
+static uint32_t obtain(const char *text)
+{
+    return vtoc_obtain(table, LENGTH, name_of(text), 44, labels, sizeof labels, answer, sizeof answer);
+}
+
+/* A volume with three data sets. */
+static void volume(void)
+{
+    for (unsigned i = 0; i < sizeof attributes; i++)
+        attributes[i] = (uint8_t)(3 * i + 1);
+    CHECK(initialise() == VTOC_OK);
+    CHECK(allocate("FLT.A", VTOC_TRACKS, 0, 4, 2) == VTOC_OK);
+    CHECK(allocate("FLT.B", VTOC_CYLINDERS, 0, 2, 1) == VTOC_OK);
+    CHECK(allocate("FLT.C", VTOC_ABSOLUTE, 100, 9, 0) == VTOC_OK);
+}
+
+/* ---- One buffer for two that are only read ------------------------------------------------------------------------------- */
+
+/* Renames in the table with the two names where they are, and in a copy with copies of them: same result and bytes. */
+static uint32_t rename_alike(const uint8_t *old_name, size_t old_length, const uint8_t *new_name, size_t new_length)
+{
+    uint8_t old_copy[VTOC_NAME_LENGTH + 1], new_copy[VTOC_NAME_LENGTH + 1];
+    uint32_t result, other;
+    memcpy(old_copy, old_name, old_length);
+    memcpy(new_copy, new_name, new_length);
+    memcpy(copy, table, LENGTH);
+    memset(answer, 0xA5, sizeof answer);
+    memset(other_answer, 0xA5, sizeof other_answer);
+    result = vtoc_rename(table, LENGTH, old_name, old_length, new_name, new_length, answer, sizeof answer);
+    other = vtoc_rename(copy, LENGTH, old_copy, old_length, new_copy, new_length, other_answer, sizeof other_answer);
+    CHECK(result == other);
+    CHECK(memcmp(table, copy, LENGTH) == 0 && memcmp(answer, other_answer, sizeof answer) == 0);
+    CHECK(memcmp(old_name, old_copy, old_length) == 0 && memcmp(new_name, new_copy, new_length) == 0);
+    return result;
+}
+
+static void renames(void)
+{
+    uint8_t name[VTOC_NAME_LENGTH + 1];
+    memset(name, 0x40, sizeof name);
+    volume();
+    /* One buffer is a name renamed to itself. Document 01's order: 2, 3, 4 (either name), 5, 6. */
+    memcpy(name, name_of("FLT.A"), 44);
+    CHECK(rename_alike(name, 44, name, 43) == VTOC_E_LENGTH);
+    CHECK(rename_alike(name, 45, name, 44) == VTOC_E_LENGTH);
+    CHECK(rename_alike(name, 44, name, 44) == VTOC_E_DUPLICATE);
+    memcpy(name, name_of("FLT.X"), 44);
+    CHECK(rename_alike(name, 44, name, 44) == VTOC_E_NOT_FOUND);
+    memcpy(name, name_of("FLT..A"), 44);
+    CHECK(rename_alike(name, 44, name, 44) == VTOC_E_NAME);
+    table[LENGTH - 1] ^= 1;
+    CHECK(rename_alike(name, 44, name, 44) == VTOC_E_UNSOUND);
+    table[LENGTH - 1] ^= 1;
+    /* Two names that overlap: the second begins with the second character of the first. */
+    memcpy(name, name_of("FLT.A"), 44);
+    CHECK(rename_alike(name, 44, name + 1, 44) == VTOC_OK);
+    CHECK(obtain("FLT.A") == VTOC_E_NOT_FOUND && obtain("LT.A") == VTOC_OK);
+    CHECK(rename_alike(name + 1, 44, name, 44) == VTOC_OK);
+    CHECK(obtain("FLT.A") == VTOC_OK && obtain("LT.A") == VTOC_E_NOT_FOUND);
+}
+
+static void other_pairs(void)
+{
+    uint8_t both[VTOC_ATTRIBUTES_LENGTH], apart[VTOC_NAME_LENGTH], other_labels[VTOC_LABELS_LENGTH];
+    uint32_t slot;
+    /* The name is the first 44 attribute bytes. */
+    volume();
+    memcpy(copy, table, LENGTH);
+    memset(both, 0x77, sizeof both);
+    memcpy(both, name_of("FLT.D"), 44);
+    memcpy(apart, both, 44);
+    CHECK(vtoc_allocate(table, LENGTH, both, 44, both, 52, VTOC_TRACKS, 0, 3, 1, answer, 24) == VTOC_OK);
+    CHECK(vtoc_allocate(copy, LENGTH, apart, 44, both, 52, VTOC_TRACKS, 0, 3, 1, other_answer, 24) == VTOC_OK);
+    CHECK(memcmp(table, copy, LENGTH) == 0 && memcmp(answer, other_answer, sizeof answer) == 0);
+    CHECK(memcmp(both, apart, 44) == 0 && both[44] == 0x77 && both[51] == 0x77);
+    /* The name is the one in the format 1 that it is looked up in. */
+    slot = vtoc_find_slot(table, LENGTH, both);
+    CHECK(slot != 0);
+    CHECK(vtoc_obtain(table, LENGTH, table + slot * 140, 44, labels, 280, answer, 24) == VTOC_OK);
+    CHECK(vtoc_obtain(copy, LENGTH, apart, 44, other_labels, 280, other_answer, 24) == VTOC_OK);
+    CHECK(memcmp(labels, other_labels, sizeof labels) == 0 && memcmp(answer, other_answer, sizeof answer) == 0);
+    CHECK(memcmp(table, copy, LENGTH) == 0);
+}
+
+/* ---- A file closed in the table ------------------------------------------------------------------------------------------ */
+
+static void closings(void)
+{
+    uint8_t changed[VTOC_ATTRIBUTES_LENGTH], seen[VTOC_ATTRIBUTES_LENGTH];
+    uint32_t slot;
+    uint8_t *label;
+    volume();
+    slot = vtoc_find_slot(table, LENGTH, name_of("FLT.B"));
+    CHECK(slot != 0 && vtoc_find_slot(table, LENGTH, name_of("FLT.X")) == 0);
+    label = table + slot * VTOC_RECORD_LENGTH;
+    CHECK(obtain("FLT.B") == VTOC_OK && memcmp(labels, label, 140) == 0);
+    CHECK(vtoc_label_last_block(label) == 0);
+    vtoc_label_attributes(label, seen);
+    CHECK(memcmp(seen, attributes, sizeof seen) == 0);
+
+    CHECK(vtoc_lspace(table, LENGTH, other_answer, sizeof other_answer) == VTOC_OK);
+    for (unsigned i = 0; i < sizeof changed; i++)
+        changed[i] = (uint8_t)(0xFF - i);
+    vtoc_label_set_attributes(label, changed);
+    CHECK(vtoc_label_set_last_block(label, vtoc_ttr(7, 12)) == VTOC_OK);
+    CHECK(obtain("FLT.B") == VTOC_OK && memcmp(labels, label, 140) == 0 && vtoc_label_last_block(labels) == 0x70C);
+    vtoc_label_attributes(labels, seen);
+    CHECK(memcmp(seen, changed, sizeof seen) == 0);
+
+    /* Each of these bytes may be any: the table stays taken, and the space is what it was. */
+    for (unsigned place = 45; place < 105; place++)
+        if (place != 59 && !(place >= 94 && place <= 97))
+            for (unsigned byte = 0; byte < 256; byte++) {
+                label[place] = (uint8_t)byte;
+                CHECK(vtoc_lspace(table, LENGTH, answer, sizeof answer) == VTOC_OK);
+                CHECK(memcmp(answer, other_answer, sizeof answer) == 0);
+            }
+    CHECK(vtoc_scratch(table, LENGTH, name_of("FLT.B"), 44, answer, sizeof answer) == VTOC_OK);
+    CHECK(vtoc_answer_tracks(answer) == 2 * H);
+}
+
+/* ---- Labels of sixteen extents, geometries, limits ----------------------------------------------------------------------- */
+
+static void sixteen_extents(void)
+{
+    uint32_t starts[16], counts[16];
+    volume();
+    for (uint32_t e = 0; e < 16; e++) {
+        uint32_t result = e == 0 ? allocate("LONG", VTOC_TRACKS, 0, 5, 3)
+                                 : vtoc_extend(table, LENGTH, name_of("LONG"), 44, answer, sizeof answer);
+        CHECK(result == VTOC_OK && vtoc_answer_pieces(answer) == 1 && vtoc_answer_tracks(answer) == (e == 0 ? 5 : 3));
+        starts[e] = vtoc_answer_start(answer, 0);
+        counts[e] = vtoc_answer_count(answer, 0);
+    }
+    CHECK(vtoc_extend(table, LENGTH, name_of("LONG"), 44, answer, sizeof answer) == VTOC_E_EXTENTS);
+    CHECK(obtain("LONG") == VTOC_OK && labels[VTOC_LABEL_EXTENTS] == 16);
+    CHECK(labels[VTOC_LABEL_ID] == 0xF1 && labels[VTOC_LABEL_UNIT] == 0x80 && labels[VTOC_LABEL_SECONDARY + 2] == 3);
+    for (uint32_t e = 0; e < 16; e++) {
+        const uint8_t *extent = vtoc_label_extent(labels, e);
+        CHECK(extent[VTOC_EXTENT_TYPE] == 0x01 && extent[VTOC_EXTENT_NUMBER] == e);
+        CHECK(vtoc_track(extent + VTOC_EXTENT_FIRST, H) == starts[e]);
+        CHECK(vtoc_track(extent + VTOC_EXTENT_LAST, H) == starts[e] + counts[e] - 1);
+    }
+    CHECK(obtain("FLT.B") == VTOC_OK && vtoc_label_extent(labels, 0)[VTOC_EXTENT_TYPE] == 0x81);
+    CHECK(labels[VTOC_LABEL_UNIT] == 0xC0);
+    CHECK(obtain("FLT.C") == VTOC_OK && labels[VTOC_LABEL_UNIT] == 0x00);
+}
+
+static void geometries(void)
+{
+    static const struct vtoc_geometry some[] = {{4, 5, 4, 1, 2},           {404, 19, 39, 1, 2},     {65535, 1, 3, 65534, 1},
+                                                {257, 255, 255, 65534, 1}, {257, 255, 1, 254, 468}, {1, 4, 1, 1, 3}};
+    static uint8_t one[VTOC_MOST_TABLE_LENGTH], again[VTOC_MOST_TABLE_LENGTH];
+    for (size_t i = 0; i < sizeof some / sizeof some[0]; i++) {
+        size_t length = (size_t)some[i].v * some[i].d * VTOC_RECORD_LENGTH;
+        struct vtoc_geometry g;
+        CHECK(vtoc_initialise(one, length, some[i].c, some[i].h, some[i].d, some[i].s, some[i].v, answer, 24) == VTOC_OK);
+        g = vtoc_table_geometry(one, length);
+        CHECK(g.c == some[i].c && g.h == some[i].h && g.d == some[i].d && g.s == some[i].s && g.v == some[i].v);
+        CHECK(vtoc_initialise(again, length, g.c, g.h, g.d, g.s, g.v, answer, 24) == VTOC_OK);
+        CHECK(memcmp(one, again, length) == 0);
+    }
+}
+
+static void limits(void)
+{
+    static uint8_t large[VTOC_MOST_TABLE_LENGTH + VTOC_RECORD_LENGTH];
+    uint8_t zeros[VTOC_NAME_LENGTH];
+    /* H, D and the number of records: the header's limits, and one past each. */
+    CHECK(vtoc_initialise(large, 468 * 140, 2, VTOC_MOST_HEADS, 1, 1, VTOC_MOST_RECORDS, answer, 24) == VTOC_OK);
+    CHECK(vtoc_initialise(large, 468 * 140, 2, VTOC_MOST_HEADS + 1, 1, 1, VTOC_MOST_RECORDS, answer, 24) == VTOC_E_GEOMETRY);
+    CHECK(vtoc_initialise(large, 469 * 140, 2, VTOC_MOST_HEADS, 1, 1, VTOC_MOST_RECORDS + 1, answer, 24) == VTOC_E_GEOMETRY);
+    CHECK(vtoc_initialise(large, 3 * 140, 1, 5, VTOC_LEAST_RECORDS, 1, 1, answer, 24) == VTOC_OK);
+    CHECK(vtoc_initialise(large, 2 * 140, 1, 5, VTOC_LEAST_RECORDS - 1, 1, 1, answer, 24) == VTOC_E_GEOMETRY);
+    CHECK(vtoc_initialise(large, 3 * 140, VTOC_MOST_TRACKS, 1, 3, 1, 1, answer, 24) == VTOC_OK);
+    CHECK(vtoc_initialise(large, 3 * 140, VTOC_MOST_TRACKS + 1, 1, 3, 1, 1, answer, 24) == VTOC_E_GEOMETRY);
+
+    volume();
+    CHECK(allocate("FLT.D", VTOC_TRACKS, 0, VTOC_MOST_TRACKS, 0) == VTOC_E_NO_SPACE);
+    CHECK(allocate("FLT.D", VTOC_TRACKS, 0, VTOC_MOST_TRACKS + 1, 0) == VTOC_E_AMOUNT);
+    CHECK(allocate("FLT.D", VTOC_TRACKS, 0, 1, VTOC_MOST_SECONDARY + 1) == VTOC_E_AMOUNT);
+    CHECK(allocate("FLT.D", VTOC_TRACKS, 0, 1, VTOC_MOST_SECONDARY) == VTOC_OK);
+    CHECK(allocate("FLT.E", VTOC_ABSOLUTE + 1, 0, 1, 0) == VTOC_E_AMOUNT);
+    CHECK(allocate("FLT.E", VTOC_ABSOLUTE, VTOC_NO_TRACK, 1, 0) == VTOC_E_AMOUNT);
+    CHECK(vtoc_release(table, LENGTH, name_of("FLT.A"), 44, vtoc_ttr(0, 256), answer, 24) == VTOC_E_TTR);
+    CHECK(vtoc_release(table, LENGTH, name_of("FLT.A"), 44, vtoc_ttr(65536, 1), answer, 24) == VTOC_E_TTR);
+
+    /* A text without an EBCDIC name makes zeros, and each call refuses them. */
+    CHECK(vtoc_name_from_text(zeros, "FLT A") == VTOC_E_NAME);
+    CHECK(allocate("FLT A", VTOC_TRACKS, 0, 1, 0) == VTOC_E_NAME && obtain("FLT A") == VTOC_E_NAME);
+    CHECK(vtoc_extend(table, LENGTH, zeros, 44, answer, 24) == VTOC_E_NAME);
+    CHECK(vtoc_release(table, LENGTH, zeros, 44, 0, answer, 24) == VTOC_E_NAME);
+    CHECK(vtoc_scratch(table, LENGTH, zeros, 44, answer, 24) == VTOC_E_NAME);
+    CHECK(vtoc_rename(table, LENGTH, zeros, 44, name_of("FLT.E"), 44, answer, 24) == VTOC_E_NAME);
+    CHECK(vtoc_rename(table, LENGTH, name_of("FLT.A"), 44, zeros, 44, answer, 24) == VTOC_E_NAME);
+    /* Characters that a name may have, against the rule of parts: a name for the header, none for the calls. */
+    CHECK(vtoc_name_from_text(zeros, "9FLT") == VTOC_OK && allocate("9FLT", VTOC_TRACKS, 0, 1, 0) == VTOC_E_NAME);
+}
+
+int main(void)
+{
+    renames();
+    other_pairs();
+    closings();
+    sixteen_extents();
+    geometries();
+    limits();
+    return 0;
+}
