@@ -53,23 +53,23 @@ fn store(directory: &Path, check: bool) -> Result<(), String> {
     write(directory, [("stdin", &made.records), ("stdout", &made.lines)], check)
 }
 
-/// The space inquiry, and a request for one cylinder.
-fn space_and_cylinder(table_len: usize) -> Vec<u8> {
-    let allocate = Call::Allocate {
-        name: name("ONE").to_vec(),
+/// The space inquiry, a request for one cylinder, and one for tracks.
+fn space_calls(table_len: usize, tracks: u32) -> Vec<u8> {
+    let allocate = |text, kind, amount| Call::Allocate {
+        name: name(text).to_vec(),
         attributes: ATTRIBUTES.to_vec(),
-        kind: 1,
+        kind,
         start: 0,
-        amount: 1,
+        amount,
         secondary: 0,
     };
-    let recorded = |call| record(call, table_len, 24, 0).expect("right lengths fit");
-    [recorded(&Call::Lspace), recorded(&allocate)].concat()
+    let calls = [Call::Lspace, allocate("CYL", 1, 1), allocate("TRK", 0, tracks)];
+    calls.map(|call| record(&call, table_len, 24, 0).expect("right lengths fit")).concat()
 }
 
 fn store_space(directory: &Path, check: bool) -> Result<(), String> {
     let table = cut_cylinders(7, 5, 4, 1, 2, 3);
-    let calls = space_and_cylinder(table.len());
+    let calls = space_calls(table.len(), 15);
     write(directory, [("space.table", &table), ("space.calls", &calls)], check)
 }
 
@@ -186,7 +186,7 @@ fn leaves(program: &str, made: &Recording, place: &Place) -> Result<(), String> 
 /// line cannot be printed, END stays empty.
 fn refuses(program: &str, place: &Place) -> Result<(), String> {
     let table = cut_cylinders(7, 5, 4, 1, 2, 3);
-    let calls = space_and_cylinder(table.len());
+    let calls = space_calls(table.len(), 15);
     place.put("start", &table)?;
     place.put("empty", b"")?;
     place.put("taken", b"an older copy")?;
@@ -213,6 +213,20 @@ fn refuses(program: &str, place: &Place) -> Result<(), String> {
     place.remove("end")
 }
 
+/// The figures of docs/OPERATORS.md: 198 cylinders are free by length, and not one is granted.
+fn cut_in_two(program: &str, place: &Place) -> Result<(), String> {
+    let table = cut_cylinders(404, 19, 39, 1, 12, 198);
+    place.put("start", &table)?;
+    let words = [&*place.file("start"), &*place.file("end")];
+    let lines = printed(program, &words, &space_calls(table.len(), 180))?;
+    let lines = String::from_utf8_lossy(&lines).into_owned();
+    let answers: Vec<&str> = lines.lines().map(|line| &line[..22]).collect();
+    // 198 cylinders, 3,366 tracks, 198 extents, 1 cylinder and .. in the longest; 9; five pieces.
+    let expected = ["08 00 00C60D2600C60001", "02 09 A5A5A5A5A5A5A5A5", "02 00 00B4050014002400"];
+    must(answers == expected, &format!("198 free cylinders: {lines}"))?;
+    place.remove("end")
+}
+
 fn compare(program: &str) -> Result<(), String> {
     let place = Place::new()?;
     let mut records = 0;
@@ -230,6 +244,7 @@ fn compare(program: &str) -> Result<(), String> {
     }
     cut_short(program)?;
     refuses(program, &place)?;
+    cut_in_two(program, &place)?;
     println!("replayed {records} records, all alike; and the tables left");
     Ok(())
 }
