@@ -74,7 +74,7 @@ fn leave(fd: i32, table: &[u8], lent: usize) -> bool
 }
 
 // Makes END, argument i, plays the input and writes the table there. It is made before anything is played and never
-// written over: an older copy of a table stays as it is.
+// written over: an older copy of a table stays as it is. A part of a table is not left: it could be taken for one.
 fn play_to(i: usize, table: &mut [u8])
     requires { ⌜ length (now table) ≡ 65536 ⌝ }
 {
@@ -88,6 +88,7 @@ fn play_to(i: usize, table: &mut [u8])
     let lent = play_all(table);
     if !leave(fd, table, lent) {
         os::fail(&path[..n]);
+        os::unlink(&path[..n]);
     }
 }
 

@@ -210,7 +210,13 @@ fn refuses(program: &str, place: &Place) -> Result<(), String> {
     let (_, said) = run(program, &[&start, &end], &calls, full.into())?;
     must(!said.is_empty(), "nothing is said of a line that could not be printed")?;
     must(place.holds("end").as_deref() == Some(b""), "END is written though a line is missing")?;
-    place.remove("end")
+    place.remove("end")?;
+    // Files of at most 1,024 bytes: the table has 1,120.
+    let limited = "trap '' XFSZ; ulimit -f 1; exec \"$0\" \"$@\"";
+    let words = ["-c", limited, program, &start, &end];
+    let (lines, said) = run("bash", &words, &calls, Stdio::piped())?;
+    must(lines.len() == 3 * LINE && !said.is_empty(), "nothing is said of an END that is cut")?;
+    must(place.holds("end").is_none(), "a part of the table is left")
 }
 
 /// The figures of docs/OPERATORS.md: 198 cylinders are free by length, and not one is granted.
