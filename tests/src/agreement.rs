@@ -5,13 +5,13 @@ use std::process::ExitCode;
 use crate::generate::tables::{every_table, Shown};
 use crate::reference::layout::extent_part;
 use crate::reference::lspace;
-use crate::volumes::ANSWER;
+use crate::volumes::{small, ANSWER};
 
 /// The fewest tables in all, and the fewest with each answer.
 const TABLES: usize = 20_000;
 const EACH: usize = 1_000;
 
-#[derive(Default)]
+#[derive(Clone, Default)]
 struct Counts {
     tables: usize,
     damaged: usize,
@@ -22,23 +22,27 @@ struct Counts {
 }
 
 /// Asks both about every table and prints counts. Failure at a disagreement, or where too little
-/// was seen.
-pub fn beside_reference(check: impl Fn(&[u8]) -> u32) -> ExitCode {
+/// was seen: an idle run, which shows one table over and over, must fail.
+pub fn beside_reference(check: impl Fn(&[u8]) -> u32, is_idle: bool) -> ExitCode {
     let mut counts = Counts::default();
-    every_table(|shown| counts.compare(&shown, check(shown.table)));
+    let mut judge = |shown: Shown| counts.compare(&shown, check(shown.table));
+    if is_idle {
+        let table = small();
+        (0..TABLES).for_each(|_| judge(Shown { table: &table, origin: "idle", damaged: false }));
+    } else {
+        every_table(judge);
+    }
 
     let Counts { tables, damaged, taken, refused_2, refused_3, disagreements } = counts;
     println!("tables {tables}, of them damaged {damaged}");
     println!("taken {taken}, refused 2 {refused_2}, refused 3 {refused_3}");
     println!("disagreements {disagreements}");
-    if tables < TABLES || [taken, refused_2, refused_3].iter().any(|&seen| seen < EACH) {
-        eprintln!("too few tables of some kind");
-        return ExitCode::FAILURE;
-    }
-    if disagreements == 0 {
-        ExitCode::SUCCESS
-    } else {
-        ExitCode::FAILURE
+    match counts.verdict() {
+        Ok(()) => ExitCode::SUCCESS,
+        Err(why) => {
+            eprintln!("{why}");
+            ExitCode::FAILURE
+        }
     }
 }
 
@@ -69,6 +73,17 @@ pub fn extents_beside_reference(
 }
 
 impl Counts {
+    fn verdict(&self) -> Result<(), &'static str> {
+        if self.disagreements > 0 {
+            return Err("the two disagree");
+        }
+        let kinds = [self.taken, self.refused_2, self.refused_3];
+        if self.tables < TABLES || kinds.iter().any(|&seen| seen < EACH) {
+            return Err("too few tables of some kind");
+        }
+        Ok(())
+    }
+
     /// LSPACE of the reference refuses for the table alone.
     fn compare(&mut self, shown: &Shown, answered: u32) {
         let expected = lspace(shown.table, &mut [0; ANSWER]);
@@ -86,5 +101,30 @@ impl Counts {
                 eprintln!("{origin}, {} bytes: {answered}, not {expected}", table.len());
             }
         }
+    }
+}
+
+#[cfg(test)]
+mod tests {
+    use super::*;
+
+    /// Just enough of everything passes; one fewer of anything, or one disagreement, does not.
+    #[test]
+    fn too_few_or_a_disagreement_fails() {
+        let enough = Counts {
+            tables: 20_000,
+            taken: 1_000,
+            refused_2: 1_000,
+            refused_3: 1_000,
+            ..Counts::default()
+        };
+        assert_eq!(enough.verdict(), Ok(()));
+        let few = Err("too few tables of some kind");
+        assert_eq!(Counts { tables: 19_999, ..enough.clone() }.verdict(), few);
+        assert_eq!(Counts { taken: 999, ..enough.clone() }.verdict(), few);
+        assert_eq!(Counts { refused_2: 999, ..enough.clone() }.verdict(), few);
+        assert_eq!(Counts { refused_3: 999, ..enough.clone() }.verdict(), few);
+        let differ = Err("the two disagree");
+        assert_eq!(Counts { disagreements: 1, ..enough }.verdict(), differ);
     }
 }

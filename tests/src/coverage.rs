@@ -60,6 +60,11 @@ pub const WIDE: [&str; 7] = [
     "400 data sets",
 ];
 
+/// The number of calls from which on a run must have seen everything, and the fewest with each
+/// result of each call then.
+pub const WHOLE: usize = 100_000;
+pub const EACH: usize = 10;
+
 #[derive(Clone, Debug, Default)]
 pub struct Coverage {
     pub results: BTreeMap<(usize, u32), usize>,
@@ -189,6 +194,21 @@ impl Coverage {
     pub fn missing_wide(&self) -> Vec<String> {
         let missing = WIDE.iter().filter(|&f| !self.features.contains_key(f));
         missing.map(|f| f.to_string()).collect()
+    }
+
+    /// What a run of so many calls saw too seldom; nothing is due of one that is not whole.
+    pub fn too_few(&self, calls: usize) -> Vec<String> {
+        if calls < WHOLE {
+            return vec![];
+        }
+        let mut few = self.missing(&[]);
+        few.extend(self.missing_wide());
+        for (&(call, result), &count) in &self.results {
+            if count < EACH {
+                few.push(format!("{} {result}: {count}", CALL_NAMES[call]));
+            }
+        }
+        few
     }
 }
 

@@ -1,5 +1,7 @@
 //! A manager with a fault planted in it, to see that a comparison notices.
 
+use std::hint::black_box;
+
 use crate::call::Manager;
 
 /// What goes wrong, wherever it can.
@@ -25,9 +27,15 @@ pub enum Fault {
     AfterTable,
     /// The byte before the answer.
     BeforeAnswer,
+    /// The last byte of the name, which is only read.
+    NameByte,
+    /// The last byte of the second name or of the attributes, which are only read.
+    SecondByte,
+    /// The last byte of the table of an obtain or LSPACE, which only read it.
+    ReadTableByte,
 }
 
-pub const FAULTS: [Fault; 10] = [
+pub const FAULTS: [Fault; 13] = [
     Fault::RefusesAll,
     Fault::AcceptsAll,
     Fault::OtherRefusal,
@@ -38,6 +46,9 @@ pub const FAULTS: [Fault; 10] = [
     Fault::RefusalWrites,
     Fault::AfterTable,
     Fault::BeforeAnswer,
+    Fault::NameByte,
+    Fault::SecondByte,
+    Fault::ReadTableByte,
 ];
 
 pub struct Faulty<'a, M> {
@@ -51,7 +62,23 @@ fn flip_last(bytes: &mut [u8]) {
     }
 }
 
+/// Writes a buffer that was lent for reading, as a library in another language could.
+fn flip_last_read(bytes: &[u8]) {
+    if let Some(last) = bytes.len().checked_sub(1) {
+        let at = black_box(bytes.as_ptr()).cast_mut();
+        // SAFETY: the buffers of `beside` lie in memory that can be written.
+        unsafe { at.add(last).write_volatile(at.add(last).read_volatile() ^ 1) };
+    }
+}
+
 impl<M: Manager> Faulty<'_, M> {
+    /// Spoils a buffer that is only read, where the fault is that one.
+    fn spoil_read(&self, fault: Fault, bytes: &[u8]) {
+        if self.fault == fault {
+            flip_last_read(bytes);
+        }
+    }
+
     fn spoil(&self, result: u32, table: &mut [u8], answer: &mut [u8]) -> u32 {
         match (self.fault, result) {
             (Fault::RefusesAll, 0) => return 9,
@@ -83,22 +110,29 @@ impl<M: Manager> Manager for Faulty<'_, M> {
     ) -> u32 {
         let result =
             self.manager.allocate(table, name, attributes, kind, start, amount, secondary, answer);
+        self.spoil_read(Fault::NameByte, name);
+        self.spoil_read(Fault::SecondByte, attributes);
         self.spoil(result, table, answer)
     }
     fn extend(&self, table: &mut [u8], name: &[u8], answer: &mut [u8]) -> u32 {
         let result = self.manager.extend(table, name, answer);
+        self.spoil_read(Fault::NameByte, name);
         self.spoil(result, table, answer)
     }
     fn release(&self, table: &mut [u8], name: &[u8], ttr: u32, answer: &mut [u8]) -> u32 {
         let result = self.manager.release(table, name, ttr, answer);
+        self.spoil_read(Fault::NameByte, name);
         self.spoil(result, table, answer)
     }
     fn scratch(&self, table: &mut [u8], name: &[u8], answer: &mut [u8]) -> u32 {
         let result = self.manager.scratch(table, name, answer);
+        self.spoil_read(Fault::NameByte, name);
         self.spoil(result, table, answer)
     }
     fn rename(&self, table: &mut [u8], old: &[u8], new: &[u8], answer: &mut [u8]) -> u32 {
         let result = self.manager.rename(table, old, new, answer);
+        self.spoil_read(Fault::NameByte, old);
+        self.spoil_read(Fault::SecondByte, new);
         self.spoil(result, table, answer)
     }
     fn obtain(&self, table: &[u8], name: &[u8], labels: &mut [u8], answer: &mut [u8]) -> u32 {
@@ -106,10 +140,13 @@ impl<M: Manager> Manager for Faulty<'_, M> {
         if (self.fault, result) == (Fault::LabelsByte, 0) {
             flip_last(labels);
         }
+        self.spoil_read(Fault::NameByte, name);
+        self.spoil_read(Fault::ReadTableByte, table);
         self.spoil(result, &mut [], answer)
     }
     fn lspace(&self, table: &[u8], answer: &mut [u8]) -> u32 {
         let result = self.manager.lspace(table, answer);
+        self.spoil_read(Fault::ReadTableByte, table);
         self.spoil(result, &mut [], answer)
     }
 }

@@ -68,6 +68,21 @@ pub fn scattered(c: u32, h: u32, d: u32, s: u32, v: u32, sets: usize) -> Vec<u8>
     table
 }
 
+/// Free extents of 2H - 2 tracks, each from the second track of a cylinder to the last but one of the
+/// next: one cylinder each by its length, and not one whole. Between them sets of two tracks; the
+/// last takes the rest.
+pub fn cut_cylinders(c: u32, h: u32, d: u32, s: u32, v: u32, holes: u32) -> Vec<u8> {
+    let mut table = fresh(c, h, d, s, v);
+    let (mut at, mut next) = (s + v, h + 1);
+    for number in 0..=holes {
+        let end = if number < holes { next } else { c * h };
+        place(&mut table, &format!("CUT.N{number}"), 2, at, end - at, 0);
+        at = next + 2 * h - 2;
+        next += 2 * h;
+    }
+    table
+}
+
 /// 8 records and 20 tracks: document 01's Volume A after its eighth step.
 pub fn small() -> Vec<u8> {
     let mut table = fresh(4, 5, 4, 1, 2);

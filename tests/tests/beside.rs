@@ -43,6 +43,9 @@ fn every_fault_is_noticed() {
             Fault::AnswerByte | Fault::RefusalAnswers => "answer: byte",
             Fault::BeforeAnswer => "answer: byte -1 was written",
             Fault::LabelsByte => "labels: byte 279",
+            Fault::NameByte => "name: byte",
+            Fault::SecondByte => "second name or attributes: byte",
+            Fault::ReadTableByte => "table: byte",
         };
         assert!(text.contains(expected), "{fault:?} {call:?}: {text}");
     }

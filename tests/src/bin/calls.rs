@@ -1,7 +1,7 @@
 //! The library beside the reference, call by call: result, answer, labels and every byte of the
 //! table, and that nothing else was written. `calls [--calls N] [--seed S] [--plant FAULT]`.
 //! Prints what was called and answered; fails at the first difference, or where too little was
-//! seen. A planted fault must make it fail.
+//! seen. A planted fault must make it fail, and so must `--plant Idle`: one call, over and over.
 
 use std::path::Path;
 use std::process::ExitCode;
@@ -22,11 +22,10 @@ use vtoc_tests::library::Library;
 use vtoc_tests::replay::Player;
 use vtoc_tests::volumes::{many_extents, many_names, medium, small};
 
-/// Calls in all where no number is given, the number from which on a run must have seen
-/// everything, and the fewest with each result of each call.
+/// Calls in all where no number is given.
 const CALLS: usize = 250_000;
-const WHOLE: usize = 100_000;
-const EACH: usize = 10;
+/// What `--plant` takes besides a fault of the library: a run that sees next to nothing.
+const IDLE: &str = "Idle";
 
 /// The call being made, for `past_a_buffer`.
 static CURRENT: AtomicPtr<Call> = AtomicPtr::new(std::ptr::null_mut());
@@ -208,16 +207,11 @@ impl<'a, M: Manager> Beside<'a, M> {
         Ok(())
     }
 
-    /// What was seen too seldom.
-    fn missing(&self) -> Vec<String> {
-        let mut missing = self.coverage.missing(&[]);
-        missing.extend(self.coverage.missing_wide());
-        for (&(call, result), &count) in &self.coverage.results {
-            if count < EACH {
-                missing.push(format!("{} {result}: {count}", vtoc_tests::call::CALL_NAMES[call]));
-            }
-        }
-        missing
+    /// One call, over and over: nothing differs, and next to nothing is seen.
+    fn idle(&mut self, calls: usize) -> Result<(), String> {
+        let buffers = Buffers::new(small(), 24, 280);
+        (0..calls)
+            .try_for_each(|_| self.call(&Call::Lspace, &buffers, Origin::Live, IDLE).map(drop))
     }
 }
 
@@ -249,18 +243,20 @@ fn arguments() -> Option<Arguments> {
     Some(found)
 }
 
-fn report<M: Manager>(library: &M, sides: Sides, calls: usize, seed: u64) -> ExitCode {
+fn report<M: Manager>(
+    library: &M, sides: Sides, calls: usize, seed: u64, is_idle: bool,
+) -> ExitCode {
     let mut beside = Beside::new(library, sides);
-    let outcome = beside.run(calls, seed);
+    let outcome = if is_idle { beside.idle(calls) } else { beside.run(calls, seed) };
     print!("{}", beside.coverage);
     println!("calls {}, seed {seed}", beside.calls);
     if let Err(difference) = outcome {
         println!("DIFFERENCE: {difference}");
         return ExitCode::FAILURE;
     }
-    let missing = beside.missing();
-    if calls >= WHOLE && !missing.is_empty() {
-        println!("too few: {}", missing.join(", "));
+    let few = beside.coverage.too_few(calls);
+    if !few.is_empty() {
+        println!("too few: {}", few.join(", "));
         return ExitCode::FAILURE;
     }
     println!("all alike: results, answers, labels, tables; nothing else was written");
@@ -273,12 +269,16 @@ fn main() -> ExitCode {
         return ExitCode::from(2);
     };
     watch_for_signals();
+    let sides = Sides::Any(Rng::new(seed));
     if let Some(text) = plant {
+        if text == IDLE {
+            return report(&Library, sides, calls, seed, true);
+        }
         let Some(&fault) = FAULTS.iter().find(|fault| format!("{fault:?}") == text) else {
-            eprintln!("faults: {FAULTS:?}");
+            eprintln!("faults: {IDLE}, {FAULTS:?}");
             return ExitCode::from(2);
         };
-        return report(&Faulty { manager: &Library, fault }, Sides::Planted, calls, seed);
+        return report(&Faulty { manager: &Library, fault }, Sides::Planted, calls, seed, false);
     }
     for fault in FAULTS {
         if !notices(fault) {
@@ -287,5 +287,5 @@ fn main() -> ExitCode {
         }
     }
     println!("planted faults {}, all noticed", FAULTS.len());
-    report(&Library, Sides::Any(Rng::new(seed)), calls, seed)
+    report(&Library, sides, calls, seed, false)
 }

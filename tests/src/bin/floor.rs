@@ -7,5 +7,5 @@ use vtoc_tests::agreement::beside_reference;
 use vtoc_tests::floor;
 
 fn main() -> ExitCode {
-    beside_reference(floor::check)
+    beside_reference(floor::check, false)
 }

@@ -1,0 +1,72 @@
+//! A run that sees too little says so.
+
+use vtoc_tests::call::{CALL_NAMES, RESULTS};
+use vtoc_tests::coverage::{Coverage, EACH, FEATURES, VOLUMES, WHOLE, WIDE};
+
+/// Just enough of everything.
+fn enough() -> Coverage {
+    let mut coverage = Coverage::default();
+    for (call, results) in RESULTS.iter().enumerate() {
+        for &result in *results {
+            coverage.results.insert((call, result), EACH);
+        }
+    }
+    for feature in FEATURES.into_iter().chain(VOLUMES).chain(WIDE) {
+        coverage.features.insert(feature, 1);
+    }
+    coverage
+}
+
+/// Accepted, and document 01's refusals of each call: `RESULTS` is what a run is held to.
+#[test]
+fn every_result_is_due() {
+    let expected: [&[u32]; 8] = [
+        &[0, 1, 2],
+        &[0, 2, 3, 4, 6, 7, 9, 11],
+        &[0, 2, 3, 4, 5, 8, 9, 10, 11],
+        &[0, 2, 3, 4, 5, 11, 12],
+        &[0, 2, 3, 4, 5],
+        &[0, 2, 3, 4, 5, 6],
+        &[0, 2, 3, 4, 5],
+        &[0, 2, 3],
+    ];
+    for (call, expected) in expected.into_iter().enumerate() {
+        let mut due = RESULTS[call].to_vec();
+        due.sort();
+        assert_eq!(due, expected, "{}", CALL_NAMES[call]);
+    }
+}
+
+#[test]
+fn enough_is_enough() {
+    assert_eq!(EACH, 10);
+    assert_eq!(WHOLE, 100_000);
+    assert_eq!(enough().too_few(WHOLE), Vec::<String>::new());
+    assert_eq!(Coverage::default().too_few(WHOLE - 1), Vec::<String>::new());
+}
+
+#[test]
+fn nothing_seen_names_everything() {
+    let due = RESULTS.iter().map(|results| results.len()).sum::<usize>();
+    let features = FEATURES.len() + VOLUMES.len() + WIDE.len();
+    assert_eq!(Coverage::default().too_few(WHOLE).len(), due + features);
+    assert_eq!(Coverage::default().missing(&[]).len(), due + FEATURES.len() + VOLUMES.len());
+}
+
+#[test]
+fn each_that_is_missing_is_named() {
+    for &(call, result) in enough().results.keys() {
+        let name = format!("{} {result}", CALL_NAMES[call]);
+        let mut coverage = enough();
+        coverage.results.insert((call, result), EACH - 1);
+        assert_eq!(coverage.too_few(WHOLE), [format!("{name}: {}", EACH - 1)]);
+        coverage.results.remove(&(call, result));
+        assert_eq!(coverage.too_few(WHOLE), [name.clone()]);
+        assert_eq!(coverage.missing(&[]), [name]);
+    }
+    for feature in enough().features.into_keys() {
+        let mut coverage = enough();
+        coverage.features.remove(feature);
+        assert_eq!(coverage.too_few(WHOLE), [feature]);
+    }
+}
