@@ -5,24 +5,9 @@ use std::fs::read_to_string;
 use super::row::{time_in_rounds, Effort, Row};
 use super::volume::{Timed, Volume};
 
-pub const HEAD: &str = "# Performance
+pub const HEAD: &str = "## The benchmark
 
-Made by this command, in one run, the two sides taking turns (`--short` in place of the file for a quick look):
-
-    rt staticlib vtoc
-    cargo run --release --manifest-path tests/Cargo.toml --features library --bin bench_calls > docs/PERFORMANCE.md
-
-Microseconds for one call through the C interface: the proved library and, beside it, the unrelated implementation of tests/
-(Rust, release build, bitmaps and a hash of names). Each call works on a copy of the table made before the clock starts; the
-best of many batches, in ten rounds over all rows, counts. Ratio: library / unrelated; below 1 the library is faster. Both
-check the whole table first, but for initialise.
-
-Two more columns show how fast a check can be; they are timed on each volume in the same rounds. Pass: one plain pass over the
-table, its bytes or'ed as words of eight. C check: tests/floor.c, the check alone in plain C with SSE2, as fast as we could
-make it; it is not proved and keeps nothing for a call. The program `floor` compares its answers with the unrelated ones.
-
-The first four volumes are regular; the survey volumes have names with counters; the others are as long use leaves them, with
-names, slots, sizes and places at random (from fixed seeds). There the set that a call names is one of those with many extents.
+Printed by `bench_calls`; 'What is measured' tells what the columns are.
 ";
 
 pub fn processor() -> String {

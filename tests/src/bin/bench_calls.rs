@@ -1,6 +1,7 @@
-//! The library beside the reference, call by call, in one run: a Markdown page with a ratio for
-//! each row. `bench_calls` makes docs/PERFORMANCE.md; `bench_calls --short` is quick and rough;
-//! `bench_calls --store DIR` writes each row's table and its call as a record, for tests/instructions.
+//! The library beside the reference, call by call, in one run: tables in Markdown, with a ratio for
+//! each row. `bench_calls` prints the end of docs/PERFORMANCE.md; `bench_calls --short` is quick and
+//! rough; `bench_calls --store DIR` writes each row's table and its call as a record, for
+//! tests/instructions.
 
 use std::fs::write;
 
