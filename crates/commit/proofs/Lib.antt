@@ -3,5 +3,6 @@ pub mod Core
 pub mod Put
 pub mod Drop
 pub mod Planned
+pub mod Replies
 pub mod Sets
 pub mod Small
