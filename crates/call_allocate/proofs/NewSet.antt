@@ -1,6 +1,6 @@
 -- A new data set gets its pieces: what is refused, and what is put. Assumes nothing.
 use mathlib.Core.Path.{_≡_, refl, sym, ap, ap₂, _∙_, subst}
-use mathlib.Core.Bool.{true}
+use mathlib.Core.Bool.{true, false}
 use mathlib.Core.Option.{Option, some}
 use mathlib.Core.List.{List, [], _∷_, map}
 use Prim.Native.Nat.{ℕ, _*_, _≤_, _<_}
@@ -9,7 +9,7 @@ use lib.Dec.{T, eqb, eqb→eq, leb, leb→le}
 use lib.ListN.{length, take}
 use Rattle.model.specs.Model.{Extent, Geometry, Label, Run, Volume, extent, free, held, overs, slots, total, tracks}
 use Rattle.model.proofs.Lists.{and-l, and-r, is-true}
-use Rattle.rules.specs.Calls.{Amount, absolute, allocateAmount, allocatePieces, given, granted, inCylinders, inRange, inTracks, newSet, settled, unitOf}
+use Rattle.rules.specs.Calls.{Amount, absolute, allocateAmount, allocatePieces, answer, given, granted, inCylinders, inRange, inTracks, newSet, settled, unitOf}
 use Rattle.rules.specs.Calls.{grant as granting}
 use Rattle.rules.specs.Entries.{lent, written}
 use Rattle.rules.specs.Ledger.{adds}
@@ -21,7 +21,7 @@ use Rattle.rules.proofs.Kept.{Keeps}
 use Rattle.rules.proofs.Settle.{used-tally}
 use Rattle.rules.proofs.Valid.{Limits, Valid}
 use Rattle.tracks.specs.Map.{Shows}
-use Rattle.grant.specs.Grant.{grantOf, piecesIn}
+use Rattle.grant.specs.Grant.{grantOf, piecesIn, row}
 use Rattle.labels.specs.Labels.{Format1, Format3, newLabel}
 use Rattle.request.specs.Request.{piecesOf, typeOf}
 use Rattle.request.proofs.Laws.{Accepted, accepted, refused}
@@ -30,7 +30,12 @@ use Rattle.opening.proofs.Laws.{Ready, ready}
 use Rattle.free_list.specs.FreeList.{Listed}
 use Rattle.free_list.proofs.Chain.{listed}
 use Rattle.opening.proofs.Lookup.{limits-of, table-long}
-use Rattle.granting.specs.Granting.{Granted, Grants}
+use Rattle.commit.specs.declared.Plan.{Plan}
+use Rattle.commit.specs.Commit.{Leaves}
+use Rattle.commit.proofs.Replies.{is-granted, not-fitting}
+use Rattle.granting.specs.declared.Holder.{Holder}
+use Rattle.granting.specs.Granting.{GrantPlans, GrantWrites, Grants, grown}
+use Rattle.granting.proofs.Laws.{grant-full}
 use Rattle.call_allocate.specs.Asking.{Asking, Chooses, asking}
 
 range-secondary : (g : Geometry) (sec : ℕ) (a : Amount) → T (inRange g sec a) → sec < 16777216
@@ -65,6 +70,10 @@ module _ {t m s name at a : List ℕ} {g : Geometry} {amount : Amount} {sec : �
 
   pub lists : Listed g t (free g ls)
   lists = subst (λ (y : Geometry). Listed y t (free y ls)) (sym (d .geometryIs)) (listed t v (is-ready .sound))
+
+  -- the map is as long as it was
+  pub map-fits : (n : ℕ) → n ≡ length m → tracks g ≤ 64 * n
+  map-fits n e = let h = d .mapFits in omega arith
 
   -- ---- the rule, as far as it goes
 
@@ -112,15 +121,17 @@ module _ {t m s name at a : List ℕ} {g : Geometry} {amount : Amount} {sec : �
       abbrev es : List Extent
       es = map (extent (typeOf amount)) (it .ps)
 
-      module _ (unit kind : ℕ) (eu : unit ≡ unitOf amount) (ek : kind ≡ typeOf amount) (one three : List ℕ)
-          (written1 : (g : Geometry) → Format1 g (newLabel name at unit sec) one) (written3 : (g : Geometry) (l : Label) → length (l .extents) ≤ 3 → Format3 g l three) where
+      module _ (kind : ℕ) (ek : kind ≡ typeOf amount) where
         abbrev bare : Label
-        bare = newLabel name at unit sec
+        bare = newLabel name at (unitOf amount) sec
+
+        abbrev holder : Holder
+        holder = record { slot = 0; slot3 = 0; extents = 0; count = count; «type_byte» = kind }
 
         label-is : more kind (it .ps) bare ≡ new es
-        label-is = ap₂ (λ (x y : ℕ). more y (it .ps) (newLabel name at x sec)) eu ek
+        label-is = ap (λ (y : ℕ). more y (it .ps) bare) ek
 
-        pub grants : Grants g t m s 0 0 0 kind one three (take count p) count sum
+        pub grants : Grants g t m s holder (take count p)
         grants =
             record {
               volume = v;
@@ -131,23 +142,48 @@ module _ {t m s name at a : List ℕ} {g : Geometry} {amount : Amount} {sec : �
               geometryIs = sym (d .geometryIs);
               shown = d .shown;
               slotIs = refl;
-              thirdIs = refl;
+              slot3Is = refl;
               extentsAre = refl;
               few = λ _. refl;
-              records = record { one = written1 g; three = written3 g bare (omega arith) };
               good = it .good;
               rowsAre = it .first;
               countIs = it .number;
-              sumIs = it .adds;
               heldApart = λ k. refl;
               usedSame = λ k. let x = used-tally ls (v .chain) k in let y = used-tally (bare ∷ ls) (v .chain) k in omega arith;
               stays = λ k u z. record { first = refl; third = refl };
               valid = λ w e. new-valid es (it .granted) w (sym (ap (settleWith v ls) label-is) ∙ e);
             }
 
-        pub put : (t′ a′ : List ℕ) (r : ℕ) → Granted grants a t′ a′ r → Chooses t name at a amount sec r t′ a′
-        unfolding grants
-        put t′ a′ r x =
-            x
-            ∙ ap₂ (λ (ps : List Run) (l : Label). written (lent t a []) (settled (granted ps) (settleWith v ls l))) (sym (it .runs)) label-is
+        chosen-is : written (lent t a []) (settled (granted (it .ps)) (settleWith v ls (more kind (it .ps) bare))) ≡ written (lent t a []) (given chosen 9 (allocatePieces v (asking name at sec) amount))
+        chosen-is =
+            ap₂ (λ (ps : List Run) (l : Label). written (lent t a []) (settled (granted ps) (settleWith v ls l))) (sym (it .runs)) label-is
             ∙ sym (ap (λ (o : Option (List Extent)). written (lent t a []) (given o 9 (allocatePieces v (asking name at sec) amount))) (it .granted))
+
+        module _ {m′ s′ chain : List ℕ} {plan : Plan} (x : GrantPlans g t m m′ s s′ chain holder (take count p) plan) where
+          pub full : plan .fits ≡ false → Chooses t name at a amount sec 11 t a
+          unfolding grants
+          full e = not-fitting t a _ (granted (it .ps)) (grant-full grants x e) ∙ chosen-is
+
+          module _ (ok : plan .fits ≡ true) (unit : ℕ) (eu : unit ≡ unitOf amount) (f1 f3 : List ℕ)
+              (written1 : (g : Geometry) → Format1 g (newLabel name at unit sec) f1) (written3 : (g : Geometry) (l : Label) → length (l .extents) ≤ 3 → Format3 g l f3) where
+            -- what `write_grant` asks
+            pub writes : GrantWrites g t m′ chain plan (record { set = holder; f1 = f1; f3 = f3 }) (take count p)
+            unfolding grants
+            writes =
+                record {
+                  mapBefore = m;
+                  emptyBefore = s;
+                  emptyAfter = s′;
+                  grants = grants;
+                  plans = x;
+                  fits = ok;
+                  records = record {
+                    one = subst (λ (u : ℕ). Format1 g (newLabel name at u sec) f1) eu (written1 g);
+                    three = written3 g bare (omega arith);
+                  };
+                }
+
+            pub put : (t′ a′ : List ℕ) → ((y : GrantWrites g t m′ chain plan (record { set = holder; f1 = f1; f3 = f3 }) (take count p)) → Leaves (grown (y .grants)) t′)
+                → ((ps : List Run) → length ps ≡ count → total ps ≡ sum → take count p ≡ map row ps → a′ ≡ answer (granted ps)) → Chooses t name at a amount sec 0 t′ a′
+            unfolding grants writes
+            put t′ a′ y z = is-granted t a _ (it .ps) t′ a′ (y writes) (z (it .ps) (it .number) (it .adds) (it .first)) ∙ chosen-is

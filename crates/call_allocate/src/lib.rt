@@ -1,5 +1,6 @@
 // Allocate: space for a new data set.
 use forms::Geometry;
+use granting::Grantee;
 use granting::Holder;
 use request::Request;
 ghost use Rattle.rules.specs.Contracts.{Allocates};
@@ -9,47 +10,44 @@ ghost use Rattle.table_check.specs.Check.{Roomy};
 ghost use Rattle.call_allocate.specs.Asking.{Asking, Chooses};
 
 // Chooses the pieces of a request that is not refused so far, and grants them to a new data set: 0, 9 or 11.
-fn place(
+pub fn place(
     table: &mut [u8],
     g: Geometry,
-    map: &mut [u64],
-    empty: &mut [u64],
+    free_tracks: &mut [u64],
+    free_slots: &mut [u64],
     name: &[u8],
     attributes: &[u8],
     request: Request,
     answer: &mut [u8],
 ) -> u32
-    requires { ⌜ Asking (now table) (now map) (now empty) (now name) (now attributes) (now answer) (geometryOf g) (toAmount (request .amount)) (request .secondary) ⌝ }
+    requires { ⌜ Asking (now table) (now «free_tracks») (now «free_slots») (now name) (now attributes) (now answer) (geometryOf g) (toAmount (request .amount)) (request .secondary) ⌝ }
     ensures { λ r. ⌜ Chooses (now (table .entry)) (now (name .entry)) (now (attributes .entry)) (now (answer .entry)) (toAmount (request .amount)) (request .secondary) r (now (table .exit)) (now (answer .exit)) ⌝ }
 {
     let amount = request.amount;
-    let pieces = request::fulfil(table, map, g, amount);
+    let pieces = request::fulfil(table, free_tracks, g, amount);
     let got = grant::count_pieces(pieces);
     if got.count == 0 {
         return 9;
     }
-    let unit = request::unit_byte(amount);
-    let kind = request::type_byte(amount);
-    let mut one = labels::new_label(name, attributes, unit, request.secondary);
-    let mut three = labels::empty_three();
     let set = Holder {
         slot: 0,
-        third: 0,
+        slot3: 0,
         extents: 0,
+        count: got.count,
+        type_byte: request::type_byte(amount),
     };
-    granting::put_grant(
-        table,
-        g,
-        map,
-        empty,
-        set,
-        &mut one,
-        &mut three,
-        kind,
-        pieces,
-        got,
-        answer,
-    )
+    let mut chain = [0u16; 468];
+    let plan = granting::plan_grant(table, g, free_tracks, free_slots, &mut chain, set, pieces);
+    if plan.fits {} else {
+        return 11;
+    }
+    let unit = request::unit_byte(amount);
+    let f1 = labels::new_label(name, attributes, unit, request.secondary);
+    let f3 = labels::empty_three();
+    let to = Grantee { set, f1, f3 };
+    granting::write_grant(table, g, free_tracks, &chain, plan, to, pieces);
+    answers::put_granted(answer, pieces, got.count, got.tracks);
+    0
 }
 
 // The call with a map to work in.

@@ -10,7 +10,7 @@ use lib.Dec.{eqb, leb}
 use lib.ListN.{length, take, getD, length-map}
 use Rattle.model.specs.Basics.{get3, upFrom}
 use Rattle.model.specs.Model.{Extent, Geometry, Label, Run, Volume, extent, free, held, overs, runsOf, slots, times, total, tracks}
-use Rattle.rules.specs.Calls.{Amount, extendPieces, extendSet, given, granted, inCylinders, inTracks, refuse, secondaryOf, settled}
+use Rattle.rules.specs.Calls.{Amount, answer, extendPieces, extendSet, given, granted, inCylinders, inTracks, refuse, secondaryOf, settled}
 use Rattle.rules.specs.Calls.{grant as granting}
 use Rattle.rules.specs.Entries.{lent, written}
 use Rattle.rules.specs.Layout.{format1, format3}
@@ -24,7 +24,7 @@ use Rattle.rules.proofs.Kept.{Keeps}
 use Rattle.rules.proofs.LabelBack.{label-back}
 use Rattle.rules.proofs.Valid.{GoodLabel, Limits, Valid}
 use Rattle.tracks.specs.Map.{Shows}
-use Rattle.grant.specs.Grant.{grantOf, piecesIn}
+use Rattle.grant.specs.Grant.{grantOf, piecesIn, row}
 use Rattle.request.specs.Request.{piecesOf, typeOf}
 use Rattle.request.proofs.Laws.{Accepted, accepted, refused, secondary-asks}
 use Rattle.set_change.specs.Change.{granted as more}
@@ -35,7 +35,12 @@ use Rattle.free_list.specs.FreeList.{Listed}
 use Rattle.free_list.proofs.Chain.{listed}
 use Rattle.opening.proofs.Lookup.{limits-of, table-long}
 use Rattle.commit.proofs.Sets.{held-apart, others-stay, slots-same}
-use Rattle.granting.specs.Granting.{Granted, Grants}
+use Rattle.commit.specs.declared.Plan.{Plan}
+use Rattle.commit.specs.Commit.{Leaves}
+use Rattle.commit.proofs.Replies.{is-granted, not-fitting}
+use Rattle.granting.specs.declared.Holder.{Holder}
+use Rattle.granting.specs.Granting.{GrantPlans, GrantWrites, Grants, grown}
+use Rattle.granting.proofs.Laws.{grant-full}
 use Rattle.call_extend.specs.Longer.{Extended, Longer}
 
 -- ---- the fields of a label, read from its format 1
@@ -86,6 +91,10 @@ module _ {t m s a : List ℕ} {g : Geometry} {k : ℕ} (d : Longer t m s a g k) 
 
   shows : Shows m (tracks g) (held g (v .labels))
   shows = subst (λ (y : Geometry). Shows m (tracks y) (held y (v .labels))) (sym (d .geometryIs)) (d .shown .freeTracks)
+
+  -- the map is as long as it was
+  pub map-fits : (n : ℕ) → n ≡ length m → tracks g ≤ 64 * n
+  map-fits n e = let h = d .mapFits in omega arith
 
   pub lists : Listed g t (free g (v .labels))
   lists = subst (λ (y : Geometry). Listed y t (free y (v .labels))) (sym (d .geometryIs)) (listed t v (is-ready .sound))
@@ -192,7 +201,10 @@ module _ {t m s a : List ℕ} {g : Geometry} {k : ℕ} (d : Longer t m s a g k) 
                 label-is : more kind (got .ps) l ≡ withExtents (l .extents ++ new) (l .ttr) l
                 label-is = ap (λ (b : ℕ). more b (got .ps) l) ek
 
-                pub grants : Grants g t m s k third count kind one three (take n p) n sum
+                abbrev holder : Holder
+                holder = record { slot = k; slot3 = third; extents = count; count = n; «type_byte» = kind }
+
+                pub grants : Grants g t m s holder (take n p)
                 grants =
                     record {
                       volume = v;
@@ -203,23 +215,44 @@ module _ {t m s a : List ℕ} {g : Geometry} {k : ℕ} (d : Longer t m s a g k) 
                       geometryIs = sym (d .geometryIs);
                       shown = d .shown;
                       slotIs = sym (d .there .slot);
-                      thirdIs = it .slot3;
+                      slot3Is = it .slot3;
                       extentsAre = sym (it .many);
                       few = good .few;
-                      records = it .records;
                       good = got .good;
                       rowsAre = got .first;
                       countIs = got .number;
-                      sumIs = got .adds;
                       heldApart = held-there;
                       usedSame = slots-same v (is-ready .valid) name l (d .there .same) l refl refl;
                       stays = others-stay v (is-ready .valid) name l (d .there .same) l refl refl;
                       valid = λ w e. new-valid w (sym (ap (settleWith v others) label-is) ∙ e);
                     }
 
-                pub put : (t′ a′ : List ℕ) (r : ℕ) → Granted grants a t′ a′ r → Extended d r t′ a′
-                unfolding grants
-                put t′ a′ r y =
-                    y
-                    ∙ ap₂ (λ (ps : List Run) (b : Label). written (lent t a []) (settled (granted ps) (settleWith v others b))) (sym (got .runs)) label-is
+                extended-is : written (lent t a []) (settled (granted (got .ps)) (settleWith v others (more kind (got .ps) l))) ≡ written (lent t a []) (extendSet v name l)
+                extended-is =
+                    ap₂ (λ (ps : List Run) (b : Label). written (lent t a []) (settled (granted ps) (settleWith v others b))) (sym (got .runs)) label-is
                     ∙ sym (ap (written (lent t a [])) rule-done)
+
+                module _ {m′ s′ chain : List ℕ} {plan : Plan} (planned : GrantPlans g t m m′ s s′ chain holder (take n p) plan) where
+                  pub full : plan .fits ≡ false → Extended d 11 t a
+                  unfolding grants
+                  full e = not-fitting t a _ (granted (got .ps)) (grant-full grants planned e) ∙ extended-is
+
+                  module _ (ok : plan .fits ≡ true) where
+                    -- what `write_grant` asks
+                    pub writes : GrantWrites g t m′ chain plan (record { set = holder; f1 = one; f3 = three }) (take n p)
+                    unfolding grants
+                    writes =
+                        record {
+                          mapBefore = m;
+                          emptyBefore = s;
+                          emptyAfter = s′;
+                          grants = grants;
+                          plans = planned;
+                          fits = ok;
+                          records = it .records;
+                        }
+
+                    pub put : (t′ a′ : List ℕ) → ((y : GrantWrites g t m′ chain plan (record { set = holder; f1 = one; f3 = three }) (take n p)) → Leaves (grown (y .grants)) t′)
+                        → ((ps : List Run) → length ps ≡ n → total ps ≡ sum → take n p ≡ map row ps → a′ ≡ answer (granted ps)) → Extended d 0 t′ a′
+                    unfolding grants writes
+                    put t′ a′ y z = is-granted t a _ (got .ps) t′ a′ (y writes) (z (got .ps) (got .number) (got .adds) (got .first)) ∙ extended-is

@@ -1,5 +1,6 @@
 // Extend: the secondary amount for a data set.
 use forms::Geometry;
+use granting::Grantee;
 use granting::Holder;
 use names::Found;
 ghost use mathlib.Core.Path.{_≡_};
@@ -9,26 +10,26 @@ ghost use Rattle.table_check.specs.Check.{Roomy};
 ghost use Rattle.call_extend.specs.Longer.{Extended, Longer};
 
 // Grants the data set whose format 1 is in slot k its secondary amount: 0, 8, 9, 10 or 11.
-fn lengthen(
+pub fn lengthen(
     table: &mut [u8],
     g: Geometry,
-    map: &mut [u64],
-    empty: &mut [u64],
+    free_tracks: &mut [u64],
+    free_slots: &mut [u64],
     k: usize,
     answer: &mut [u8],
 ) -> u32
-    requires { ⌜ Longer (now table) (now map) (now empty) (now answer) (geometryOf g) k ⌝ }
-    ensures { λ r. ⌜ ((d : Longer (now (table .entry)) (now (map .entry)) (now (empty .entry)) (now (answer .entry)) (geometryOf g) k) → Extended d r (now (table .exit)) (now (answer .exit))) ⌝ }
+    requires { ⌜ Longer (now table) (now «free_tracks») (now «free_slots») (now answer) (geometryOf g) k ⌝ }
+    ensures { λ r. ⌜ ((d : Longer (now (table .entry)) (now («free_tracks» .entry)) (now («free_slots» .entry)) (now (answer .entry)) (geometryOf g) k) → Extended d r (now (table .exit)) (now (answer .exit))) ⌝ }
 {
     let held = set_at::set_at(table, g, k);
-    let mut one = held.one;
-    let mut three = held.three;
-    let secondary = fields::three(&one, 95); // DS1SCALO
+    let f1 = held.one;
+    let f3 = held.three;
+    let secondary = fields::three(&f1, 95); // DS1SCALO
     if secondary == 0 {
         return 8;
     }
-    let amount = request::secondary_of(one[94], secondary);
-    let pieces = request::fulfil(table, map, g, amount);
+    let amount = request::secondary_of(f1[94], secondary);
+    let pieces = request::fulfil(table, free_tracks, g, amount);
     let got = grant::count_pieces(pieces);
     if got.count == 0 {
         return 9;
@@ -36,25 +37,22 @@ fn lengthen(
     if held.count + got.count > 16 {
         return 10;
     }
-    let kind = request::type_byte(amount);
     let set = Holder {
         slot: k,
-        third: held.third,
+        slot3: held.third,
         extents: held.count,
+        count: got.count,
+        type_byte: request::type_byte(amount),
     };
-    granting::put_grant(
-        table,
-        g,
-        map,
-        empty,
-        set,
-        &mut one,
-        &mut three,
-        kind,
-        pieces,
-        got,
-        answer,
-    )
+    let mut chain = [0u16; 468];
+    let plan = granting::plan_grant(table, g, free_tracks, free_slots, &mut chain, set, pieces);
+    if plan.fits {} else {
+        return 11;
+    }
+    let to = Grantee { set, f1, f3 };
+    granting::write_grant(table, g, free_tracks, &chain, plan, to, pieces);
+    answers::put_granted(answer, pieces, got.count, got.tracks);
+    0
 }
 
 // The call with a map to work in.

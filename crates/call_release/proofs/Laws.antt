@@ -1,5 +1,5 @@
 -- Release: the draft that is written, and the call. Assumes nothing.
-use mathlib.Core.Path.{_≡_, refl, sym, ap, ap₂, _∙_, subst}
+use mathlib.Core.Path.{_≡_, refl, sym, ap, _∙_, subst}
 use mathlib.Core.Bool.{Bool, true, false, cond}
 use mathlib.Core.Option.{some}
 use mathlib.Core.List.{List, [], _∷_, _++_}
@@ -8,12 +8,13 @@ use native.Mathlib.Omega.{arith}
 use lib.Dec.{T, eqb, leb, leb→le, ltb, ltb→lt}
 use lib.ListN.{length}
 use Rattle.model.specs.Basics.{bit}
-use Rattle.model.specs.Model.{Geometry, Label, Volume, held, oneSlot, runsOf, slots, slotsOf, tally, times, total, tracks, used}
+use Rattle.model.specs.Model.{Extent, Geometry, Label, Volume, held, oneSlot, runsOf, slots, slotsOf, tally, times, total, tracks, used}
 use Rattle.model.proofs.Lists.{and-l, and-r, sum-append, true-is}
 use Rattle.rules.specs.Calls.{accept, answer, givenBack, goodTtr, release, releaseSet, rule, settled, unless}
 use Rattle.rules.specs.Ledger.{keeps}
 use Rattle.rules.specs.Entries.{lent, result, written}
 use Rattle.rules.specs.Slots.{kept3, settleWith, without}
+use Rattle.rules.specs.Table.{fewExtents}
 use Rattle.rules.proofs.Cut.{keep-times}
 use Rattle.rules.proofs.Grants.{release-keeps}
 use Rattle.rules.proofs.Kept.{Keeps}
@@ -22,17 +23,23 @@ use Rattle.rules.proofs.Valid.{Valid, slots-tally}
 use Rattle.tracks.specs.Map.{Shows}
 use Rattle.tracks.proofs.Held.{shows-same}
 use Rattle.label_check.specs.Marks.{units}
-use Rattle.commit.specs.Commit.{Committed, Draft}
+use Rattle.commit.specs.declared.DataSet.{DataSet}
+use Rattle.commit.specs.Commit.{Draft, Leaves, Puts, drafted}
+use Rattle.commit.proofs.Put.{put-full}
+use Rattle.commit.proofs.Replies.{is-given-back, not-fitting}
 use Rattle.commit.proofs.Sets.{held-apart, held-front, others-stay, shows-below, slots-inside, slots-once, slots-shown, used-apart}
 use Rattle.fields.specs.Records.{slotBytes}
-use Rattle.set_change.specs.Change.{GaveTail, Stays, extentsIn}
-use Rattle.set_change.proofs.Laws.{stays-fits}
+use Rattle.labels.specs.Labels.{withTtr}
+use Rattle.set_change.specs.Change.{InRecords, Stays}
+use Rattle.set_change.proofs.Laws.{shortened-is, stays-fits}
 use Rattle.set_at.specs.Held.{ThirdIn}
-use Rattle.set_at.proofs.Laws.{Stored, copied}
+use Rattle.set_at.proofs.Laws.{copied}
+use Rattle.giving.specs.declared.Measured.{Measured}
 use Rattle.giving.specs.Giving.{At, FreedSlot, Measures}
+use Rattle.giving.proofs.Laws.{stays-is, tail-is}
 use Rattle.giving.proofs.Calls.{Names}
-use Rattle.call_release.specs.Shorter.{CutTo, Shortens, shorter}
-use Rattle.call_release.proofs.Small.{cut-to}
+use Rattle.call_release.specs.declared.Cut.{Cut}
+use Rattle.call_release.specs.Shorter.{CutPlans, Shortens, shorter}
 
 pub releases : (name : List ℕ) (ttr : ℕ) → Names (release name ttr) name (λ v. releaseSet v name ttr)
 unfolding rule
@@ -45,12 +52,6 @@ ttr-fits ttr all h =
     let a : T (ltb ttr 16777216) = search (and-l, and-r) in
     let b : T (leb (ttr / 256 + 1) all) = search (and-l, and-r) in
     (ltb→lt _ _ a, leb→le _ _ b)
-
--- what `cut_set` asks
-pub cut-fits : (g : Geometry) (t : List ℕ) (l : Label) (k count third : ℕ) → Stored g l t k count third → (n m whole start part : ℕ)
-    → Stays n (extentsIn g (slotBytes t k) (slotBytes t third) count) m whole start part → m ≤ 65535 → (whole ≤ 16) × (1 ≤ part → whole < 16) × (start + part ≤ 65535)
-cut-fits g t l k count third x n m whole start part y u =
-    stays-fits n m whole start part _ y (let a = ap length (x .extents) in let b = x .many in let c = x .set .most in omega arith) u
 
 -- what `free_slot` asks
 pub freed-small : (few : Bool) (third q n : ℕ) → q ≡ cond few third 0 → third < n → n ≤ 468 → q < 512
@@ -65,7 +66,11 @@ slots-cut true l i =
     omega arith
 slots-cut false l i = omega arith
 
-module _ (g : Geometry) (t m s : List ℕ) (k : ℕ) (d : At g t m s k) (ttr : ℕ) where
+-- what is freed and what is asked for, as the code has it
+pub freed-is : (few : Bool) (slot3 q : ℕ) {s s′ : List ℕ} → q ≡ cond few slot3 0 → FreedSlot q s s′ → FreedSlot (cond few slot3 0) s s′
+freed-is few slot3 q {s} {s′} e h = subst (λ (i : ℕ). FreedSlot i s s′) e h
+
+module _ {g : Geometry} {t m s : List ℕ} {k : ℕ} (d : At g t m s k) (ttr : ℕ) {x : Measured} (y : Measures g t k (d .it .label) x) where
   abbrev v : Volume
   v = d .volume
 
@@ -78,97 +83,137 @@ module _ (g : Geometry) (t m s : List ℕ) (k : ℕ) (d : At g t m s k) (ttr : �
   abbrev l₀ : Label
   l₀ = shorter ttr l
 
-  module _ (count third all low : ℕ) (x : Measures g t k l count third all low) where
-    -- what `cut_set` leaves of the records that were copied from the table
-    pub cut : (n whole start part : ℕ) (m′ : List ℕ)
-        → GaveTail (ttr / 256 + 1) (extentsIn g (slotBytes t k) (slotBytes t third) count) m m′ × Stays (ttr / 256 + 1) (extentsIn g (slotBytes t k) (slotBytes t third) count) n whole start part
-        → (one three : List ℕ) → one ≡ slotBytes t k → ThirdIn t third three → (one₂ three₂ : List ℕ) (few : Bool) → Shortens g ttr whole start part one three one₂ three₂ few → CutTo g l ttr m m′ one₂ three₂ few
-    cut n whole start part m′ tail one three e there one₂ three₂ few short =
-        cut-to g t k ttr n count third m m′ whole start part tail one three one₂ three₂ few short l (x .stored)
-        (copied t v (d .ready) (d .name) k (d .it) g (d .geometryIs) third (x .stored .slot3) one three e there)
+  abbrev n : ℕ
+  n = ttr / 256 + 1
 
-    pub bad-ttr : (a : List ℕ) → goodTtr ttr all ≡ false → result 12 (lent t a []) ≡ written (lent t a []) (releaseSet v (d .name) ttr l)
-    bad-ttr a h =
-        let q : goodTtr ttr (total (runsOf l)) ≡ false = ap (goodTtr ttr) (sym (x .spread .sum)) ∙ h in
-        sym (ap (λ (b : Bool). written (lent t a []) (unless b 12 (settled (givenBack (total (runsOf l) - (ttr / 256 + 1))) (settleWith v others l₀)))) q)
+  pub bad-ttr : (a : List ℕ) → goodTtr ttr (x .tracks) ≡ false → result 12 (lent t a []) ≡ written (lent t a []) (releaseSet v (d .name) ttr l)
+  bad-ttr a h =
+      let q : goodTtr ttr (total (runsOf l)) ≡ false = ap (goodTtr ttr) (sym (y .spread .sum)) ∙ h in
+      sym (ap (λ (b : Bool). written (lent t a []) (unless b 12 (settled (givenBack (total (runsOf l) - n)) (settleWith v others l₀)))) q)
 
-    module _ (ok : goodTtr ttr all ≡ true) (m′ one₂ three₂ : List ℕ) (few : Bool) (y : CutTo g l ttr m m′ one₂ three₂ few) (q : ℕ) (s′ : List ℕ) (eq : q ≡ cond few third 0) (f : FreedSlot q s s′) where
-      good : goodTtr ttr (total (runsOf l)) ≡ true
-      good = ap (goodTtr ttr) (sym (x .spread .sum)) ∙ ok
+  module _ (ok : goodTtr ttr (x .tracks) ≡ true) {m′ s′ c : List ℕ} {r : Cut} (z : CutPlans g t m m′ s s′ c x n r) where
+    good : goodTtr ttr (total (runsOf l)) ≡ true
+    good = ap (goodTtr ttr) (sym (y .spread .sum)) ∙ ok
 
-      rule-is : releaseSet v (d .name) ttr l ≡ settled (givenBack (total (runsOf l) - (ttr / 256 + 1))) (settleWith v others l₀)
-      rule-is = ap (λ (b : Bool). unless b 12 (settled (givenBack (total (runsOf l) - (ttr / 256 + 1))) (settleWith v others l₀))) good
+    rule-is : releaseSet v (d .name) ttr l ≡ settled (givenBack (total (runsOf l) - n)) (settleWith v others l₀)
+    rule-is = ap (λ (b : Bool). unless b 12 (settled (givenBack (total (runsOf l) - n)) (settleWith v others l₀))) good
 
-      pub all-shown : Shows m′ (tracks g) (runsOf l₀ ++ held g others)
-      all-shown =
-          let a : Shows m (tracks (v .geometry)) (runsOf l ++ held (v .geometry) others) = shows-same m (tracks (v .geometry)) (held (v .geometry) (v .labels)) (runsOf l ++ held (v .geometry) others) (λ t u. held-apart v (d .ready .valid) (d .name) l (d .it .same) t) (d .shown .freeTracks) in
-          let b : Shows m (tracks g) (runsOf l ++ held g others) = subst (λ (y : Geometry). Shows m (tracks y) (runsOf l ++ held y others)) (sym (d .geometryIs)) a in
-          y .held (tracks g) (held g others) b
+    -- ---- what stays
 
-      pub tracks-shown : Shows m′ (tracks g) (held g (kept3 l₀ ∷ others))
-      tracks-shown = shows-same m′ (tracks g) (runsOf l₀ ++ held g others) (held g (kept3 l₀ ∷ others)) (λ t u. held-front g (kept3 l₀) others t) all-shown
+    kept : Stays n (l .extents) (tracks g) (r .kept .whole) (r .kept .start) (r .kept .count)
+    kept = stays-is y n (tracks g) (r .kept .whole) (r .kept .start) (r .kept .count) (z .stays)
 
-      tallies : (i : ℕ) → tally i (used (v .labels) (v .chain)) ≡ tally i (oneSlot q ++ used (kept3 l₀ ∷ others) (v .chain))
-      tallies i =
-          let a = used-apart v (d .ready .valid) (d .name) l (d .it .same) i in
-          let b = sum-append (λ x. bit (eqb x i)) (slotsOf l) (used others (v .chain)) in
-          let c = used-tally others (v .chain) i in
-          let e = used-tally (kept3 l₀ ∷ others) (v .chain) i in
-          let h = slots-tally others i in
-          let j = slots-tally (kept3 l₀ ∷ others) i in
-          let n = sum-append (λ x. bit (eqb x i)) (oneSlot q) (used (kept3 l₀ ∷ others) (v .chain)) in
-          let o : tally i (oneSlot q) ≡ tally i (oneSlot (cond few (l .slot3) 0)) = ap (λ (z : ℕ). tally i (oneSlot z)) (eq ∙ ap (λ (z : ℕ). cond few z 0) (x .stored .slot3)) in
-          let p : tally i (slotsOf (kept3 l₀)) ≡ tally i (oneSlot (l .slot) ++ oneSlot (cond few 0 (l .slot3))) = ap (λ (b : Bool). tally i (oneSlot (l .slot) ++ oneSlot (cond b 0 (l .slot3)))) (sym (y .fewIs)) in
-          let r = slots-cut few l i in
-          omega arith
+    few-is : r .few ≡ fewExtents l₀
+    few-is = z .fewIs (l .extents) (kept .most) ∙ ap (λ (es : List Extent). leb (length es) 3) (sym (kept .kept))
 
-      pub slots-free : Shows s′ (slots g) (units (used (kept3 l₀ ∷ others) (v .chain)))
-      slots-free =
-          let us = used (kept3 l₀ ∷ others) (v .chain) in
-          let a : Shows s (slots (v .geometry)) (units (oneSlot q ++ us)) = slots-shown s (slots (v .geometry)) (used (v .labels) (v .chain)) (oneSlot q ++ us) (λ i u. tallies i) (d .shown .freeSlots) in
-          f .freed (slots g) us (subst (λ (y : Geometry). Shows s (slots y) (units (oneSlot q ++ us))) (sym (d .geometryIs)) a)
+    -- what `cut_set` asks
+    pub cut-fits : tracks g ≤ 65535 → (r .kept .whole ≤ 16) × (1 ≤ r .kept .count → r .kept .whole < 16) × (r .kept .start + r .kept .count ≤ 65535)
+    cut-fits u =
+        stays-fits n (tracks g) (r .kept .whole) (r .kept .start) (r .kept .count) (l .extents) kept
+        (let b = y .stored .many in let c = y .stored .set .most in omega arith) u
 
-      pub stays-valid : (w : Volume) → settleWith v others l₀ ≡ some w → Valid w
-      stays-valid w e =
-          let r = givenBack (total (runsOf l) - (ttr / 256 + 1)) in
-          let z : Keeps v (keeps (d .name) ttr) (accept r w) = subst (Keeps v (keeps (d .name) ttr)) (rule-is ∙ ap (settled r) e) (release-keeps v (d .ready .valid) (d .name) l (d .it .same) ttr) in
-          z .valid
+    -- ---- what the maps show then
 
-      -- what `put_set` asks
-      abbrev pub draft : Draft g t m′ s′ low k third few one₂ three₂
-      draft =
+    all-shown : Shows m′ (tracks g) (runsOf l₀ ++ held g others)
+    all-shown =
+        let a : Shows m (tracks (v .geometry)) (runsOf l ++ held (v .geometry) others) = shows-same m (tracks (v .geometry)) (held (v .geometry) (v .labels)) (runsOf l ++ held (v .geometry) others) (λ t u. held-apart v (d .ready .valid) (d .name) l (d .it .same) t) (d .shown .freeTracks) in
+        let b : Shows m (tracks g) (runsOf l ++ held g others) = subst (λ (y : Geometry). Shows m (tracks y) (runsOf l ++ held y others)) (sym (d .geometryIs)) a in
+        tail-is y n (z .tail) .held (tracks g) (held g others) b
+
+    tracks-shown : Shows m′ (tracks g) (held g (kept3 l₀ ∷ others))
+    tracks-shown = shows-same m′ (tracks g) (runsOf l₀ ++ held g others) (held g (kept3 l₀ ∷ others)) (λ t u. held-front g (kept3 l₀) others t) all-shown
+
+    abbrev few : Bool
+    few = r .few
+
+    abbrev q : ℕ
+    q = cond few (x .slot3) 0
+
+    tallies : (i : ℕ) → tally i (used (v .labels) (v .chain)) ≡ tally i (oneSlot q ++ used (kept3 l₀ ∷ others) (v .chain))
+    tallies i =
+        let a = used-apart v (d .ready .valid) (d .name) l (d .it .same) i in
+        let b = sum-append (λ x. bit (eqb x i)) (slotsOf l) (used others (v .chain)) in
+        let c = used-tally others (v .chain) i in
+        let e = used-tally (kept3 l₀ ∷ others) (v .chain) i in
+        let h = slots-tally others i in
+        let j = slots-tally (kept3 l₀ ∷ others) i in
+        let n = sum-append (λ x. bit (eqb x i)) (oneSlot q) (used (kept3 l₀ ∷ others) (v .chain)) in
+        let o : tally i (oneSlot q) ≡ tally i (oneSlot (cond few (l .slot3) 0)) = ap (λ (j : ℕ). tally i (oneSlot (cond few j 0))) (y .stored .slot3) in
+        let p : tally i (slotsOf (kept3 l₀)) ≡ tally i (oneSlot (l .slot) ++ oneSlot (cond few 0 (l .slot3))) = ap (λ (b : Bool). tally i (oneSlot (l .slot) ++ oneSlot (cond b 0 (l .slot3)))) (sym few-is) in
+        let r = slots-cut few l i in
+        omega arith
+
+    slots-free : Shows (z .freed) (slots g) (units (used (kept3 l₀ ∷ others) (v .chain)))
+    slots-free =
+        let us = used (kept3 l₀ ∷ others) (v .chain) in
+        let a : Shows s (slots (v .geometry)) (units (oneSlot q ++ us)) = slots-shown s (slots (v .geometry)) (used (v .labels) (v .chain)) (oneSlot q ++ us) (λ i u. tallies i) (d .shown .freeSlots) in
+        z .thirdFreed .freed (slots g) us (subst (λ (y : Geometry). Shows s (slots y) (units (oneSlot q ++ us))) (sym (d .geometryIs)) a)
+
+    stays-valid : (w : Volume) → settleWith v others l₀ ≡ some w → Valid w
+    stays-valid w e =
+        let r = givenBack (total (runsOf l) - n) in
+        let z : Keeps v (keeps (d .name) ttr) (accept r w) = subst (Keeps v (keeps (d .name) ttr)) (rule-is ∙ ap (settled r) e) (release-keeps v (d .ready .valid) (d .name) l (d .it .same) ttr) in
+        z .valid
+
+    draft : Draft g t m′ (z .freed) (x .lowest) (x .slot) (x .slot3) few
+    draft =
+        record {
+          volume = v;
+          others = others;
+          label = l₀;
+          ready = d .ready;
+          geometryIs = sym (d .geometryIs);
+          slotIs = y .slot ∙ sym (d .it .slot);
+          slot3Is = y .stored .slot3;
+          fewIs = few-is;
+          shownTracks = tracks-shown;
+          lowIn = y .spread .lowIn;
+          below =
+              shows-below g m′ (tracks g) (x .lowest) (v .labels) (held g others) (runsOf l) (runsOf l₀) (y .spread .lowIn)
+              (λ i. subst (λ (y : Geometry). times i (held y (v .labels)) ≡ times i (runsOf l ++ held y others)) (sym (d .geometryIs)) (held-apart v (d .ready .valid) (d .name) l (d .it .same) i))
+              (λ i u. let a = y .spread .lowest i u in let b = keep-times n i (l .extents) in omega arith) all-shown;
+          shownSlots = slots-free;
+          stays = others-stay v (d .ready .valid) (d .name) l (d .it .same) l₀ refl refl;
+          slotOnce = slots-once v (d .ready .valid) (d .name) l (d .it .same) l₀ refl refl;
+          slotIn = subst (λ (y : Geometry). (i : ℕ) → slots y ≤ i → tally i (used (l₀ ∷ others) (v .chain)) ≡ 0) (sym (d .geometryIs)) (slots-inside v (d .ready .valid) (d .name) l (d .it .same) l₀ refl refl);
+          valid = stays-valid;
+        }
+
+    pub full : (a : List ℕ) → r .plan .fits ≡ false → result 11 (lent t a []) ≡ written (lent t a []) (releaseSet v (d .name) ttr l)
+    unfolding draft
+    full a h = not-fitting t a _ (givenBack (total (runsOf l) - n)) (put-full draft (z .askedIs) (z .plan) h) ∙ sym (ap (written (lent t a [])) rule-is)
+
+    -- ---- written: f1 and f3 are the records, copied from the table and then cut
+
+    module _ (fits : r .plan .fits ≡ true) (old1 old3 f1 f3 : List ℕ) (e : old1 ≡ slotBytes t k) (there : ThirdIn t (x .slot3) old3)
+        (short : Shortens g ttr (r .kept .whole) (r .kept .start) (r .kept .count) old1 old3 f1 f3) where
+      records : InRecords g l₀ f1 f3
+      records =
+          subst (λ (z : Label). InRecords g (withTtr ttr z) f1 f3) (shortened-is n (tracks g) (r .kept .whole) (r .kept .start) (r .kept .count) l kept)
+          (short .records l (kept .most) (copied t v (d .ready) (d .name) k (d .it) g (d .geometryIs) (x .slot3) (y .stored .slot3) old1 old3 e there))
+
+      abbrev set : DataSet
+      set = record { slot = x .slot; slot3 = x .slot3; few = few; f1 = f1; f3 = f3 }
+
+      -- what `write_set` asks
+      pub puts : Puts g t m′ c (r .plan) set
+      unfolding draft
+      puts =
           record {
-            volume = v;
-            others = others;
-            label = l₀;
-            ready = d .ready;
-            geometryIs = sym (d .geometryIs);
-            slotIs = sym (d .it .slot);
-            thirdIs = x .stored .slot3;
-            fewIs = y .fewIs;
-            shownTracks = tracks-shown;
-            below =
-                shows-below g m′ (tracks g) low (v .labels) (held g others) (runsOf l) (runsOf l₀) (x .spread .lowIn)
-                (λ i. subst (λ (y : Geometry). times i (held y (v .labels)) ≡ times i (runsOf l ++ held y others)) (sym (d .geometryIs)) (held-apart v (d .ready .valid) (d .name) l (d .it .same) i))
-                (λ i u. let a = x .spread .lowest i u in let b = keep-times (ttr / 256 + 1) i (l .extents) in omega arith) all-shown;
-            shownSlots = slots-free;
-            written = y .records .one;
-            writtenThird = λ _. y .records .three;
-            stays = others-stay v (d .ready .valid) (d .name) l (d .it .same) l₀ refl refl;
-            slotOnce = slots-once v (d .ready .valid) (d .name) l (d .it .same) l₀ refl refl;
-            slotIn = subst (λ (y : Geometry). (i : ℕ) → slots y ≤ i → tally i (used (l₀ ∷ others) (v .chain)) ≡ 0) (sym (d .geometryIs)) (slots-inside v (d .ready .valid) (d .name) l (d .it .same) l₀ refl refl);
-            valid = stays-valid;
+            emptyBefore = z .freed;
+            emptyAfter = s′;
+            lo = x .lowest;
+            asked = z .asked;
+            draft = draft;
+            askedIs = z .askedIs;
+            plan = z .plan;
+            fits = fits;
+            first = records .one;
+            third = λ _. records .three;
           }
 
-      module _ (a t′ : List ℕ) (b : Bool) (put : (z : Draft g t m′ s′ low k third few one₂ three₂) → Committed z t′ b) where
-        pub full : b ≡ false → result 11 (lent t′ a []) ≡ written (lent t a []) (releaseSet v (d .name) ttr l)
-        full h =
-            let z = put draft in
-            ap (λ (y : List ℕ). result 11 (lent y a [])) (z .same h)
-            ∙ sym (ap (written (lent t a [])) (rule-is ∙ ap (settled (givenBack (total (runsOf l) - (ttr / 256 + 1)))) (z .full h)))
-
-        pub cut-done : b ≡ true → (a′ : List ℕ) → a′ ≡ answer (givenBack (all - (ttr / 256 + 1))) → result 0 (lent t′ a′ []) ≡ written (lent t a []) (releaseSet v (d .name) ttr l)
-        cut-done h a′ ea =
-            let z = put draft .done h in
-            ap₂ (λ (y w : List ℕ). result 0 (lent y w [])) (z .2) (ea ∙ ap (λ (n : ℕ). answer (givenBack (n - (ttr / 256 + 1)))) (x .spread .sum))
-            ∙ sym (ap (written (lent t a [])) (rule-is ∙ ap (settled (givenBack (total (runsOf l) - (ttr / 256 + 1)))) (z .1)))
+      pub cut-done : (a t′ a′ : List ℕ) → ((w : Puts g t m′ c (r .plan) set) → Leaves (drafted (w .draft)) t′) → a′ ≡ answer (givenBack (x .tracks - n))
+          → result 0 (lent t′ a′ []) ≡ written (lent t a []) (releaseSet v (d .name) ttr l)
+      unfolding draft puts
+      cut-done a t′ a′ w ea =
+          is-given-back t a _ (total (runsOf l) - n) t′ a′ (w puts) (ea ∙ ap (λ (i : ℕ). answer (givenBack (i - n))) (y .spread .sum)) ∙ sym (ap (written (lent t a [])) rule-is)

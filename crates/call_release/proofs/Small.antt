@@ -1,5 +1,5 @@
 -- The parts of release: the test of the TTR, and the data set cut. Assumes nothing.
-use mathlib.Core.Path.{_≡_, refl, sym, ap, _∙_, subst}
+use mathlib.Core.Path.{_≡_, refl, sym, ap, _∙_}
 use mathlib.Core.Bool.{Bool, true, false}
 use mathlib.Core.List.{List, _++_}
 use mathlib.Core.Logic.{⊎-elim}
@@ -12,13 +12,9 @@ use lib.Seq.{length-take-le}
 use Rattle.model.specs.Model.{Extent, Geometry, Label}
 use Rattle.rules.specs.Calls.{goodTtr}
 use Rattle.tracks.proofs.Bits.{le-or-lt}
-use Rattle.fields.specs.Records.{slotBytes}
 use Rattle.labels.specs.Labels.{Format1, withTtr}
 use Rattle.labels.proofs.Following.{same-extents}
-use Rattle.set_change.specs.Change.{GaveTail, InRecords, Stays, extentsIn, partOf}
-use Rattle.set_change.proofs.Laws.{shortened-is}
-use Rattle.set_at.proofs.Laws.{Stored}
-use Rattle.call_release.specs.Shorter.{CutTo, Shortens}
+use Rattle.set_change.specs.Change.{InRecords, partOf}
 
 -- ---- the TTR
 
@@ -60,19 +56,5 @@ part-stays whole start (suc c) e r q es h =
 -- ---- the data set cut
 
 -- another last block changes the format 1 only
-pub ended : {g : Geometry} {l : Label} {one one′ three : List ℕ} (ttr : ℕ) → InRecords g l one three → Format1 g (withTtr ttr l) one′ → InRecords g (withTtr ttr l) one′ three
+pub ended : {g : Geometry} {l : Label} {f1 f1′ f3 : List ℕ} (ttr : ℕ) → InRecords g l f1 f3 → Format1 g (withTtr ttr l) f1′ → InRecords g (withTtr ttr l) f1′ f3
 ended {g} {l} ttr x f = record { one = f; three = x .three ∙ same-extents g l (withTtr ttr l) refl }
-
-module _ (g : Geometry) (t : List ℕ) (k ttr n count third : ℕ) (m m′ : List ℕ) (whole start part : ℕ)
-    (tail : GaveTail (ttr / 256 + 1) (extentsIn g (slotBytes t k) (slotBytes t third) count) m m′ × Stays (ttr / 256 + 1) (extentsIn g (slotBytes t k) (slotBytes t third) count) n whole start part)
-    (one three one′ three′ : List ℕ) (few : Bool) (short : Shortens g ttr whole start part one three one′ three′ few) where
-  pub cut-to : (l : Label) → Stored g l t k count third → InRecords g l one three → CutTo g l ttr m m′ one′ three′ few
-  cut-to l x r =
-      let es = l .extents in
-      let y : GaveTail (ttr / 256 + 1) es m m′ × Stays (ttr / 256 + 1) es n whole start part = subst (λ (z : List Extent). GaveTail (ttr / 256 + 1) z m m′ × Stays (ttr / 256 + 1) z n whole start part) (x .extents) tail in
-      record {
-        long = y .0 .long;
-        held = y .0 .held;
-        records = subst (λ (z : Label). InRecords g (withTtr ttr z) one′ three′) (shortened-is (ttr / 256 + 1) n whole start part l (y .1)) (short .records l (y .1 .most) r);
-        fewIs = short .fewIs es (y .1 .most) ∙ ap (λ (z : List Extent). leb (length z) 3) (sym (y .1 .kept));
-      }

@@ -1,5 +1,8 @@
 // Release: the tracks of a data set behind its last block given back.
+use commit::DataSet;
+use commit::Plan;
 use forms::Geometry;
+use giving::Measured;
 use names::Found;
 use set_change::Kept;
 ghost use mathlib.Core.Path.{_≡_};
@@ -15,10 +18,11 @@ ghost use Rattle.rules.specs.Contracts.{Releases};
 ghost use Rattle.rules.specs.Entries.{lent, result, written};
 ghost use Rattle.rules.proofs.Valid.{Limits};
 ghost use Rattle.forms.specs.Forms.{geometryOf};
-ghost use Rattle.set_change.specs.Change.{partOf};
+ghost use Rattle.fields.specs.Records.{slotBytes};
+ghost use Rattle.set_change.specs.Change.{SetIn, partOf};
 ghost use Rattle.giving.specs.Giving.{At};
 ghost use Rattle.table_check.specs.Check.{Roomy};
-ghost use Rattle.call_release.specs.Shorter.{Shortens};
+ghost use Rattle.call_release.specs.Shorter.{CutPlans, Shortens};
 
 // Whether a data set with so many tracks may end with the block TTR.
 fn good_ttr(ttr: u32, all: u32) -> bool
@@ -46,54 +50,82 @@ fn few_stay(k: Kept) -> bool
     k.whole <= 2
 }
 
-// Makes the records of a data set those of what stays of it, with TTR as its last block. True: it needs no format 3.
-fn cut_set(one: &mut [u8; 140], three: &mut [u8; 140], g: Geometry, kept: Kept, ttr: u32) -> bool
-    requires { ⌜ (length (now one) ≡ 140) × (length (now three) ≡ 140) × (kept .whole ≤ 16) × (1 ≤ kept .count → kept .whole < 16) × (kept .start + kept .count ≤ 65535) × Limits (geometryOf g) × (ttr < 16777216) ⌝ }
-    ensures { λ r. ⌜ Shortens (geometryOf g) ttr (kept .whole) (kept .start) (kept .count) (now (one .entry)) (now (three .entry)) (now (one .exit)) (now (three .exit)) r ⌝ }
-{
-    set_change::cut_records(one, three, g, kept);
-    labels::set_ttr(one, ttr);
-    few_stay(kept)
+// What stays of a data set, whether that needs no format 3, and the plan.
+pub struct Cut {
+    pub kept: Kept,
+    pub few: bool,
+    pub plan: Plan,
 }
 
-// Cuts the data set in slot k and writes it. A format 3 that goes is free before new format 5s are placed.
-fn release_set(
+// Plans that the first `keep` tracks of a data set stay. A format 3 that goes is free before new format 5s are placed.
+pub fn plan_release(
+    table: &[u8],
+    g: Geometry,
+    free_tracks: &mut [u64],
+    free_slots: &mut [u64],
+    chain: &mut [u16],
+    set: Measured,
+    keep: u32,
+) -> Cut
+    requires { ⌜ Limits (geometryOf g) × (length (now table) ≡ 140 * slots (geometryOf g)) × (tracks (geometryOf g) ≤ 64 * length (now «free_tracks»)) × (length (now «free_slots») ≡ 8) × (length (now chain) ≡ 468) × (set .slot < slots (geometryOf g)) × (set .slot3 < slots (geometryOf g)) ⌝ }
+    requires { ⌜ SetIn (geometryOf g) (slotBytes (now table) (set .slot)) (slotBytes (now table) (set .slot3)) (set .count) ⌝ }
+    ensures { λ r. ⌜ CutPlans (geometryOf g) (now (table .entry)) (now («free_tracks» .entry)) (now («free_tracks» .exit)) (now («free_slots» .entry)) (now («free_slots» .exit)) (now (chain .exit)) set keep r ⌝ }
+{
+    let kept = giving::give_back(table, g, set, keep, free_tracks);
+    let few = few_stay(kept);
+    giving::free_slot(free_slots, commit::if_few(few, set.slot3));
+    let asked = commit::asked_for(set.slot, set.slot3, few);
+    let lo = set.lowest as usize;
+    let plan = commit::plan_slots(table, g, free_tracks, free_slots, chain, asked, lo);
+    Cut { kept, few, plan }
+}
+
+// Makes the records of a data set those of what stays of it, with TTR as its last block.
+fn cut_set(f1: &mut [u8; 140], f3: &mut [u8; 140], g: Geometry, kept: Kept, ttr: u32)
+    requires { ⌜ (length (now f1) ≡ 140) × (length (now f3) ≡ 140) × (kept .whole ≤ 16) × (1 ≤ kept .count → kept .whole < 16) × (kept .start + kept .count ≤ 65535) × Limits (geometryOf g) × (ttr < 16777216) ⌝ }
+    ensures { λ _. ⌜ Shortens (geometryOf g) ttr (kept .whole) (kept .start) (kept .count) (now (f1 .entry)) (now (f3 .entry)) (now (f1 .exit)) (now (f3 .exit)) ⌝ }
+{
+    set_change::cut_records(f1, f3, g, kept);
+    labels::set_ttr(f1, ttr);
+}
+
+// Cuts the data set in slot k behind the block TTR and writes it: 0, 11 or 12.
+pub fn release_set(
     table: &mut [u8],
     g: Geometry,
-    map: &mut [u64],
-    empty: &mut [u64],
+    free_tracks: &mut [u64],
+    free_slots: &mut [u64],
     k: usize,
     ttr: u32,
     answer: &mut [u8],
 ) -> u32
-    requires { ⌜ Limits (geometryOf g) × (length (now table) ≡ 140 * slots (geometryOf g)) × (tracks (geometryOf g) ≤ 64 * length (now map)) × (length (now empty) ≡ 8) × (k < slots (geometryOf g)) × (length (now answer) ≡ 24) ⌝ }
-    requires { ⌜ At (geometryOf g) (now table) (now map) (now empty) k ⌝ }
-    ensures { λ r. ⌜ ((d : At (geometryOf g) (now (table .entry)) (now (map .entry)) (now (empty .entry)) k) → result r (lent (now (table .exit)) (now (answer .exit)) []) ≡ written (lent (now (table .entry)) (now (answer .entry)) []) (releaseSet (d .volume) (d .name) ttr (d .it .label))) ⌝ }
+    requires { ⌜ Limits (geometryOf g) × (length (now table) ≡ 140 * slots (geometryOf g)) × (tracks (geometryOf g) ≤ 64 * length (now «free_tracks»)) × (length (now «free_slots») ≡ 8) × (k < slots (geometryOf g)) × (length (now answer) ≡ 24) ⌝ }
+    requires { ⌜ At (geometryOf g) (now table) (now «free_tracks») (now «free_slots») k ⌝ }
+    ensures { λ r. ⌜ ((d : At (geometryOf g) (now (table .entry)) (now («free_tracks» .entry)) (now («free_slots» .entry)) k) → result r (lent (now (table .exit)) (now (answer .exit)) []) ≡ written (lent (now (table .entry)) (now (answer .entry)) []) (releaseSet (d .volume) (d .name) ttr (d .it .label))) ⌝ }
 {
     let x = giving::measure(table, g, k);
     if good_ttr(ttr, x.tracks) {} else {
         return 12;
     }
-    let kept = giving::give_back(table, g, k, x, ttr / 256 + 1, map);
-    let mut one = records::record_of(fields::record_at(table, k));
-    let mut three = set_at::third_record(table, x.third);
-    let few = cut_set(&mut one, &mut three, g, kept, ttr);
-    giving::free_slot(empty, commit::if_few(few, x.third));
-    if commit::put_set(
-        table,
-        g,
-        map,
-        empty,
-        x.lowest as usize,
-        k,
-        x.third,
-        few,
-        &mut one,
-        &three,
-    ) {} else {
+    let keep = ttr / 256 + 1;
+    let mut chain = [0u16; 468];
+    let cut = plan_release(table, g, free_tracks, free_slots, &mut chain, x, keep);
+    let plan = cut.plan;
+    if plan.fits {} else {
         return 11;
     }
-    answers::put_back(answer, x.tracks - (ttr / 256 + 1));
+    let mut f1 = records::record_of(fields::record_at(table, k));
+    let mut f3 = set_at::third_record(table, x.slot3);
+    cut_set(&mut f1, &mut f3, g, cut.kept, ttr);
+    let set = DataSet {
+        slot: x.slot,
+        slot3: x.slot3,
+        few: cut.few,
+        f1,
+        f3,
+    };
+    commit::write_set(table, g, free_tracks, &chain, plan, set);
+    answers::put_back(answer, x.tracks - keep);
     0
 }
 

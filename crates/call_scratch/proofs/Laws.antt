@@ -1,6 +1,6 @@
 -- Scratch: what is left, and the call. Assumes nothing.
 use mathlib.Core.Path.{_≡_, refl, sym, ap, ap₂, _∙_, subst}
-use mathlib.Core.Bool.{Bool, true, false}
+use mathlib.Core.Bool.{true, false}
 use mathlib.Core.Option.{Option, some}
 use mathlib.Core.List.{List, [], _∷_, _++_, append-assoc}
 use Prim.Native.Nat.{ℕ, _≤_}
@@ -14,20 +14,22 @@ use Rattle.rules.proofs.Kept.{Keeps}
 use Rattle.rules.proofs.Valid.{Valid}
 use Rattle.tracks.specs.Map.{Shows}
 use Rattle.tracks.proofs.Held.{shows-same}
-use Rattle.fields.specs.Records.{slotBytes}
 use Rattle.label_check.specs.Marks.{units}
-use Rattle.set_change.specs.Change.{GaveTail, extentsIn}
 use Rattle.set_change.proofs.Laws.{none-kept}
-use Rattle.commit.specs.Commit.{Gone, Left}
+use Rattle.commit.specs.Commit.{Drops, Leaves, Left, remains}
+use Rattle.commit.proofs.Drop.{drop-full}
+use Rattle.commit.proofs.Replies.{is-given-back, not-fitting}
 use Rattle.commit.proofs.Sets.{held-apart, others-stay, shows-below, slots-inside, slots-once, slots-shown, used-apart}
-use Rattle.giving.specs.Giving.{At, FreedSlot, Measures}
+use Rattle.giving.specs.Giving.{At, Measures, measuredExtents}
 use Rattle.giving.proofs.Calls.{Names}
+use Rattle.call_scratch.specs.declared.Leaving.{Leaving}
+use Rattle.call_scratch.specs.Going.{GoingPlans}
 
 pub scratches : (name : List ℕ) → Names (scratch name) name (λ v. removeSet v name)
 unfolding rule
 scratches name = record { lengths = refl; rules = λ v. refl }
 
-module _ (g : Geometry) (t m s : List ℕ) (k : ℕ) (d : At g t m s k) where
+module _ {g : Geometry} {t m s : List ℕ} {k : ℕ} (d : At g t m s k) where
   abbrev v : Volume
   v = d .volume
 
@@ -40,33 +42,36 @@ module _ (g : Geometry) (t m s : List ℕ) (k : ℕ) (d : At g t m s k) where
   abbrev after : Option Volume
   after = settle g (v .chain) others 0 (λ ks. others)
 
-  module _ (count third all low : ℕ) (x : Measures g t k l count third all low) (m′ s₁ s₂ : List ℕ) (tail : GaveTail 0 (extentsIn g (slotBytes t k) (slotBytes t third) count) m m′) (f₁ : FreedSlot k s s₁) (f₂ : FreedSlot third s₁ s₂) where
-    pub tracks-shown : Shows m′ (tracks g) (held g others)
+  module _ {m′ s′ c : List ℕ} {r : Leaving} (x : GoingPlans g t m m′ s s′ c k l r) where
+    abbrev y : Measures g t k l (r .set)
+    y = x .measured
+
+    tracks-shown : Shows m′ (tracks g) (held g others)
     tracks-shown =
         let a : Shows m (tracks (v .geometry)) (runsOf l ++ held (v .geometry) others) = shows-same m (tracks (v .geometry)) (held (v .geometry) (v .labels)) (runsOf l ++ held (v .geometry) others) (λ t u. held-apart v (d .ready .valid) (d .name) l (d .it .same) t) (d .shown .freeTracks) in
         let b : Shows m (tracks g) (runsOf l ++ held g others) = subst (λ (y : Geometry). Shows m (tracks y) (runsOf l ++ held y others)) (sym (d .geometryIs)) a in
-        let c : Shows m (tracks g) (overs (extentsIn g (slotBytes t k) (slotBytes t third) count) ++ held g others) = subst (λ (es : List Extent). Shows m (tracks g) (overs es ++ held g others)) (sym (x .stored .extents)) b in
-        none-kept g (extentsIn g (slotBytes t k) (slotBytes t third) count) m m′ (x .stored .set .good) tail (tracks g) (held g others) c
+        let c : Shows m (tracks g) (overs (measuredExtents g t (r .set)) ++ held g others) = subst (λ (es : List Extent). Shows m (tracks g) (overs es ++ held g others)) (sym (y .stored .extents)) b in
+        none-kept g (measuredExtents g t (r .set)) m m′ (y .stored .set .good) (x .tail) (tracks g) (held g others) c
 
-    pub slots-free : Shows s₂ (slots g) (units (used others (v .chain)))
+    slots-free : Shows (x .bothFreed) (slots g) (units (used others (v .chain)))
     slots-free =
         let us = used others (v .chain) in
-        let e : slotsOf l ++ us ≡ oneSlot k ++ (oneSlot third ++ us) = ap₂ (λ (i j : ℕ). (oneSlot i ++ oneSlot j) ++ us) (d .it .slot) (sym (x .stored .slot3)) ∙ append-assoc (oneSlot k) (oneSlot third) us in
+        let third = r .set .slot3 in
+        let e : slotsOf l ++ us ≡ oneSlot k ++ (oneSlot third ++ us) = ap₂ (λ (i j : ℕ). (oneSlot i ++ oneSlot j) ++ us) (d .it .slot) (sym (y .stored .slot3)) ∙ append-assoc (oneSlot k) (oneSlot third) us in
         let a : Shows s (slots (v .geometry)) (units (slotsOf l ++ us)) = slots-shown s (slots (v .geometry)) (used (v .labels) (v .chain)) (slotsOf l ++ us) (λ i u. used-apart v (d .ready .valid) (d .name) l (d .it .same) i) (d .shown .freeSlots) in
         let b : Shows s (slots g) (units (slotsOf l ++ us)) = subst (λ (y : Geometry). Shows s (slots y) (units (slotsOf l ++ us))) (sym (d .geometryIs)) a in
-        f₂ .freed (slots g) us (f₁ .freed (slots g) (oneSlot third ++ us) (subst (λ (w : List ℕ). Shows s (slots g) (units w)) e b))
+        x .third .freed (slots g) us (x .first .freed (slots g) (oneSlot third ++ us) (subst (λ (w : List ℕ). Shows s (slots g) (units w)) e b))
 
     settle-is : settle (v .geometry) (v .chain) others 0 (λ ks. others) ≡ after
     settle-is = ap (λ (y : Geometry). settle y (v .chain) others 0 (λ ks. others)) (sym (d .geometryIs))
 
-    pub stays-valid : (w : Volume) → after ≡ some w → Valid w
+    stays-valid : (w : Volume) → after ≡ some w → Valid w
     stays-valid w e =
         let q : removeSet v (d .name) l ≡ accept (givenBack (total (runsOf l))) w = ap (settled (givenBack (total (runsOf l)))) (settle-is ∙ e) in
         let y : Keeps v (removes (d .name)) (accept (givenBack (total (runsOf l))) w) = subst (Keeps v (removes (d .name))) q (remove-keeps v (d .ready .valid) (d .name) l (d .it .same)) in
         y .valid
 
-    -- what `drop_set` asks
-    abbrev pub left : Left g t m′ s₂ low k third
+    left : Left g t m′ (x .bothFreed) (r .set .lowest) (r .set .slot) (r .set .slot3)
     left =
         record {
           volume = v;
@@ -74,13 +79,14 @@ module _ (g : Geometry) (t m s : List ℕ) (k : ℕ) (d : At g t m s k) where
           label = l;
           ready = d .ready;
           geometryIs = sym (d .geometryIs);
-          slotIs = sym (d .it .slot);
-          thirdIs = x .stored .slot3;
+          slotIs = y .slot ∙ sym (d .it .slot);
+          slot3Is = y .stored .slot3;
           shownTracks = tracks-shown;
+          lowIn = y .spread .lowIn;
           below =
-              shows-below g m′ (tracks g) low (v .labels) (held g others) (runsOf l) [] (x .spread .lowIn)
+              shows-below g m′ (tracks g) (r .set .lowest) (v .labels) (held g others) (runsOf l) [] (y .spread .lowIn)
               (λ i. subst (λ (y : Geometry). times i (held y (v .labels)) ≡ times i (runsOf l ++ held y others)) (sym (d .geometryIs)) (held-apart v (d .ready .valid) (d .name) l (d .it .same) i))
-              (x .spread .lowest) tracks-shown;
+              (y .spread .lowest) tracks-shown;
           shownSlots = slots-free;
           stays = others-stay v (d .ready .valid) (d .name) l (d .it .same) l refl refl;
           slotOnce = slots-once v (d .ready .valid) (d .name) l (d .it .same) l refl refl;
@@ -88,15 +94,21 @@ module _ (g : Geometry) (t m s : List ℕ) (k : ℕ) (d : At g t m s k) where
           valid = stays-valid;
         }
 
-    module _ (a t′ : List ℕ) (b : Bool) (put : (y : Left g t m′ s₂ low k third) → Gone y t′ b) where
-      pub full : b ≡ false → result 11 (lent t′ a []) ≡ written (lent t a []) (removeSet v (d .name) l)
-      full h =
-          let y = put left in
-          ap (λ (z : List ℕ). result 11 (lent z a [])) (y .same h)
-          ∙ sym (ap (λ (o : Option Volume). written (lent t a []) (settled (givenBack (total (runsOf l))) o)) (settle-is ∙ y .full h))
+    -- a is the answer before the call
+    removed-is : (a : List ℕ) → written (lent t a []) (settled (givenBack (total (runsOf l))) after) ≡ written (lent t a []) (removeSet v (d .name) l)
+    removed-is a = sym (ap (λ (o : Option Volume). written (lent t a []) (settled (givenBack (total (runsOf l))) o)) settle-is)
 
-      pub gone : b ≡ true → (a′ : List ℕ) → a′ ≡ answer (givenBack all) → result 0 (lent t′ a′ []) ≡ written (lent t a []) (removeSet v (d .name) l)
-      gone h a′ ea =
-          let y = put left .done h in
-          ap₂ (λ (z w : List ℕ). result 0 (lent z w [])) (y .2) (ea ∙ ap (λ (n : ℕ). answer (givenBack n)) (x .spread .sum))
-          ∙ sym (ap (λ (o : Option Volume). written (lent t a []) (settled (givenBack (total (runsOf l))) o)) (settle-is ∙ y .1))
+    pub full : (a : List ℕ) → r .plan .fits ≡ false → result 11 (lent t a []) ≡ written (lent t a []) (removeSet v (d .name) l)
+    unfolding left
+    full a h = not-fitting t a after (givenBack (total (runsOf l))) (drop-full left (x .plan) h) ∙ removed-is a
+
+    module _ (ok : r .plan .fits ≡ true) where
+      -- what `write_drop` asks
+      pub drops : Drops g t m′ c (r .plan) (r .set .slot) (r .set .slot3)
+      unfolding left
+      drops = record { emptyBefore = x .bothFreed; emptyAfter = s′; lo = r .set .lowest; left = left; plan = x .plan; fits = ok }
+
+      pub gone : (a t′ a′ : List ℕ) → ((z : Drops g t m′ c (r .plan) (r .set .slot) (r .set .slot3)) → Leaves (remains (z .left)) t′) → a′ ≡ answer (givenBack (r .set .tracks))
+          → result 0 (lent t′ a′ []) ≡ written (lent t a []) (removeSet v (d .name) l)
+      unfolding left drops
+      gone a t′ a′ z e = is-given-back t a after (total (runsOf l)) t′ a′ (z drops) (e ∙ ap (λ (n : ℕ). answer (givenBack n)) (y .spread .sum)) ∙ removed-is a

@@ -1,5 +1,7 @@
 // Scratch: a data set taken off the volume.
+use commit::Plan;
 use forms::Geometry;
+use giving::Measured;
 use names::Found;
 ghost use mathlib.Core.Path.{_≡_};
 ghost use mathlib.Core.Option.{some};
@@ -14,28 +16,58 @@ ghost use Rattle.rules.proofs.Valid.{Limits};
 ghost use Rattle.forms.specs.Forms.{geometryOf};
 ghost use Rattle.table_check.specs.Check.{Roomy};
 ghost use Rattle.giving.specs.Giving.{At};
+ghost use Rattle.call_scratch.specs.Going.{GoingPlans};
 
-// Takes out the data set in slot k. Its tracks and slots are free before new format 5s are placed.
-fn scratch_set(
+// A data set that is to go, and the plan of what is left.
+pub struct Leaving {
+    pub set: Measured,
+    pub plan: Plan,
+}
+
+// Plans that the data set in slot k goes. Its tracks and slots are free before new format 5s are placed.
+pub fn plan_scratch(
+    table: &[u8],
+    g: Geometry,
+    free_tracks: &mut [u64],
+    free_slots: &mut [u64],
+    chain: &mut [u16],
+    k: usize,
+) -> Leaving
+    requires { ⌜ Limits (geometryOf g) × (length (now table) ≡ 140 * slots (geometryOf g)) × (tracks (geometryOf g) ≤ 64 * length (now «free_tracks»)) × (length (now «free_slots») ≡ 8) × (length (now chain) ≡ 468) × (k < slots (geometryOf g)) ⌝ }
+    requires { ⌜ At (geometryOf g) (now table) (now «free_tracks») (now «free_slots») k ⌝ }
+    ensures { λ r. ⌜ ((d : At (geometryOf g) (now (table .entry)) (now («free_tracks» .entry)) (now («free_slots» .entry)) k) → GoingPlans (geometryOf g) (now (table .entry)) (now («free_tracks» .entry)) (now («free_tracks» .exit)) (now («free_slots» .entry)) (now («free_slots» .exit)) (now (chain .exit)) k (d .it .label) r) ⌝ }
+{
+    let set = giving::measure(table, g, k);
+    giving::give_back(table, g, set, 0, free_tracks);
+    giving::free_slot(free_slots, k);
+    giving::free_slot(free_slots, set.slot3);
+    let lo = set.lowest as usize;
+    let plan = commit::plan_slots(table, g, free_tracks, free_slots, chain, 0, lo);
+    Leaving { set, plan }
+}
+
+// Takes out the data set in slot k: 0, or 11 for a full VTOC.
+pub fn scratch_set(
     table: &mut [u8],
     g: Geometry,
-    map: &mut [u64],
-    empty: &mut [u64],
+    free_tracks: &mut [u64],
+    free_slots: &mut [u64],
     k: usize,
     answer: &mut [u8],
 ) -> u32
-    requires { ⌜ Limits (geometryOf g) × (length (now table) ≡ 140 * slots (geometryOf g)) × (tracks (geometryOf g) ≤ 64 * length (now map)) × (length (now empty) ≡ 8) × (k < slots (geometryOf g)) × (length (now answer) ≡ 24) ⌝ }
-    requires { ⌜ At (geometryOf g) (now table) (now map) (now empty) k ⌝ }
-    ensures { λ r. ⌜ ((d : At (geometryOf g) (now (table .entry)) (now (map .entry)) (now (empty .entry)) k) → result r (lent (now (table .exit)) (now (answer .exit)) []) ≡ written (lent (now (table .entry)) (now (answer .entry)) []) (removeSet (d .volume) (d .name) (d .it .label))) ⌝ }
+    requires { ⌜ Limits (geometryOf g) × (length (now table) ≡ 140 * slots (geometryOf g)) × (tracks (geometryOf g) ≤ 64 * length (now «free_tracks»)) × (length (now «free_slots») ≡ 8) × (k < slots (geometryOf g)) × (length (now answer) ≡ 24) ⌝ }
+    requires { ⌜ At (geometryOf g) (now table) (now «free_tracks») (now «free_slots») k ⌝ }
+    ensures { λ r. ⌜ ((d : At (geometryOf g) (now (table .entry)) (now («free_tracks» .entry)) (now («free_slots» .entry)) k) → result r (lent (now (table .exit)) (now (answer .exit)) []) ≡ written (lent (now (table .entry)) (now (answer .entry)) []) (removeSet (d .volume) (d .name) (d .it .label))) ⌝ }
 {
-    let x = giving::measure(table, g, k);
-    giving::give_back(table, g, k, x, 0, map);
-    giving::free_slot(empty, k);
-    giving::free_slot(empty, x.third);
-    if commit::drop_set(table, g, map, empty, x.lowest as usize, k, x.third) {} else {
+    let mut chain = [0u16; 468];
+    let going = plan_scratch(table, g, free_tracks, free_slots, &mut chain, k);
+    let set = going.set;
+    let plan = going.plan;
+    if plan.fits {} else {
         return 11;
     }
-    answers::put_back(answer, x.tracks);
+    commit::write_drop(table, g, free_tracks, &chain, plan, set.slot, set.slot3);
+    answers::put_back(answer, set.tracks);
     0
 }
 

@@ -1,16 +1,17 @@
 -- A data set taken out: slots settled and records written make the volume that `settle` leaves. Assumes nothing.
 use mathlib.Core.Path.{_≡_, refl, sym, ap, _∙_, subst}
-use mathlib.Core.Bool.{Bool, true, false, cond}
+use mathlib.Core.Bool.{true, false, cond}
 use mathlib.Core.Option.{none, some}
 use mathlib.Core.List.{List, [], _∷_, _++_}
-use Prim.Native.Nat.{ℕ, min}
+use Prim.Native.Nat.{ℕ, _<_, min}
 use native.Mathlib.Omega.{arith}
 use lib.ListN.{length, take, drop}
 use lib.Seq.{slice, take-take}
 use lib.Dec.{eqb}
+use Rattle.commit.specs.declared.Plan.{Plan}
 use Rattle.model.specs.Basics.{bit}
-use Rattle.model.specs.Model.{Geometry, Run, Volume, fivesFor, free, held, oneSlot, slots, slotsOf, tally, total, tracks, used}
-use Rattle.model.proofs.Lists.{clash, sum-append}
+use Rattle.model.specs.Model.{Geometry, Run, Volume, fivesFor, free, held, oneSlot, slots, slotsOf, tally, tracks, used}
+use Rattle.model.proofs.Lists.{All, sum-append}
 use Rattle.rules.specs.Layout.{encode, fives}
 use Rattle.rules.specs.Reading.{chop}
 use Rattle.rules.specs.Slots.{settle}
@@ -18,18 +19,28 @@ use Rattle.rules.proofs.Valid.{Valid}
 use Rattle.sound.specs.Sound.{Sound}
 use Rattle.tracks.specs.Map.{Shows, freeFrom}
 use Rattle.label_check.specs.Marks.{units}
+use Rattle.settling.specs.Settling.{Settles}
 use Rattle.change.specs.Pending.{Pending}
-use Rattle.settling.specs.Settling.{Chained, Settles}
 use Rattle.writing.specs.Writing.{Reached, cleared, fivesPut, fourPut}
-use Rattle.commit.specs.Commit.{Becomes, Left}
-use Rattle.commit.proofs.Kept.{Stay, same-chain, stay}
+use Rattle.commit.specs.Commit.{Leaves, Left, Plans, remains}
 use Rattle.commit.proofs.Core.{cleared-both, emptied, finished, settled-chain}
+use Rattle.commit.proofs.Kept.{Stay, same-chain, stay}
 use Rattle.commit.proofs.Put.{chain-tail, empty-of, free-of, slots-eq}
 
-module _ (g : Geometry) (t m s : List ℕ) (lo slot third : ℕ) (d : Left g t m s lo slot third)
-    (c₀ c c′ s′ d₀ d′ : List ℕ) (was need : ℕ) (r : Bool)
-    (chained : Chained g t c₀ c was) (need-is : need ≡ fivesFor (length (freeFrom m (tracks g) 0)))
-    (st : Settles g s s′ c c′ d₀ d′ was need 0 r) where
+module _ {g : Geometry} {t m s : List ℕ} {lo slot third : ℕ} (d : Left g t m s lo slot third)
+    {s′ c′ : List ℕ} {p : Plan} (pl : Plans g t m s s′ c′ lo 0 p) where
+  abbrev c : List ℕ
+  c = pl .read
+
+  abbrev was : ℕ
+  was = p .was
+
+  abbrev need : ℕ
+  need = p .need
+
+  abbrev st : Settles g s s′ c c′ (pl .none) (p .given) was need 0 (p .left) (p .fits)
+  st = pl .settles
+
   abbrev v : Volume
   v = d .volume
 
@@ -40,21 +51,21 @@ module _ (g : Geometry) (t m s : List ℕ) (lo slot third : ℕ) (d : Left g t m
   sound = subst (λ (x : Geometry). Sound (chop (slots x) t) v) (d .geometryIs) (d .ready .sound)
 
   read-chain : take was c ≡ v .chain
-  read-chain = chained .chain v (d .geometryIs) sound
+  read-chain = pl .chained .chain v (d .geometryIs) sound
 
   pub left-shown : Shows s (slots g) (units (used (d .others) (take was c)))
   left-shown = subst (λ (x : List ℕ). Shows s (slots g) (units (used (d .others) x))) (sym read-chain) (d .shownSlots)
 
   need-free : need ≡ fivesFor (length (free g (d .others)))
-  need-free = need-is ∙ ap (λ (f : List Run). fivesFor (length f)) (free-of g m (d .others) (d .shownTracks))
+  need-free = pl .needIs ∙ ap (λ (f : List Run). fivesFor (length f)) (free-of g m (d .others) (d .shownTracks))
 
-  outcome : settle g (v .chain) (d .others) 0 (λ ks. d .others) ≡ cond r (some w) none
+  outcome : settle g (v .chain) (d .others) 0 (λ ks. d .others) ≡ cond (p .fits) (some w) none
   outcome = ap (λ (x : List ℕ). settle g x (d .others) 0 (λ ks. d .others)) (sym read-chain) ∙ st .done (d .others) need-free left-shown (λ ks. d .others)
 
-  pub drop-full : r ≡ false → Becomes (settle g (v .chain) (d .others) 0 (λ ks. d .others)) t t false
-  drop-full e = record { full = λ q. outcome ∙ rw e; same = λ q. refl; done = λ q. clash q refl }
+  pub drop-full : p .fits ≡ false → remains d ≡ none
+  drop-full e = outcome ∙ rw e
 
-  module _ (ok : r ≡ true) where
+  module _ (ok : p .fits ≡ true) where
     is-w : settle g (v .chain) (d .others) 0 (λ ks. d .others) ≡ some w
     is-w = outcome ∙ rw ok
 
@@ -66,41 +77,44 @@ module _ (g : Geometry) (t m s : List ℕ) (lo slot third : ℕ) (d : Left g t m
 
     old-slots : (x : ℕ) → tally x (slotsOf (d .label)) ≡ tally x freed
     old-slots x =
-        let a = slots-eq slot (d .label .slot) third (d .label .slot3) x (d .slotIs) (d .thirdIs) in
+        let a = slots-eq slot (d .label .slot) third (d .label .slot3) x (d .slotIs) (d .slot3Is) in
         let b = sum-append (λ y. bit (eqb y x)) (oneSlot slot) (oneSlot third) in
         omega arith
 
-    module _ (from at : ℕ) (reached : Reached t (take (min was need) c′) lo from at) where
-      staying : Stay v w m need from at
-      staying =
-          stay v w (d .ready .valid) hw (sym (d .geometryIs)) m lo (min was need) need (omega arith) (subst (λ (x : Geometry). Shows m lo (held x (v .labels))) (sym (d .geometryIs)) (d .below))
-          (free-of g m (d .others) (d .shownTracks))
-          (same-chain c c′ (v .chain) was need read-chain (st .first))
-          from at
-          (subst (λ (ks : List ℕ). Reached (encode v) ks lo from at) (sym (take-take (min was need) need c′ (omega arith)))
-          (subst (λ (x : List ℕ). Reached x (take (min was need) c′) lo from at) (d .ready .bytes) reached))
+    pub left-inside : All (λ x. x < slots g) (take need c′)
+    left-inside = st .inside ok (d .others) left-shown
 
-      pub drop-done : (t₁ t₂ t₃ t₄ : List ℕ) → t₁ ≡ cleared t (slice need was c′) → t₂ ≡ cleared t₁ (oneSlot slot) → t₃ ≡ cleared t₂ (oneSlot third)
-          → t₄ ≡ fourPut g (fivesPut g t₃ (fives (drop from (take need c′)) (freeFrom m (tracks g) at))) (total (freeFrom s′ (slots g) 0))
-          → Becomes (settle g (v .chain) (d .others) 0 (λ ks. d .others)) t t₄ true
-      drop-done t₁ t₂ t₃ t₄ e₁ e₂ e₃ e₄ =
-          let new = settled-chain g (v .chain) (d .others) 0 (λ ks. d .others) w is-w in
-          let p : Pending w (drop from (w .chain) ++ (0 ∷ [])) (cleared (cleared t (drop need (v .chain))) freed)
-          = emptied v w (d .ready .valid) hw (sym (d .geometryIs)) (d .label) (d .others) (d .stays) (d .slotOnce) (d .slotIn) need (new .0)
-          (new .1 ∙ ap (λ (n : ℕ). take n (v .chain) ++ new .0) (sym need-free)) freed []
-          (λ x. let a = old-slots x in omega arith) (λ x. let a = old-slots x in omega arith) (λ x. omega arith)
-          (λ x p z. record { first = refl; third = refl }) m from at staying t (d .ready .bytes) in
-          let e : t₃ ≡ cleared (cleared t (drop need (v .chain))) freed
-          = e₃ ∙ ap (λ (y : List ℕ). cleared y (oneSlot third)) (e₂ ∙ ap (λ (y : List ℕ). cleared y (oneSlot slot)) (e₁ ∙ ap (cleared t) (chain-tail c c′ (v .chain) was need (st .tail) read-chain (chained .many v (d .geometryIs) sound))))
-          ∙ cleared-both (cleared t (drop need (v .chain))) (oneSlot slot) (oneSlot third) in
-          record {
-            full = λ x. clash refl x;
-            same = λ x. clash refl x;
-            done = λ x. (
-              w,
-              is-w,
-              e₄ ∙ finished w hw from (freeFrom m (tracks g) at) t₃ (total (freeFrom s′ (slots g) 0)) (staying .rest)
-                  (empty-of w s′ (λ k u. let a = st .shown ok (d .others) left-shown k u in omega arith))
-                  (subst (Pending w (drop from (w .chain) ++ (0 ∷ []))) (sym e) p),
-            );
-          }
+    abbrev from : ℕ
+    from = p .from
+
+    abbrev at : ℕ
+    at = p .at
+
+    staying : Stay v w m need from at
+    staying =
+        stay v w (d .ready .valid) hw (sym (d .geometryIs)) m lo (min was need) need (omega arith) (subst (λ (x : Geometry). Shows m lo (held x (v .labels))) (sym (d .geometryIs)) (d .below))
+        (free-of g m (d .others) (d .shownTracks))
+        (same-chain c c′ (v .chain) was need read-chain (st .first))
+        from at
+        (subst (λ (ks : List ℕ). Reached (encode v) ks lo from at) (sym (take-take (min was need) need c′ (omega arith)))
+        (subst (λ (x : List ℕ). Reached x (take (min was need) c′) lo from at) (d .ready .bytes) (pl .reached)))
+
+    pub drop-done : (t₁ t₂ t₃ t₄ : List ℕ) → t₁ ≡ cleared t (slice need was c′) → t₂ ≡ cleared t₁ (oneSlot slot) → t₃ ≡ cleared t₂ (oneSlot third)
+        → t₄ ≡ fourPut g (fivesPut g t₃ (fives (drop from (take need c′)) (freeFrom m (tracks g) at))) (p .left)
+        → Leaves (remains d) t₄
+    drop-done t₁ t₂ t₃ t₄ e₁ e₂ e₃ e₄ =
+        let new = settled-chain g (v .chain) (d .others) 0 (λ ks. d .others) w is-w in
+        let p₀ : Pending w (drop from (w .chain) ++ (0 ∷ [])) (cleared (cleared t (drop need (v .chain))) freed)
+        = emptied v w (d .ready .valid) hw (sym (d .geometryIs)) (d .label) (d .others) (d .stays) (d .slotOnce) (d .slotIn) need (new .0)
+        (new .1 ∙ ap (λ (n : ℕ). take n (v .chain) ++ new .0) (sym need-free)) freed []
+        (λ x. let a = old-slots x in omega arith) (λ x. let a = old-slots x in omega arith) (λ x. omega arith)
+        (λ x p z. record { first = refl; third = refl }) m from at staying t (d .ready .bytes) in
+        let e : t₃ ≡ cleared (cleared t (drop need (v .chain))) freed
+        = e₃ ∙ ap (λ (y : List ℕ). cleared y (oneSlot third)) (e₂ ∙ ap (λ (y : List ℕ). cleared y (oneSlot slot)) (e₁ ∙ ap (cleared t) (chain-tail c c′ (v .chain) was need (st .tail) read-chain (pl .chained .many v (d .geometryIs) sound))))
+        ∙ cleared-both (cleared t (drop need (v .chain))) (oneSlot slot) (oneSlot third) in (
+          w,
+          is-w,
+          e₄ ∙ finished w hw from (freeFrom m (tracks g) at) t₃ (p .left) (staying .rest)
+              (st .leftIs ok (d .others) left-shown ∙ empty-of w s′ (λ k u. let a = st .shown ok (d .others) left-shown k u in omega arith))
+              (subst (Pending w (drop from (w .chain) ++ (0 ∷ []))) (sym e) p₀),
+        )

@@ -19,8 +19,8 @@ use Rattle.sound.specs.Sound.{FiveOk}
 use Rattle.tracks.specs.Map.{Shows, freeFrom, isFree}
 use Rattle.tracks.proofs.Counting.{bit-of}
 use Rattle.tracks.proofs.Walk.{free-from-zero}
-use Rattle.free_list.proofs.Chain.{chain-below}
 use Rattle.fields.specs.Records.{slotBytes}
+use Rattle.free_list.proofs.Chain.{chain-below}
 use Rattle.change.specs.Pending.{recordOf}
 use Rattle.change.proofs.Kept.{fives-drop, runs-kept, same-members}
 use Rattle.change.proofs.Laws.{fives-of, slot-of}
@@ -178,11 +178,8 @@ same-chain c c′ ks was need e f =
     let j = min was need in
     ap (take j) (sym e ∙ sym f) ∙ take-take j was c′ (omega arith) ∙ sym (take-take j need c′ (omega arith))
 
-pub common-low : (n was need j : ℕ) (c : List ℕ) → j ≡ min was need → need ≤ length c → All (λ k. k < n) (take need c) → (j ≤ length c) × All (λ k. k < n) (take j c)
-common-low n was need j c e u a = (omega arith, subst (All (λ k. k < n)) (take-take j need c (omega arith)) (All-take (λ k. k < n) j (take need c) a))
-
-pub reached-common : (t c : List ℕ) (was need j lo from at : ℕ) → j ≡ min was need → Reached t (take j c) lo from at → Reached t (take (min was need) c) lo from at
-reached-common t c was need j lo from at e r = subst (λ (i : ℕ). Reached t (take i c) lo from at) e r
+pub common-low : (n was need j : ℕ) (c : List ℕ) → j ≡ min was need → was ≤ length c → All (λ k. k < n) (take was c) → (j ≤ length c) × All (λ k. k < n) (take j c)
+common-low n was need j c e u a = (omega arith, subst (All (λ k. k < n)) (take-take j was c (omega arith)) (All-take (λ k. k < n) j (take was c) a))
 
 -- the place is one of the chain, and of the map
 pub place-in : (t c : List ℕ) (was need lo from at : ℕ) → Reached t (take (min was need) c) lo from at → from ≤ need

@@ -11,9 +11,10 @@ use lib.ListN.{length, take, drop, getD, length-take, drop-of-length-le}
 use lib.Seq.{getD-take, slice, take-take}
 use lib.Dec.{eqb}
 use borrow.Author.Tests.{eq-eqb}
+use Rattle.commit.specs.declared.Plan.{Plan}
 use Rattle.model.specs.Basics.{bit, flat}
 use Rattle.model.specs.Model.{Geometry, Label, Run, Volume, fivesFor, format0s, free, held, oneSlot, runsOf, slots, slotsOf, tally, times, total, tracks, used}
-use Rattle.model.proofs.Lists.{All, All-drop, All-map, clash, sum-append}
+use Rattle.model.proofs.Lists.{All, All-drop, All-map, sum-append}
 use Rattle.rules.specs.Layout.{encode, fives, format3}
 use Rattle.rules.specs.Reading.{chop}
 use Rattle.rules.specs.Slots.{askedBy, asks, insertLabel, kept3, placed, settle, settleWith, slotOr, withSlots}
@@ -26,14 +27,15 @@ use Rattle.sound.specs.Sound.{Sound}
 use Rattle.tracks.specs.Map.{Shows, freeBit, freeFrom}
 use Rattle.tracks.proofs.Held.{free-gaps}
 use Rattle.label_check.specs.Marks.{units}
+use Rattle.labels.specs.Labels.{Format3}
 use Rattle.spare.proofs.Laws.{count-unused}
+use Rattle.settling.specs.Settling.{Settles}
 use Rattle.change.proofs.Begin.{alike-come}
-use Rattle.settling.specs.Settling.{Chained, Settles}
 use Rattle.writing.specs.Writing.{Reached, cleared, fivesPut, fourPut, labelPut}
 use Rattle.writing.proofs.Changed.{label-pending}
-use Rattle.commit.specs.Commit.{Becomes, Draft}
-use Rattle.commit.proofs.Kept.{Stay, same-chain, stay}
+use Rattle.commit.specs.Commit.{Draft, Leaves, Plans}
 use Rattle.commit.proofs.Core.{emptied, finished, settled-chain}
+use Rattle.commit.proofs.Kept.{Stay, same-chain, stay}
 
 pub free-of : (g : Geometry) (m : List ℕ) (ls : List Label) → Shows m (tracks g) (held g ls) → freeFrom m (tracks g) 0 ≡ free g ls
 unfolding free
@@ -122,10 +124,23 @@ third-eq few few′ slot slot′ third third′ ds a b c = rw (a, b, c) (third-g
 pub slots-eq : (slot slot′ third third′ x : ℕ) → slot ≡ slot′ → third ≡ third′ → tally x (oneSlot slot′ ++ oneSlot third′) ≡ tally x (oneSlot slot) + tally x (oneSlot third)
 slots-eq slot slot′ third third′ x a b = rw (a, b) (sum-append (λ y. bit (eqb y x)) (oneSlot slot′) (oneSlot third′))
 
-module _ (g : Geometry) (t m s : List ℕ) (lo slot third : ℕ) (few : Bool) (one three : List ℕ) (d : Draft g t m s lo slot third few one three)
-    (c₀ c c′ s′ d₀ d′ : List ℕ) (was need asked : ℕ) (r : Bool)
-    (chained : Chained g t c₀ c was) (need-is : need ≡ fivesFor (length (freeFrom m (tracks g) 0))) (asked-is : asked ≡ asks slot + cond few 0 (asks third))
-    (two : length d₀ ≡ 2) (st : Settles g s s′ c c′ d₀ d′ was need asked r) where
+module _ {g : Geometry} {t m s : List ℕ} {lo slot third : ℕ} {few : Bool} (d : Draft g t m s lo slot third few)
+    {asked : ℕ} (asked-is : asked ≡ asks slot + cond few 0 (asks third)) {s′ c′ : List ℕ} {p : Plan} (pl : Plans g t m s s′ c′ lo asked p) where
+  abbrev c : List ℕ
+  c = pl .read
+
+  abbrev d′ : List ℕ
+  d′ = p .given
+
+  abbrev was : ℕ
+  was = p .was
+
+  abbrev need : ℕ
+  need = p .need
+
+  abbrev st : Settles g s s′ c c′ (pl .none) d′ was need asked (p .left) (p .fits)
+  st = pl .settles
+
   abbrev v : Volume
   v = d .volume
 
@@ -148,28 +163,28 @@ module _ (g : Geometry) (t m s : List ℕ) (lo slot third : ℕ) (few : Bool) (o
   sound = subst (λ (x : Geometry). Sound (chop (slots x) t) v) (d .geometryIs) (d .ready .sound)
 
   pub read-chain : take was c ≡ v .chain
-  read-chain = chained .chain v (d .geometryIs) sound
+  read-chain = pl .chained .chain v (d .geometryIs) sound
 
   pub shown : Shows s (slots g) (units (used draft (take was c)))
   shown = subst (λ (x : List ℕ). Shows s (slots g) (units (used draft x))) (sym read-chain) (d .shownSlots)
 
   need-free : need ≡ fivesFor (length (free g draft))
-  need-free = need-is ∙ ap (λ (f : List Run). fivesFor (length f)) (free-of g m draft (d .shownTracks))
+  need-free = pl .needIs ∙ ap (λ (f : List Run). fivesFor (length f)) (free-of g m draft (d .shownTracks))
 
   asked-by : asked ≡ askedBy l
-  asked-by = asked-is ∙ asked-eq few (fewExtents l₀) slot (l₀ .slot) third (l₀ .slot3) (d .slotIs) (d .thirdIs) (d .fewIs)
+  asked-by = asked-is ∙ asked-eq few (fewExtents l₀) slot (l₀ .slot) third (l₀ .slot3) (d .slotIs) (d .slot3Is) (d .fewIs)
 
-  outcome : settleWith v (d .others) l₀ ≡ cond r (some w) none
+  outcome : settleWith v (d .others) l₀ ≡ cond (p .fits) (some w) none
   outcome =
       ap (λ (x : Geometry). settle x (v .chain) draft (askedBy l) (λ js. insertLabel (placed js l) (d .others))) (d .geometryIs)
       ∙ ap (λ (n : ℕ). settle g (v .chain) draft n (λ js. insertLabel (placed js l) (d .others))) (sym asked-by)
       ∙ ap (λ (x : List ℕ). settle g x draft asked (λ js. insertLabel (placed js l) (d .others))) (sym read-chain)
       ∙ st .done draft need-free shown (λ js. insertLabel (placed js l) (d .others))
 
-  pub put-full : r ≡ false → Becomes (settleWith v (d .others) l₀) t t false
-  put-full e = record { full = λ q. outcome ∙ rw e; same = λ q. refl; done = λ q. clash q refl }
+  pub put-full : p .fits ≡ false → settleWith v (d .others) l₀ ≡ none
+  put-full e = outcome ∙ rw e
 
-  module _ (ok : r ≡ true) where
+  module _ (ok : p .fits ≡ true) where
     is-w : settleWith v (d .others) l₀ ≡ some w
     is-w = outcome ∙ rw ok
 
@@ -192,7 +207,7 @@ module _ (g : Geometry) (t m s : List ℕ) (lo slot third : ℕ) (few : Bool) (o
     third-is : placed ks l .slot3 ≡ q
     third-is =
         ap (λ (n : ℕ). cond (fewExtents l₀) 0 (slotOr (cond (fewExtents l₀) 0 (l₀ .slot3)) (getD (take n d′) (asks (l₀ .slot)) 0))) asked-is
-        ∙ third-eq few (fewExtents l₀) slot (l₀ .slot) third (l₀ .slot3) d′ (d .slotIs) (d .thirdIs) (d .fewIs)
+        ∙ third-eq few (fewExtents l₀) slot (l₀ .slot) third (l₀ .slot3) d′ (d .slotIs) (d .slot3Is) (d .fewIs)
 
     placed-is : placed ks l ≡ withSlots k q l₀
     placed-is = ap₂ (λ (a b : ℕ). withSlots a b l₀) first-is third-is
@@ -213,6 +228,7 @@ module _ (g : Geometry) (t m s : List ℕ) (lo slot third : ℕ) (few : Bool) (o
         long =
             let a = asks-most few slot third in
             let b = st .longGiven in
+            let h = pl .two in
             let e = asked-by in
             omega arith
 
@@ -266,46 +282,65 @@ module _ (g : Geometry) (t m s : List ℕ) (lo slot third : ℕ) (few : Bool) (o
           | no h ↦ lt-of-not-le h
         ]
 
-    pub first-inside : k < slots g
-    first-inside = let p : 1 ≤ k = subst (λ (x : ℕ). 1 ≤ x) first-is (fitted .first) in let o = one-self k p in inside k (omega arith)
+    k-inside : k < slots g
+    k-inside = let p : 1 ≤ k = subst (λ (x : ℕ). 1 ≤ x) first-is (fitted .first) in let o = one-self k p in inside k (omega arith)
 
-    pub third-inside : q < slots g
-    third-inside =
+    q-inside : q < slots g
+    q-inside =
         elim (decLe 1 q) [
           | yes p ↦ let o = one-self q p in inside q (omega arith)
           | no p ↦ let z = lt-of-not-le p in omega (arith, least)
         ]
 
+    -- what `put_label` asks
+    pub first-inside : (x : ℕ) → x ≡ k → x < slots g
+    first-inside x e = let h = k-inside in omega arith
+
+    pub third-inside : (x : ℕ) → x ≡ q → x < slots g
+    third-inside x e = let h = q-inside in omega arith
+
     old-slots : (x : ℕ) → tally x (slotsOf l₀) ≡ tally x (oneSlot slot) + tally x (oneSlot third)
-    old-slots x = slots-eq slot (l₀ .slot) third (l₀ .slot3) x (d .slotIs) (d .thirdIs)
+    old-slots x = slots-eq slot (l₀ .slot) third (l₀ .slot3) x (d .slotIs) (d .slot3Is)
 
     start : settle g (v .chain) draft asked (λ js. insertLabel (placed js l) (d .others)) ≡ some w
     start = ap (λ (x : List ℕ). settle g x draft asked (λ js. insertLabel (placed js l) (d .others))) (sym read-chain) ∙ st .done draft need-free shown (λ js. insertLabel (placed js l) (d .others)) ∙ rw ok
 
-    three-is : (x : ℕ) → q ≡ x → 1 ≤ x → three ≡ format3 g l₀
-    three-is x e u = go few refl
-      where
-        go : (b : Bool) → few ≡ b → three ≡ format3 g l₀
-        go true h = let z : q ≡ 0 = rw h in absurd (omega arith)
-        go false h = d .writtenThird h
+    left-is : p .left ≡ total (freeFrom s′ (slots g) 0)
+    left-is = st .leftIs ok draft shown
 
-    module _ (from at : ℕ) (reached : Reached t (take (min was need) c′) lo from at) where
+    pub chain-inside : All (λ x. x < slots g) (take need c′)
+    chain-inside = st .inside ok draft shown
+
+    abbrev from : ℕ
+    from = p .from
+
+    abbrev at : ℕ
+    at = p .at
+
+    module _ (three : List ℕ) (third-written : few ≡ false → Format3 g l₀ three) where
+      three-is : (x : ℕ) → q ≡ x → 1 ≤ x → three ≡ format3 g l₀
+      three-is x e u = go few refl
+        where
+          go : (b : Bool) → few ≡ b → three ≡ format3 g l₀
+          go true h = let z : q ≡ 0 = rw h in absurd (omega arith)
+          go false h = third-written h
+
       staying : Stay v w m need from at
       staying =
           stay v w (d .ready .valid) hw (sym (d .geometryIs)) m lo (min was need) need (omega arith) (subst (λ (x : Geometry). Shows m lo (held x (v .labels))) (sym (d .geometryIs)) (d .below)) free-w
           (same-chain c c′ (v .chain) was need read-chain (st .first))
           from at
           (subst (λ (ks : List ℕ). Reached (encode v) ks lo from at) (sym (take-take (min was need) need c′ (omega arith)))
-          (subst (λ (x : List ℕ). Reached x (take (min was need) c′) lo from at) (d .ready .bytes) reached))
+          (subst (λ (x : List ℕ). Reached x (take (min was need) c′) lo from at) (d .ready .bytes) (pl .reached)))
 
       written : (t₃ : List ℕ) → t₃ ≡ labelPut g (cleared (cleared t (drop need (v .chain))) (oneSlot (cond few third 0))) k q l₀ three
-          → fourPut g (fivesPut g t₃ (fives (drop from (take need c′)) (freeFrom m (tracks g) at))) (total (freeFrom s′ (slots g) 0)) ≡ encode w
+          → fourPut g (fivesPut g t₃ (fives (drop from (take need c′)) (freeFrom m (tracks g) at))) (p .left) ≡ encode w
       written t₃ e =
           let new = settled-chain g (v .chain) draft asked (λ js. insertLabel (placed js l) (d .others)) w start in
-          finished w hw from (freeFrom m (tracks g) at) t₃ (total (freeFrom s′ (slots g) 0)) (staying .rest)
-          (empty-of w s′ (λ x u. let a = given x u in let b = used-w x in omega arith))
+          finished w hw from (freeFrom m (tracks g) at) t₃ (p .left) (staying .rest)
+          (left-is ∙ empty-of w s′ (λ x u. let a = given x u in let b = used-w x in omega arith))
           (subst (Rattle.change.specs.Pending.Pending w (drop from (w .chain) ++ (0 ∷ []))) (sym e)
-          (label-pending w hw l₀ k q (d .others) labels-are first-inside third-inside (drop from (w .chain) ++ (0 ∷ [])) _ three (λ u. three-is q refl u)
+          (label-pending w hw l₀ k q (d .others) labels-are k-inside q-inside (drop from (w .chain) ++ (0 ∷ [])) _ three (λ u. three-is q refl u)
           (emptied v w (d .ready .valid) hw (sym (d .geometryIs)) l₀ (d .others) (d .stays) (d .slotOnce) (d .slotIn) need (new .0)
           (new .1 ∙ ap (λ (n : ℕ). take n (v .chain) ++ new .0) (sym need-free))
           (oneSlot (cond few third 0)) (k ∷ oneSlot q)
@@ -318,11 +353,11 @@ module _ (g : Geometry) (t m s : List ℕ) (lo slot third : ℕ) (few : Bool) (o
 
       pub put-done : (freed first other : ℕ) (t₁ t₂ t₃ t₄ : List ℕ) → freed ≡ cond few third 0 → first ≡ k → other ≡ q
           → t₁ ≡ cleared t (slice need was c′) → t₂ ≡ cleared t₁ (oneSlot freed) → t₃ ≡ labelPut g t₂ first other l₀ three
-          → t₄ ≡ fourPut g (fivesPut g t₃ (fives (drop from (take need c′)) (freeFrom m (tracks g) at))) (total (freeFrom s′ (slots g) 0))
-          → Becomes (settleWith v (d .others) l₀) t t₄ true
+          → t₄ ≡ fourPut g (fivesPut g t₃ (fives (drop from (take need c′)) (freeFrom m (tracks g) at))) (p .left)
+          → Leaves (settleWith v (d .others) l₀) t₄
       put-done freed first other t₁ t₂ t₃ t₄ f a b e₁ e₂ e₃ e₄ =
           let two : t₂ ≡ cleared (cleared t (drop need (v .chain))) (oneSlot (cond few third 0))
-          = e₂ ∙ ap₂ (λ (y : List ℕ) (x : ℕ). cleared y (oneSlot x)) (e₁ ∙ ap (cleared t) (chain-tail c c′ (v .chain) was need (st .tail) read-chain (chained .many v (d .geometryIs) sound))) f in
+          = e₂ ∙ ap₂ (λ (y : List ℕ) (x : ℕ). cleared y (oneSlot x)) (e₁ ∙ ap (cleared t) (chain-tail c c′ (v .chain) was need (st .tail) read-chain (pl .chained .many v (d .geometryIs) sound))) f in
           let three-done : t₃ ≡ labelPut g (cleared (cleared t (drop need (v .chain))) (oneSlot (cond few third 0))) k q l₀ three
           = e₃ ∙ ap₂ (λ (x y : ℕ). labelPut g t₂ x y l₀ three) a b ∙ ap (λ (y : List ℕ). labelPut g y k q l₀ three) two in
-          record { full = λ x. clash refl x; same = λ x. clash refl x; done = λ x. (w, is-w, e₄ ∙ written t₃ three-done) }
+          (w, is-w, e₄ ∙ written t₃ three-done)

@@ -1,20 +1,19 @@
-// A data set put into a table, changed or taken out: the slots that this needs, and all records written. Nothing is written
-// where the slots are too few.
+// A data set put into a table, changed or taken out: the slots that this needs, planned, and then all records written. A plan
+// reads the table; what is written cannot be refused.
 use forms::Geometry;
-use writing::Place;
 ghost use mathlib.Core.Path.{_≡_};
 ghost use mathlib.Core.Bool.{cond};
 ghost use Prim.Native.Nat.{_+_, _*_, _≤_, _<_, min};
 ghost use lib.ListN.{drop, length, take, getD};
-ghost use Rattle.model.specs.Model.{slots, total, tracks};
+ghost use Rattle.model.specs.Model.{slots, tracks};
 ghost use Rattle.model.proofs.Lists.{All};
 ghost use Rattle.rules.specs.Layout.{fives};
 ghost use Rattle.rules.specs.Slots.{asks, slotOr};
 ghost use Rattle.rules.proofs.Valid.{Limits};
 ghost use Rattle.tracks.specs.Map.{freeFrom};
 ghost use Rattle.forms.specs.Forms.{geometryOf};
-ghost use Rattle.writing.specs.Writing.{Reached, fivesPut, fourPut};
-ghost use Rattle.commit.specs.Commit.{Committed, Draft, Gone, Left};
+ghost use Rattle.writing.specs.Writing.{fivesPut, fourPut};
+ghost use Rattle.commit.specs.Commit.{Drops, Leaves, Plans, Puts, drafted, remains};
 
 // How many slots a record asks for: one where it has none.
 fn asks(k: usize) -> usize
@@ -27,7 +26,7 @@ fn asks(k: usize) -> usize
 }
 
 // How many slots a label asks for: one for its format 1 where it has none, one for its format 3 where it needs it.
-fn asked_for(slot: usize, third: usize, few: bool) -> usize
+pub fn asked_for(slot: usize, third: usize, few: bool) -> usize
     ensures { λ r. ⌜ (r ≡ asks slot + cond few 0 (asks third)) × (r ≤ 2) ⌝ }
 {
     let first = asks(slot);
@@ -77,100 +76,114 @@ fn lesser(a: usize, b: usize) -> usize
     if a < b { a } else { b }
 }
 
-// Where the chain of `need` members, which were `was`, begins to be written, if the tracks below `lo` stay as they are: behind
-// the members that tell of these only. The last member that stays is written, since its link may change.
-fn chain_from(table: &[u8], g: Geometry, chain: &[u16], was: usize, need: usize, lo: usize) -> Place
-    requires { ⌜ Limits (geometryOf g) × (length (now table) ≡ 140 * slots (geometryOf g)) × (need ≤ length (now chain)) × All (λ k. k < slots (geometryOf g)) (take need (now chain)) ⌝ }
-    ensures { λ r. ⌜ Reached (now (table .entry)) (take (min was need) (now (chain .entry))) lo (r .from) (r .at) ⌝ }
-{
-    writing::begin(table, g, chain, lesser(was, need), lo)
+// ---- planned
+
+// The slots that a change needs. Where they fit, the chain of `was` members becomes one of `need`, the label gets those of `given`
+// that it asked for, and `left` are free. The chain is written from member number `from` on, which tells of free extents from
+// track `at` on: the members before it stay.
+pub struct Plan {
+    pub fits: bool,
+    pub was: usize,
+    pub need: usize,
+    pub left: usize,
+    pub from: usize,
+    pub at: usize,
+    pub given: [u16; 2],
 }
 
-// Writes the chain of format 5s from that place on, and the format 4 last.
-fn finish(
+// Plans a change: `free_tracks` shows the tracks that are free then, and those below `lo` are as they were; `free_slots` the slots
+// that are free but for those of the chain; the label asks for `asked`. The chain that is to be is left in `chain`.
+pub fn plan_slots(
+    table: &[u8],
+    g: Geometry,
+    free_tracks: &[u64],
+    free_slots: &mut [u64],
+    chain: &mut [u16],
+    asked: usize,
+    lo: usize,
+) -> Plan
+    requires { ⌜ Limits (geometryOf g) × (length (now table) ≡ 140 * slots (geometryOf g)) × (tracks (geometryOf g) ≤ 64 * length (now «free_tracks»)) × (length (now «free_slots») ≡ 8) × (length (now chain) ≡ 468) × (asked ≤ 2) ⌝ }
+    ensures { λ r. ⌜ Plans (geometryOf g) (now (table .entry)) (now («free_tracks» .entry)) (now («free_slots» .entry)) (now («free_slots» .exit)) (now (chain .exit)) lo asked r ⌝ }
+{
+    let was = settling::read_chain(table, g, chain);
+    let runs = tracks::count_runs(free_tracks, (g.cylinders * g.heads) as usize);
+    let need = settling::fives_for(runs);
+    let place = writing::begin(table, g, chain, lesser(was, need), lo);
+    let n = (g.vtoc_tracks * g.records) as usize;
+    let mut given = [0u16; 2];
+    let settled = settling::settle(free_slots, n, chain, was, need, &mut given, asked);
+    Plan {
+        fits: settled.fits,
+        was,
+        need,
+        left: settled.left,
+        from: place.from,
+        at: place.at,
+        given,
+    }
+}
+
+// ---- written: a plan that fits
+
+// Writes the chain of format 5s, and the format 4 last.
+fn finish(table: &mut [u8], g: Geometry, free_tracks: &[u64], chain: &[u16], plan: Plan)
+    requires { ⌜ Limits (geometryOf g) × (length (now table) ≡ 140 * slots (geometryOf g)) × (tracks (geometryOf g) ≤ 64 * length (now «free_tracks»)) × (plan .left < 65536) ⌝ }
+    requires { ⌜ (plan .need ≤ length (now chain)) × All (λ k. k < slots (geometryOf g)) (take (plan .need) (now chain)) × (plan .from ≤ plan .need) × (plan .at ≤ tracks (geometryOf g)) ⌝ }
+    ensures { λ _. ⌜ now (table .exit) ≡ fourPut (geometryOf g) (fivesPut (geometryOf g) (now (table .entry)) (fives (drop (plan .from) (take (plan .need) (now (chain .entry)))) (freeFrom (now («free_tracks» .entry)) (tracks (geometryOf g)) (plan .at)))) (plan .left) ⌝ }
+{
+    writing::put_chain(table, g, free_tracks, chain, plan.need, plan.from, plan.at);
+    writing::put_four(table, g, plan.left);
+}
+
+// A data set that is new or changed: the slots that it has, 0 for none, whether its extents are few, and its records.
+pub struct DataSet {
+    pub slot: usize,
+    pub slot3: usize,
+    pub few: bool,
+    pub f1: [u8; 140],
+    pub f3: [u8; 140],
+}
+
+// Writes a data set that is planned.
+pub fn write_set(
     table: &mut [u8],
     g: Geometry,
-    map: &[u64],
-    empty: &[u64],
+    free_tracks: &[u64],
     chain: &[u16],
-    need: usize,
-    place: Place,
+    plan: Plan,
+    set: DataSet,
 )
-    requires { ⌜ Limits (geometryOf g) × (length (now table) ≡ 140 * slots (geometryOf g)) × (tracks (geometryOf g) ≤ 64 * length (now map)) × (length (now empty) ≡ 8) ⌝ }
-    requires { ⌜ (need ≤ length (now chain)) × All (λ k. k < slots (geometryOf g)) (take need (now chain)) × (place .from ≤ need) × (place .at ≤ tracks (geometryOf g)) ⌝ }
-    ensures { λ _. ⌜ now (table .exit) ≡ fourPut (geometryOf g) (fivesPut (geometryOf g) (now (table .entry)) (fives (drop (place .from) (take need (now (chain .entry)))) (freeFrom (now (map .entry)) (tracks (geometryOf g)) (place .at)))) (total (freeFrom (now (empty .entry)) (slots (geometryOf g)) 0)) ⌝ }
+    requires { ⌜ Limits (geometryOf g) × (length (now table) ≡ 140 * slots (geometryOf g)) × (tracks (geometryOf g) ≤ 64 * length (now «free_tracks»)) × (set .slot < slots (geometryOf g)) × (set .slot3 < slots (geometryOf g)) × (length (set .f1) ≡ 140) ⌝ }
+    requires { ⌜ Puts (geometryOf g) (now table) (now «free_tracks») (now chain) plan set ⌝ }
+    ensures { λ _. ⌜ ((d : Puts (geometryOf g) (now (table .entry)) (now («free_tracks» .entry)) (now (chain .entry)) plan set) → Leaves (drafted (d .draft)) (now (table .exit))) ⌝ }
 {
-    writing::put_chain(table, g, map, chain, need, place.from, place.at);
-    let count = settling::count_free(empty, (g.vtoc_tracks * g.records) as usize);
-    writing::put_four(table, g, count);
+    let given = plan.given;
+    let mut f1 = set.f1;
+    let f3 = set.f3;
+    writing::clear(table, chain, plan.need, plan.was);
+    writing::clear_slot(table, if_few(set.few, set.slot3));
+    let first = slot_or(set.slot, given[0]);
+    let third = third_slot(set.slot, set.slot3, set.few, given);
+    writing::put_label(table, g, first, third, &mut f1, &f3);
+    finish(table, g, free_tracks, chain, plan);
 }
 
-// Puts a data set that is new or changed. It has the slots `slot` and `third`, 0 for none, and few extents, three or fewer, or
-// more; the maps show what is free beside it, and the tracks below `lo` are as they were. False: VTOC full.
-pub fn put_set(
+// Takes out a data set whose going is planned: its slots are zeros then.
+pub fn write_drop(
     table: &mut [u8],
     g: Geometry,
-    map: &[u64],
-    empty: &mut [u64],
-    lo: usize,
+    free_tracks: &[u64],
+    chain: &[u16],
+    plan: Plan,
     slot: usize,
-    third: usize,
-    few: bool,
-    one: &mut [u8; 140],
-    three: &[u8; 140],
-) -> bool
-    requires { ⌜ Limits (geometryOf g) × (length (now table) ≡ 140 * slots (geometryOf g)) × (tracks (geometryOf g) ≤ 64 * length (now map)) × (length (now empty) ≡ 8) × (lo ≤ tracks (geometryOf g)) × (slot < slots (geometryOf g)) × (third < slots (geometryOf g)) × (length (now one) ≡ 140) ⌝ }
-    requires { ⌜ Draft (geometryOf g) (now table) (now map) (now empty) lo slot third few (now one) (now three) ⌝ }
-    ensures { λ r. ⌜ ((d : Draft (geometryOf g) (now (table .entry)) (now (map .entry)) (now (empty .entry)) lo slot third few (now (one .entry)) (now (three .entry))) → Committed d (now (table .exit)) r) ⌝ }
+    slot3: usize,
+)
+    requires { ⌜ Limits (geometryOf g) × (length (now table) ≡ 140 * slots (geometryOf g)) × (tracks (geometryOf g) ≤ 64 * length (now «free_tracks»)) × (slot < slots (geometryOf g)) × (slot3 < slots (geometryOf g)) ⌝ }
+    requires { ⌜ Drops (geometryOf g) (now table) (now «free_tracks») (now chain) plan slot slot3 ⌝ }
+    ensures { λ _. ⌜ ((d : Drops (geometryOf g) (now (table .entry)) (now («free_tracks» .entry)) (now (chain .entry)) plan slot slot3) → Leaves (remains (d .left)) (now (table .exit))) ⌝ }
 {
-    let n = (g.vtoc_tracks * g.records) as usize;
-    let mut chain = [0u16; 468];
-    let was = settling::read_chain(table, g, &mut chain);
-    let runs = tracks::count_runs(map, (g.cylinders * g.heads) as usize);
-    let need = settling::fives_for(runs);
-    let mut given = [0u16; 2];
-    let asked = asked_for(slot, third, few);
-    if settling::settle(empty, n, &mut chain, was, need, &mut given, asked) {} else {
-        return false;
-    }
-    let place = chain_from(table, g, &chain, was, need, lo);
-    writing::clear(table, &chain, need, was);
-    writing::clear_slot(table, if_few(few, third));
-    let first = slot_or(slot, given[0]);
-    let other = third_slot(slot, third, few, given);
-    writing::put_label(table, g, first, other, one, three);
-    finish(table, g, map, empty, &chain, need, place);
-    true
-}
-
-// Takes a data set out: its slots are zeros then. The maps show what is free without it; the tracks below `lo` are as they
-// were.
-pub fn drop_set(
-    table: &mut [u8],
-    g: Geometry,
-    map: &[u64],
-    empty: &mut [u64],
-    lo: usize,
-    slot: usize,
-    third: usize,
-) -> bool
-    requires { ⌜ Limits (geometryOf g) × (length (now table) ≡ 140 * slots (geometryOf g)) × (tracks (geometryOf g) ≤ 64 * length (now map)) × (length (now empty) ≡ 8) × (lo ≤ tracks (geometryOf g)) × (slot < slots (geometryOf g)) × (third < slots (geometryOf g)) ⌝ }
-    requires { ⌜ Left (geometryOf g) (now table) (now map) (now empty) lo slot third ⌝ }
-    ensures { λ r. ⌜ ((d : Left (geometryOf g) (now (table .entry)) (now (map .entry)) (now (empty .entry)) lo slot third) → Gone d (now (table .exit)) r) ⌝ }
-{
-    let n = (g.vtoc_tracks * g.records) as usize;
-    let mut chain = [0u16; 468];
-    let was = settling::read_chain(table, g, &mut chain);
-    let runs = tracks::count_runs(map, (g.cylinders * g.heads) as usize);
-    let need = settling::fives_for(runs);
-    let mut given = [0u16; 2];
-    if settling::settle(empty, n, &mut chain, was, need, &mut given, 0) {} else {
-        return false;
-    }
-    let place = chain_from(table, g, &chain, was, need, lo);
-    writing::clear(table, &chain, need, was);
+    writing::clear(table, chain, plan.need, plan.was);
     writing::clear_slot(table, slot);
-    writing::clear_slot(table, third);
-    finish(table, g, map, empty, &chain, need, place);
-    true
+    writing::clear_slot(table, slot3);
+    finish(table, g, free_tracks, chain, plan);
 }

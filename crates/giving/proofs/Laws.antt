@@ -1,12 +1,12 @@
 -- A data set that is to give tracks back, in the words of the rules. Assumes nothing.
 use mathlib.Core.Path.{_≡_, refl, sym, ap, ap₂, _∙_, subst}
 use mathlib.Core.List.{List, _∷_}
-use Prim.Native.Nat.{ℕ, zero, suc, _+_, _*_, _≤_, _<_}
+use Prim.Native.Nat.{ℕ, zero, suc, _+_, _≤_, _<_}
 use native.Mathlib.Omega.{arith}
 use lib.ListN.{getD, length}
 use Rattle.model.specs.Model.{Extent, Geometry, Label, Volume, runsOf, slots, total, tracks}
 use Rattle.rules.proofs.Labels.{without-sum}
-use Rattle.rules.proofs.Valid.{Limits, free-balance, held-total}
+use Rattle.rules.proofs.Valid.{free-balance, held-total}
 use Rattle.tracks.specs.Map.{Given}
 use Rattle.tracks.proofs.Held.{shows-give}
 use Rattle.label_check.specs.Marks.{units}
@@ -14,7 +14,8 @@ use Rattle.fields.specs.Records.{slotBytes}
 use Rattle.label_check.specs.Label.{namedThird}
 use Rattle.set_change.specs.Change.{GaveTail, SetIn, Spreads, Stays, extentsIn}
 use Rattle.set_at.proofs.Laws.{Stored, stored}
-use Rattle.giving.specs.Giving.{At, FreedSlot, Measures}
+use Rattle.giving.specs.declared.Measured.{Measured}
+use Rattle.giving.specs.Giving.{At, FreedSlot, Measures, measuredExtents}
 
 -- ---- slots
 
@@ -56,8 +57,10 @@ module _ (g : Geometry) (t m s : List ℕ) (k : ℕ) (d : At g t m s k) where
     pub set-of : SetIn g f1 f3 count
     set-of = set-looked g t k third count f1 f3 e1 e3 (stored-at .set)
 
-    pub measured : (all low : ℕ) → Spreads (tracks g) (extentsIn g f1 f3 count) all low → Measures g t k l count third all low
+    pub measured : (all low : ℕ) → Spreads (tracks g) (extentsIn g f1 f3 count) all low
+        → Measures g t k l (record { slot = k; slot3 = third; count = count; tracks = all; lowest = low })
     measured all low x = record {
+      slot = refl;
       stored = stored-at;
       spread = subst (λ (es : List Extent). Spreads (tracks g) es all low) (ap₂ (λ (a b : List ℕ). extentsIn g a b count) e1 e3 ∙ stored-at .extents) x;
     }
@@ -75,16 +78,17 @@ module _ (g : Geometry) (t m s : List ℕ) (k : ℕ) (d : At g t m s k) where
   third-small : l .slot3 < slots g
   third-small = let a = ap slots (d .geometryIs) in let b = d .it .records .inside3 in omega arith
 
-  pub third-inside : (count third all low : ℕ) → Measures g t k l count third all low → third < slots g
-  third-inside count third all low x = let a = third-small in let b = x .stored .slot3 in omega arith
+  pub slot3-inside : (x : Measured) → Measures g t k l x → x .slot3 < slots g
+  slot3-inside x y = let a = third-small in let b = y .stored .slot3 in omega arith
 
-  -- what `put_set` and `drop_set` ask of lengths and numbers
-  pub fits : length s ≡ 8 → tracks g ≤ 64 * length m → (count third all low : ℕ) → Measures g t k l count third all low
-      → (m′ s′ : List ℕ) → length m′ ≡ length m → length s′ ≡ length s
-      → Limits g × (length t ≡ 140 * slots g) × (tracks g ≤ 64 * length m′) × (length s′ ≡ 8) × (low ≤ tracks g) × (k < slots g) × (third < slots g)
-  fits e w count third all low x m′ s′ n o =
-      let a = ap slots (d .geometryIs) in
-      let b = d .ready .long in
-      let c = d .it .records .inside in
-      let f = d .it .slot in
-      (subst Limits (sym (d .geometryIs)) (d .ready .limits), omega arith, omega arith, o ∙ e, x .spread .lowIn, omega arith, third-inside count third all low x)
+-- ---- what is known of it, by its label
+
+module _ {g : Geometry} {t : List ℕ} {k : ℕ} {l : Label} {x : Measured} (y : Measures g t k l x) where
+  pub slot-inside : k < slots g → x .slot < slots g
+  slot-inside u = let e = y .slot in omega arith
+
+  pub tail-is : (keep : ℕ) {m m′ : List ℕ} → GaveTail keep (measuredExtents g t x) m m′ → GaveTail keep (l .extents) m m′
+  tail-is keep {m} {m′} h = subst (λ (es : List Extent). GaveTail keep es m m′) (y .stored .extents) h
+
+  pub stays-is : (keep n whole start count : ℕ) → Stays keep (measuredExtents g t x) n whole start count → Stays keep (l .extents) n whole start count
+  stays-is keep n whole start count h = subst (λ (es : List Extent). Stays keep es n whole start count) (y .stored .extents) h

@@ -3,13 +3,15 @@ use mathlib.Core.Path.{_≡_}
 use Prim.Native.Nat.{ℕ}
 use mathlib.Core.List.{List, _++_}
 use lib.ListN.{length}
-use Rattle.model.specs.Model.{Geometry, Label, Volume, oneSlot, tracks}
+use Rattle.giving.specs.declared.Measured.{Measured}
+use Rattle.model.specs.Model.{Extent, Geometry, Label, Volume, oneSlot, tracks}
 use Rattle.tracks.specs.Map.{Shows}
+use Rattle.fields.specs.Records.{slotBytes}
 use Rattle.label_check.specs.Marks.{units}
 use Rattle.table_check.specs.Check.{Shown}
 use Rattle.opening.proofs.Laws.{Ready}
 use Rattle.opening.proofs.Lookup.{FoundAt}
-use Rattle.set_change.specs.Change.{Spreads}
+use Rattle.set_change.specs.Change.{Spreads, extentsIn}
 use Rattle.set_at.proofs.Laws.{Stored}
 
 -- slot k of the table t has the data set of this name; the maps m and s show what the volume holds
@@ -21,10 +23,15 @@ pub record At (g : Geometry) (t m s : List ℕ) (k : ℕ) : Type 0 where
   pub shown : Shown volume m s
   pub it : FoundAt t volume name k
 
--- its label l in the records of the table t, its tracks and the lowest of them
-pub record Measures (g : Geometry) (t : List ℕ) (k : ℕ) (l : Label) (count third all low : ℕ) : Type 0 where
-  pub stored : Stored g l t k count third
-  pub spread : Spreads (tracks g) (l .extents) all low
+-- x tells of that data set, whose label is l, in the records of the table t: its tracks and the lowest of them
+pub record Measures (g : Geometry) (t : List ℕ) (k : ℕ) (l : Label) (x : Measured) : Type 0 where
+  pub slot : x .slot ≡ k
+  pub stored : Stored g l t (x .slot) (x .count) (x .slot3)
+  pub spread : Spreads (tracks g) (l .extents) (x .tracks) (x .lowest)
+
+-- its extents, as the records have them
+abbrev pub measuredExtents : Geometry → List ℕ → Measured → List Extent
+measuredExtents g t x = extentsIn g (slotBytes t (x .slot)) (slotBytes t (x .slot3)) (x .count)
 
 -- slot k, 0 for none, has become free, however many slots the map is taken to show
 pub record FreedSlot (k : ℕ) (s s′ : List ℕ) : Type 0 where

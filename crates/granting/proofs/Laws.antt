@@ -1,32 +1,33 @@
--- A grant, ready to be committed, and what it leaves. Assumes nothing.
-use mathlib.Core.Path.{_≡_, refl, sym, ap, ap₂, _∙_, subst}
+-- A grant, planned and ready to be written. Assumes nothing.
+use mathlib.Core.Path.{_≡_, refl, sym, ap, _∙_, subst}
 use mathlib.Core.Bool.{Bool, true, false, cond}
-use mathlib.Core.Option.{Option}
+use mathlib.Core.Option.{none}
 use mathlib.Core.List.{List, [], _∷_, _++_, map}
 use Prim.Native.Nat.{ℕ, _+_, _≤_}
 use native.Mathlib.Omega.{arith}
 use lib.Dec.{leb, eqb, leb→le}
 use lib.ListN.{length, length-append, length-map}
+use Rattle.granting.specs.declared.Holder.{Holder}
+use Rattle.granting.specs.declared.Grantee.{Grantee}
 use Rattle.model.specs.Basics.{bit}
-use Rattle.model.specs.Model.{Extent, Geometry, Label, Run, Volume, covers, extent, held, oneSlot, overs, runsOf, slots, tally, times, total, tracks, used}
+use Rattle.model.specs.Model.{Extent, Geometry, Label, Run, Volume, covers, extent, held, oneSlot, overs, runsOf, slots, tally, times, tracks, used}
 use Rattle.model.proofs.Lists.{All, sum-append, true-is}
-use Rattle.rules.specs.Calls.{answer, granted, settled}
-use Rattle.rules.specs.Entries.{lent, result, written}
-use Rattle.rules.specs.Slots.{kept3, settleWith}
+use Rattle.rules.specs.Slots.{asks, kept3}
 use Rattle.rules.specs.Table.{fewExtents}
 use Rattle.rules.proofs.Settle.{used-tally}
 use Rattle.rules.proofs.Valid.{held-times, slots-tally}
 use Rattle.tracks.specs.Map.{Shows}
 use Rattle.tracks.proofs.Held.{Room, shows-same}
 use Rattle.label_check.specs.Marks.{units}
-use Rattle.grant.specs.Grant.{row}
 use Rattle.request.proofs.Laws.{pieces-room}
-use Rattle.set_change.specs.Change.{InRecords, NoneBelow, Piece, TookPieces}
+use Rattle.set_change.specs.Change.{InRecords, Piece}
 use Rattle.set_change.specs.Change.{granted as more}
 use Rattle.set_change.proofs.Laws.{pieces-good}
-use Rattle.commit.specs.Commit.{Becomes, Committed, Draft}
+use Rattle.commit.specs.declared.Plan.{Plan}
+use Rattle.commit.specs.Commit.{Draft, Leaves, Puts, drafted}
+use Rattle.commit.proofs.Put.{put-full}
 use Rattle.commit.proofs.Sets.{slots-shown}
-use Rattle.granting.specs.Granting.{Granted, Grants}
+use Rattle.granting.specs.Granting.{GrantPlans, GrantWrites, Grants, grown}
 
 -- the tracks of more extents
 times-more : (kind : ℕ) (es : List Extent) (ps : List Run) (t : ℕ) → times t (overs (es ++ map (extent kind) ps)) ≡ times t (overs es) + times t ps
@@ -39,10 +40,23 @@ third-kept : (b : Bool) (q k : ℕ) → (b ≡ true → q ≡ 0) → tally k (on
 third-kept true q k h = rw (h refl)
 third-kept false q k h = refl
 
-module _ {g : Geometry} {t m s : List ℕ} {slot third n kind : ℕ} {one three : List ℕ} {rows : List (List ℕ)} {count sum : ℕ}
-    (d : Grants g t m s slot third n kind one three rows count sum) where
+-- what the label asks for, few or not
+pub asked-is : (h : Holder) (asked : ℕ) (few : Bool) → few ≡ leb (h .extents + h .count) 3 → asked ≡ asks (h .slot) + cond few 0 (asks (h .slot3))
+    → asked ≡ asks (h .slot) + cond (leb (h .extents + h .count) 3) 0 (asks (h .slot3))
+asked-is h asked few f e = e ∙ ap (λ (b : Bool). asks (h .slot) + cond b 0 (asks (h .slot3))) f
+
+module _ {g : Geometry} {t m s : List ℕ} {h : Holder} {rows : List (List ℕ)} (d : Grants g t m s h rows) where
   abbrev v : Volume
   v = d .volume
+
+  abbrev n : ℕ
+  n = h .extents
+
+  abbrev count : ℕ
+  count = h .count
+
+  abbrev kind : ℕ
+  kind = h .«type_byte»
 
   abbrev L : Label
   L = more kind (d .pieces) (d .label)
@@ -105,16 +119,14 @@ module _ {g : Geometry} {t m s : List ℕ} {slot third n kind : ℕ} {one three 
       let f = slots-tally (L ∷ d .others) k in
       omega arith
 
-  -- ---- ready to be committed
+  -- ---- planned
 
-  module _ (m′ : List ℕ) (took : TookPieces rows m m′)
-      (few : Bool) (f : few ≡ leb (n + count) 3) (one′ three′ : List ℕ) (recs : InRecords g L one′ three′)
-      (lo : ℕ) (low : lo ≤ tracks g) (lows : (ps : List Run) → rows ≡ map row ps → NoneBelow lo ps) where
+  module _ {m′ s′ c : List ℕ} {p : Plan} (x : GrantPlans g t m m′ s s′ c h rows p) where
     all-shown : Shows m′ (tracks g) (d .pieces ++ held g (v .labels))
-    all-shown = took .held (tracks g) (d .pieces) (d .rowsAre) below room (held g (v .labels)) tracks-shown
+    all-shown = x .took .held (tracks g) (d .pieces) (d .rowsAre) below room (held g (v .labels)) tracks-shown
 
-    pub draft : Draft g t m′ s lo slot third few one′ three′
-    draft =
+    pub draft : (few : Bool) → few ≡ leb (n + count) 3 → Draft g t m′ s (x .lo) (h .slot) (h .slot3) few
+    draft few f =
         record {
           volume = v;
           others = d .others;
@@ -122,40 +134,56 @@ module _ {g : Geometry} {t m s : List ℕ} {slot third n kind : ℕ} {one three 
           ready = d .ready;
           geometryIs = d .geometryIs;
           slotIs = d .slotIs;
-          thirdIs = d .thirdIs;
+          slot3Is = d .slot3Is;
           fewIs = f ∙ ap (λ (k : ℕ). leb k 3) (sym length-more);
           shownTracks =
               shows-same m′ (tracks g) (d .pieces ++ held g (v .labels)) (held g (kept3 L ∷ d .others)) (λ k u. held-more k) all-shown;
+          lowIn = x .lowIn;
           below = λ k u.
-              let a = all-shown k (omega arith) in
-              let b = lows (d .pieces) (d .rowsAre) k u in
+              let a = all-shown k (omega (arith, x .lowIn)) in
+              let b = x .lowest (d .pieces) (d .rowsAre) k u in
               let e = sum-append (λ r. bit (covers r k)) (d .pieces) (held g (v .labels)) in
               omega arith;
           shownSlots =
               slots-shown s (slots g) (used (v .labels) (v .chain)) (used (kept3 L ∷ d .others) (v .chain)) (λ k u. used-more k)
               (subst (λ (y : Geometry). Shows s (slots y) (units (used (v .labels) (v .chain)))) (d .geometryIs) (d .shown .freeSlots));
-          written = recs .one;
-          writtenThird = λ _. recs .three;
           stays = d .stays;
           slotOnce = λ k. let a = same-used k in let b = d .ready .valid .slotOnce k in omega arith;
           slotIn = λ k u. same-used k ∙ d .ready .valid .slotIn k (let a = ap slots (d .geometryIs) in omega arith);
           valid = d .valid;
         }
 
-    -- ---- what is left
+    -- the VTOC is full
+    pub grant-full : p .fits ≡ false → grown d ≡ none
+    unfolding draft
+    grant-full e = put-full (draft (leb (n + count) 3) refl) (x .askedIs) (x .plan) e
 
-    module _ (t′ : List ℕ) (r : Bool) (committed : Committed draft t′ r) (a : List ℕ) where
-      b : Becomes (settleWith v (d .others) L) t t′ r
-      unfolding draft
-      b = committed
+-- ---- written
 
-      pub full : r ≡ false → Granted d a t′ a 11
-      full e =
-          ap (λ (x : List ℕ). result 11 (lent x a [])) (b .same e)
-          ∙ sym (ap (λ (o : Option Volume). written (lent t a []) (settled (granted (d .pieces)) o)) (b .full e))
+module _ {g : Geometry} {t m′ c : List ℕ} {p : Plan} {x : Grantee} {rows : List (List ℕ)} (d : GrantWrites g t m′ c p x rows) where
+  abbrev holder : Holder
+  holder = x .set
 
-      pub done : r ≡ true → (a′ : List ℕ) → ((ps : List Run) → length ps ≡ count → total ps ≡ sum → rows ≡ map row ps → a′ ≡ answer (granted ps)) → Granted d a t′ a′ 0
-      done e a′ put =
-          let w = b .done e in
-          ap₂ (λ (x y : List ℕ). result 0 (lent x y [])) (w .2) (put (d .pieces) (d .countIs) (d .sumIs) (d .rowsAre))
-          ∙ sym (ap (λ (o : Option Volume). written (lent t a []) (settled (granted (d .pieces)) o)) (w .1))
+  module _ (few : Bool) (f : few ≡ leb (holder .extents + holder .count) 3) (f1 f3 : List ℕ)
+      (recs : InRecords g (more (holder .«type_byte») (d .grants .pieces) (d .grants .label)) f1 f3) where
+    -- what `write_set` asks
+    pub puts : Puts g t m′ c p (record { slot = holder .slot; slot3 = holder .slot3; few = few; f1 = f1; f3 = f3 })
+    unfolding draft
+    puts =
+        record {
+          emptyBefore = d .emptyBefore;
+          emptyAfter = d .emptyAfter;
+          lo = d .plans .lo;
+          asked = d .plans .asked;
+          draft = draft (d .grants) (d .plans) few f;
+          askedIs = d .plans .askedIs ∙ ap (λ (b : Bool). asks (holder .slot) + cond b 0 (asks (holder .slot3))) (sym f);
+          plan = d .plans .plan;
+          fits = d .fits;
+          first = recs .one;
+          third = λ _. recs .three;
+        }
+
+    pub grant-done : (t′ : List ℕ) → ((y : Puts g t m′ c p (record { slot = holder .slot; slot3 = holder .slot3; few = few; f1 = f1; f3 = f3 })) → Leaves (drafted (y .draft)) t′)
+        → Leaves (grown (d .grants)) t′
+    unfolding draft puts
+    grant-done t′ y = y puts

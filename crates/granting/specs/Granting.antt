@@ -1,26 +1,29 @@
--- A data set that is granted pieces, ready to be written, and what is written. Assumes nothing.
+-- A data set that is granted pieces: planned, and ready to be written. Assumes nothing.
 use mathlib.Core.Path.{_≡_}
-use Prim.Native.Nat.{ℕ, _≤_}
-use mathlib.Core.Option.{some}
-use mathlib.Core.List.{List, [], _∷_, _++_, map}
+use Prim.Native.Nat.{ℕ, _+_, _≤_}
+use mathlib.Core.Bool.{true, cond}
+use mathlib.Core.Option.{Option, some}
+use mathlib.Core.List.{List, _∷_, _++_, map}
+use lib.Dec.{leb}
 use lib.ListN.{length}
-use Rattle.model.specs.Model.{Geometry, Label, Run, Volume, held, runsOf, slotsOf, tally, times, total, used}
-use Rattle.rules.specs.Calls.{granted, settled}
-use Rattle.rules.specs.Entries.{lent, result, written}
-use Rattle.rules.specs.Slots.{settleWith}
+use Rattle.granting.specs.declared.Holder.{Holder}
+use Rattle.granting.specs.declared.Grantee.{Grantee}
+use Rattle.model.specs.Model.{Geometry, Label, Run, Volume, held, runsOf, slotsOf, tally, times, tracks, used}
+use Rattle.rules.specs.Slots.{asks, settleWith}
 use Rattle.rules.proofs.Valid.{Valid}
 use Rattle.grant.specs.Grant.{row}
 use Rattle.request.proofs.Laws.{Good}
-use Rattle.set_change.specs.Change.{InRecords}
+use Rattle.set_change.specs.Change.{InRecords, NoneBelow, TookPieces}
 use Rattle.set_change.specs.Change.{granted as more}
 use Rattle.table_check.specs.Check.{Shown}
 use Rattle.opening.proofs.Laws.{Ready}
 use Rattle.change.proofs.Begin.{Alike}
+use Rattle.commit.specs.declared.Plan.{Plan}
+use Rattle.commit.specs.Commit.{Plans}
 
--- Beside the labels `others` of the volume that table t holds stands `label`, new or found, in the slots `slot` and `third`,
--- 0 for none, with n extents in the records `one` and `three`. It is to have the pieces too: `count` of them, in `rows`, with
--- `sum` tracks, of the type `kind`. The maps m and s show what the volume holds without them.
-pub record Grants (g : Geometry) (t m s : List ℕ) (slot third n kind : ℕ) (one three : List ℕ) (rows : List (List ℕ)) (count sum : ℕ) : Type 0 where
+-- Beside the labels `others` of the volume that table t holds stands `label`, new or found, in the slots of h, with as many
+-- extents. It is to have the pieces too, which stand in `rows`. The maps m and s show what the volume holds without them.
+pub record Grants (g : Geometry) (t m s : List ℕ) (h : Holder) (rows : List (List ℕ)) : Type 0 where
   pub volume : Volume
   pub others : List Label
   pub label : Label
@@ -28,23 +31,38 @@ pub record Grants (g : Geometry) (t m s : List ℕ) (slot third n kind : ℕ) (o
   pub ready : Ready t volume
   pub geometryIs : volume .geometry ≡ g
   pub shown : Shown volume m s
-  pub slotIs : slot ≡ label .slot
-  pub thirdIs : third ≡ label .slot3
-  pub extentsAre : length (label .extents) ≡ n
+  pub slotIs : h .slot ≡ label .slot
+  pub slot3Is : h .slot3 ≡ label .slot3
+  pub extentsAre : length (label .extents) ≡ h .extents
   pub few : length (label .extents) ≤ 3 → label .slot3 ≡ 0
-  pub records : InRecords g label one three
   pub good : Good volume pieces
   pub rowsAre : rows ≡ map row pieces
-  pub countIs : length pieces ≡ count
-  pub sumIs : total pieces ≡ sum
+  pub countIs : length pieces ≡ h .count
   pub heldApart : (k : ℕ) → times k (held g (volume .labels)) ≡ times k (runsOf label ++ held g others)
   pub usedSame : (k : ℕ) → tally k (used (label ∷ others) (volume .chain)) ≡ tally k (used (volume .labels) (volume .chain))
   pub stays : (k : ℕ) → 1 ≤ k → tally k (slotsOf label) ≡ 0 → Alike k (volume .labels) others
-  pub valid : (w : Volume) → settleWith volume others (more kind pieces label) ≡ some w → Valid w
+  pub valid : (w : Volume) → settleWith volume others (more (h .«type_byte») pieces label) ≡ some w → Valid w
 
--- the result, the table and the answer are those of the grant; a is the answer before
-abbrev pub Granted : {g : Geometry} {t m s : List ℕ} {slot third n kind : ℕ} {one three : List ℕ} {rows : List (List ℕ)} {count sum : ℕ}
-    → Grants g t m s slot third n kind one three rows count sum → (a t′ a′ : List ℕ) → ℕ → Type 0
-Granted {t = t} {kind = kind} d a t′ a′ r =
-    result r (lent t′ a′ [])
-    ≡ written (lent t a []) (settled (granted (d .pieces)) (settleWith (d .volume) (d .others) (more kind (d .pieces) (d .label))))
+-- what the volume becomes
+abbrev pub grown : {g : Geometry} {t m s : List ℕ} {h : Holder} {rows : List (List ℕ)} → Grants g t m s h rows → Option Volume
+grown {h = h} d = settleWith (d .volume) (d .others) (more (h .«type_byte») (d .pieces) (d .label))
+
+-- the pieces have left the map m, which is m′ then, and the slots are planned
+pub record GrantPlans (g : Geometry) (t m m′ s s′ c : List ℕ) (h : Holder) (rows : List (List ℕ)) (p : Plan) : Type 0 where
+  pub lo : ℕ
+  pub asked : ℕ
+  pub lowIn : lo ≤ tracks g
+  pub lowest : (ps : List Run) → rows ≡ map row ps → NoneBelow lo ps
+  pub took : TookPieces rows m m′
+  pub askedIs : asked ≡ asks (h .slot) + cond (leb (h .extents + h .count) 3) 0 (asks (h .slot3))
+  pub plan : Plans g t m′ s s′ c lo asked p
+
+-- a grant that is planned, the plan fits, and the records are those of the label without the pieces
+pub record GrantWrites (g : Geometry) (t m′ c : List ℕ) (p : Plan) (x : Grantee) (rows : List (List ℕ)) : Type 0 where
+  pub mapBefore : List ℕ
+  pub emptyBefore : List ℕ
+  pub emptyAfter : List ℕ
+  pub grants : Grants g t mapBefore emptyBefore (x .set) rows
+  pub plans : GrantPlans g t mapBefore m′ emptyBefore emptyAfter c (x .set) rows p
+  pub fits : p .fits ≡ true
+  pub records : InRecords g (grants .label) (x .f1) (x .f3)

@@ -1,7 +1,8 @@
-// What allocate and extend do once the pieces are chosen: the pieces leave the map, the data set's records get them, and the
-// table and the answer are written. Nothing is written where the VTOC is full.
+// What allocate and extend do once the pieces are chosen: the pieces leave the map and the slots are planned; where they fit, the
+// data set's records get the pieces and the table is written.
+use commit::DataSet;
+use commit::Plan;
 use forms::Geometry;
-use grant::Chosen;
 ghost use mathlib.Core.Path.{_≡_};
 ghost use Prim.Native.Nat.{_+_, _*_, _≤_, _<_};
 ghost use lib.Dec.{leb};
@@ -9,13 +10,24 @@ ghost use lib.ListN.{length, take};
 ghost use Rattle.model.specs.Model.{slots, tracks};
 ghost use Rattle.rules.proofs.Valid.{Limits};
 ghost use Rattle.forms.specs.Forms.{geometryOf};
-ghost use Rattle.granting.specs.Granting.{Granted, Grants};
+ghost use Rattle.commit.specs.Commit.{Leaves};
+ghost use Rattle.granting.specs.Granting.{GrantPlans, GrantWrites, Grants, grown};
 
-// A data set that is granted pieces: the slots of its format 1 and its format 3, 0 for none, and how many extents it has.
+// A data set that is granted pieces: the slots of its format 1 and its format 3, 0 for none, how many extents it has, how many
+// pieces it gets, and of which type.
 pub struct Holder {
     pub slot: usize,
-    pub third: usize,
+    pub slot3: usize,
     pub extents: usize,
+    pub count: usize,
+    pub type_byte: u8,
+}
+
+// The same with its records, which have no piece yet.
+pub struct Grantee {
+    pub set: Holder,
+    pub f1: [u8; 140],
+    pub f3: [u8; 140],
 }
 
 // Whether n extents and `count` more need no format 3.
@@ -26,42 +38,59 @@ fn few(n: usize, count: usize) -> bool
     n + count <= 3
 }
 
-// Grants the chosen pieces, of the type `kind`, to a data set. 0, or 11 for a full VTOC.
-pub fn put_grant(
+// Takes the pieces out of the map of tracks and plans the slots.
+pub fn plan_grant(
+    table: &[u8],
+    g: Geometry,
+    free_tracks: &mut [u64],
+    free_slots: &mut [u64],
+    chain: &mut [u16],
+    set: Holder,
+    pieces: [[u16; 2]; 5],
+) -> Plan
+    requires { ⌜ Limits (geometryOf g) × (length (now table) ≡ 140 * slots (geometryOf g)) × (tracks (geometryOf g) ≤ 64 * length (now «free_tracks»)) × (length (now «free_slots») ≡ 8) × (length (now chain) ≡ 468) × (set .count ≤ 5) × (set .extents + set .count ≤ 16) ⌝ }
+    requires { ⌜ Grants (geometryOf g) (now table) (now «free_tracks») (now «free_slots») set (take (set .count) pieces) ⌝ }
+    ensures { λ r. ⌜ GrantPlans (geometryOf g) (now (table .entry)) (now («free_tracks» .entry)) (now («free_tracks» .exit)) (now («free_slots» .entry)) (now («free_slots» .exit)) (now (chain .exit)) set (take (set .count) pieces) r ⌝ }
+{
+    let lo = set_change::lowest_piece(pieces, set.count, g.cylinders * g.heads);
+    set_change::take_pieces(free_tracks, pieces, set.count);
+    let small = few(set.extents, set.count);
+    let asked = commit::asked_for(set.slot, set.slot3, small);
+    commit::plan_slots(table, g, free_tracks, free_slots, chain, asked, lo as usize)
+}
+
+// Puts the pieces into the records and writes the table.
+pub fn write_grant(
     table: &mut [u8],
     g: Geometry,
-    map: &mut [u64],
-    empty: &mut [u64],
-    set: Holder,
-    one: &mut [u8; 140],
-    three: &mut [u8; 140],
-    kind: u8,
+    free_tracks: &[u64],
+    chain: &[u16],
+    plan: Plan,
+    to: Grantee,
     pieces: [[u16; 2]; 5],
-    chosen: Chosen,
-    answer: &mut [u8],
-) -> u32
-    requires { ⌜ Limits (geometryOf g) × (length (now table) ≡ 140 * slots (geometryOf g)) × (tracks (geometryOf g) ≤ 64 * length (now map)) × (length (now empty) ≡ 8) × (length (now answer) ≡ 24) × (set .slot < slots (geometryOf g)) × (set .third < slots (geometryOf g)) × (chosen .count ≤ 5) × (set .extents + chosen .count ≤ 16) × (chosen .tracks ≤ 65535) × (length (now one) ≡ 140) × (length (now three) ≡ 140) ⌝ }
-    requires { ⌜ Grants (geometryOf g) (now table) (now map) (now empty) (set .slot) (set .third) (set .extents) kind (now one) (now three) (take (chosen .count) pieces) (chosen .count) (chosen .tracks) ⌝ }
-    ensures { λ r. ⌜ ((d : Grants (geometryOf g) (now (table .entry)) (now (map .entry)) (now (empty .entry)) (set .slot) (set .third) (set .extents) kind (now (one .entry)) (now (three .entry)) (take (chosen .count) pieces) (chosen .count) (chosen .tracks)) → Granted d (now (answer .entry)) (now (table .exit)) (now (answer .exit)) r) ⌝ }
+)
+    requires { ⌜ Limits (geometryOf g) × (length (now table) ≡ 140 * slots (geometryOf g)) × (tracks (geometryOf g) ≤ 64 * length (now «free_tracks»)) × (to .set .slot < slots (geometryOf g)) × (to .set .slot3 < slots (geometryOf g)) × (to .set .count ≤ 5) × (to .set .extents + to .set .count ≤ 16) × (length (to .f1) ≡ 140) × (length (to .f3) ≡ 140) ⌝ }
+    requires { ⌜ GrantWrites (geometryOf g) (now table) (now «free_tracks») (now chain) plan to (take (to .set .count) pieces) ⌝ }
+    ensures { λ _. ⌜ ((d : GrantWrites (geometryOf g) (now (table .entry)) (now («free_tracks» .entry)) (now (chain .entry)) plan to (take (to .set .count) pieces)) → Leaves (grown (d .grants)) (now (table .exit))) ⌝ }
 {
-    let lo = set_change::lowest_piece(pieces, chosen.count, g.cylinders * g.heads);
-    set_change::take_pieces(map, pieces, chosen.count);
-    set_change::add_pieces(one, three, g, set.extents, kind, pieces, chosen.count);
-    let small = few(set.extents, chosen.count);
-    if commit::put_set(
-        table,
+    let holder = to.set;
+    let mut f1 = to.f1;
+    let mut f3 = to.f3;
+    set_change::add_pieces(
+        &mut f1,
+        &mut f3,
         g,
-        map,
-        empty,
-        lo as usize,
-        set.slot,
-        set.third,
-        small,
-        one,
-        three,
-    ) {} else {
-        return 11;
-    }
-    answers::put_granted(answer, pieces, chosen.count, chosen.tracks);
-    0
+        holder.extents,
+        holder.type_byte,
+        pieces,
+        holder.count,
+    );
+    let set = DataSet {
+        slot: holder.slot,
+        slot3: holder.slot3,
+        few: few(holder.extents, holder.count),
+        f1,
+        f3,
+    };
+    commit::write_set(table, g, free_tracks, chain, plan, set);
 }

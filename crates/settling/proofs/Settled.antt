@@ -1,5 +1,5 @@
 -- The change settled: what is refused and what is given is what the definition says. Assumes nothing.
-use mathlib.Core.Path.{_≡_, refl, sym, ap, _∙_, subst}
+use mathlib.Core.Path.{_≡_, refl, sym, ap, ap₂, _∙_, subst}
 use mathlib.Core.Bool.{true, false}
 use mathlib.Core.Option.{none, some}
 use mathlib.Core.List.{List, [], _∷_, _++_, append-assoc}
@@ -82,7 +82,7 @@ module _ (g : Geometry) (s c d : List ℕ) (was need asked : ℕ) (long : was �
         let b = slots-balance s (slots g) draft (take was c) low h in
         subst (λ (ks : List ℕ). length (unused (slots g) (used draft ks)) < asked + (need - length ks)) (sym all-kept) (omega arith)
 
-  pub settled-over : slots g < need → Settles g s s c c d d was need asked false
+  pub settled-over : slots g < need → Settles g s s c c d d was need asked 0 false
   settled-over over =
       record {
         longMap = refl;
@@ -95,6 +95,8 @@ module _ (g : Geometry) (s c d : List ℕ) (was need asked : ℕ) (long : was �
         shown = λ e. clash {b = false} e refl;
         inside = λ e. clash {b = false} e refl;
         insideGiven = λ e. clash {b = false} e refl;
+        leftMost = omega arith;
+        leftIs = λ e. clash {b = false} e refl;
       }
 
   -- ---- the chain's end given back
@@ -122,7 +124,7 @@ module _ (g : Geometry) (s c d : List ℕ) (was need asked : ℕ) (long : was �
       count = count-law s₁ (slots g) (used draft kept) kept-shown
 
     -- too few
-    pub settled-full : total (freeFrom s₁ (slots g) 0) < asked + (need - was) → Settles g s s₁ c c d d was need asked false
+    pub settled-full : total (freeFrom s₁ (slots g) 0) < asked + (need - was) → Settles g s s₁ c c d d was need asked 0 false
     settled-full few =
         record {
           longMap = back .long;
@@ -135,11 +137,13 @@ module _ (g : Geometry) (s c d : List ℕ) (was need asked : ℕ) (long : was �
           shown = λ e. clash {b = false} e refl;
           inside = λ e. clash {b = false} e refl;
           insideGiven = λ e. clash {b = false} e refl;
+          leftMost = omega arith;
+          leftIs = λ e. clash {b = false} e refl;
         }
 
     -- enough: the slots asked for, and then those of the chain
     module _ (s₂ s₃ c′ d′ : List ℕ) (y : Filled (slots g) s₁ s₂ d d′ 0 asked) (z : Filled (slots g) s₂ s₃ c c′ was need) (room : need ≤ length c) (places : asked ≤ length d)
-        (most : need ≤ slots g) (enough : asked + (need - was) ≤ total (freeFrom s₁ (slots g) 0)) where
+        (most : need ≤ slots g) (enough : asked + (need - was) ≤ total (freeFrom s₁ (slots g) 0)) (few : total (freeFrom s₁ (slots g) 0) ≤ slots g) where
       abbrev asks : List ℕ
       asks = take asked d′
 
@@ -204,7 +208,19 @@ module _ (g : Geometry) (s c d : List ℕ) (was need asked : ℕ) (long : was �
             (All-append (λ k. k < slots g) kept adds (All-take (λ k. k < slots g) need (take was c) low)
             (All-left (λ k. k < slots g) adds rest (All-right (λ k. k < slots g) asks (adds ++ rest) new-inside)))
 
-      pub settled-yes : Settles g s s₃ c c′ d d′ was need asked true
+        -- those that are neither asked for nor added
+        rest-left : total (freeFrom s₁ (slots g) 0) - (asked + (need - was)) ≡ total (freeFrom s₃ (slots g) 0)
+        rest-left =
+            let a = count-law s₃ (slots g) ((asks ++ adds) ++ used draft kept) (both .shown (used draft kept) (kept-shown draft h) fits) in
+            let b = count draft h in
+            let e = ap length split in
+            let f = length-append asks (adds ++ rest) in
+            let i = length-append adds rest in
+            let j = asks-long in
+            let k = adds-long in
+            omega arith
+
+      pub settled-yes : Settles g s s₃ c c′ d d′ was need asked (total (freeFrom s₁ (slots g) 0) - (asked + (need - was))) true
       settled-yes =
           record {
             longMap = both .long ∙ back .long;
@@ -217,6 +233,8 @@ module _ (g : Geometry) (s c d : List ℕ) (was need asked : ℕ) (long : was �
             shown = λ e. all-shown;
             inside = λ e. all-inside;
             insideGiven = λ e draft h. All-left (λ k. k < slots g) asks (adds ++ rest draft h) (new-inside draft h);
+            leftMost = omega arith;
+            leftIs = λ e. rest-left;
           }
 
 -- ---- the same for any geometry of n slots: the returns of `settle`
@@ -228,19 +246,22 @@ module _ (n : ℕ) (s c d : List ℕ) (was need asked : ℕ) (long : was ≤ len
   low-in : (g : Geometry) → slots g ≡ n → All (λ k. k < slots g) (take was c)
   low-in g e = subst (λ (m : ℕ). All (λ k. k < m) (take was c)) (sym e) low
 
-  pub over-in : n < need → SettlesIn n s s c c d d was need asked false
+  pub over-in : n < need → SettlesIn n s s c c d d was need asked 0 false
   over-in u g e = settled-over g s c d was need asked long (low-in g e) (omega arith)
 
   module _ (s₁ : List ℕ) (back : Gave s s₁ (slice need was c)) where
     count-in : (g : Geometry) → slots g ≡ n → total (freeFrom s₁ (slots g) 0) ≡ total (freeFrom s₁ n 0)
     count-in g e = ap (λ (m : ℕ). total (freeFrom s₁ m 0)) e
 
-    pub full-in : total (freeFrom s₁ n 0) < asked + (need - was) → SettlesIn n s s₁ c c d d was need asked false
+    pub full-in : total (freeFrom s₁ n 0) < asked + (need - was) → SettlesIn n s s₁ c c d d was need asked 0 false
     full-in u g e = settled-full g s c d was need asked long (low-in g e) s₁ back (let q = count-in g e in omega arith)
 
     pub yes-in : (s₂ s₃ c′ d′ : List ℕ) → Filled n s₁ s₂ d d′ 0 asked → Filled n s₂ s₃ c c′ was need → need ≤ length c → asked ≤ length d → need ≤ n
-        → asked + (need - was) ≤ total (freeFrom s₁ n 0) → SettlesIn n s s₃ c c′ d d′ was need asked true
-    yes-in s₂ s₃ c′ d′ y z room places most enough g e =
-        settled-yes g s c d was need asked long (low-in g e) s₁ back s₂ s₃ c′ d′
+        → (count more : ℕ) → count ≡ total (freeFrom s₁ n 0) → count ≤ n → more ≡ asked + (need - was) → more ≤ count
+        → SettlesIn n s s₃ c c′ d d′ was need asked (count - more) true
+    yes-in s₂ s₃ c′ d′ y z room places most count more ec few em enough g e =
+        let q = count-in g e in
+        subst (λ (left : ℕ). Settles g s s₃ c c′ d d′ was need asked left true) (ap₂ (λ (i j : ℕ). i - j) (q ∙ sym ec) (sym em))
+        (settled-yes g s c d was need asked long (low-in g e) s₁ back s₂ s₃ c′ d′
         (subst (λ (m : ℕ). Filled m s₁ s₂ d d′ 0 asked) (sym e) y) (subst (λ (m : ℕ). Filled m s₂ s₃ c c′ was need) (sym e) z)
-        room places (omega arith) (let q = count-in g e in omega arith)
+        room places (omega arith) (omega arith) (omega arith))

@@ -7,12 +7,12 @@ use mathlib.Core.Option.{some, none}
 use mathlib.Core.List.{List, _++_}
 use lib.ListN.{length, take}
 use lib.Seq.{slice}
-use Rattle.model.specs.Model.{Geometry, Label, Volume, fivesFor, free, slots, tally, unused, used}
+use Rattle.model.specs.Model.{Geometry, Label, Volume, fivesFor, free, slots, tally, total, unused, used}
 use Rattle.model.proofs.Lists.{All}
 use Rattle.rules.specs.Reading.{chop}
 use Rattle.rules.specs.Slots.{settle}
 use Rattle.sound.specs.Sound.{Sound}
-use Rattle.tracks.specs.Map.{Shows, freeBit}
+use Rattle.tracks.specs.Map.{Shows, freeBit, freeFrom}
 use Rattle.label_check.specs.Marks.{units}
 
 -- ---- the map of free slots
@@ -48,8 +48,8 @@ pub record Chained (g : Geometry) (t c c′ : List ℕ) (count : ℕ) : Type 0 w
 -- ---- settled
 
 -- The map s shows what `draft` and the chain, the first `was` of c, use. Where r is true the first `asked` of d′ are the slots
--- asked for and the first `need` of c′ the chain; where it is false there are too few slots.
-pub record Settles (g : Geometry) (s s′ c c′ d d′ : List ℕ) (was need asked : ℕ) (r : Bool) : Type 0 where
+-- asked for and the first `need` of c′ the chain, and `left` slots are free; where it is false there are too few slots.
+pub record Settles (g : Geometry) (s s′ c c′ d d′ : List ℕ) (was need asked left : ℕ) (r : Bool) : Type 0 where
   pub longMap : length s′ ≡ length s
   pub longChain : length c′ ≡ length c
   pub longGiven : length d′ ≡ length d
@@ -63,7 +63,9 @@ pub record Settles (g : Geometry) (s s′ c c′ d d′ : List ℕ) (was need as
       → (k : ℕ) → k < slots g → freeBit s′ k + (tally k (used draft (take need c′)) + tally k (take asked d′)) ≡ 1
   pub inside : r ≡ true → (draft : List Label) → Shows s (slots g) (units (used draft (take was c))) → All (λ k. k < slots g) (take need c′)
   pub insideGiven : r ≡ true → (draft : List Label) → Shows s (slots g) (units (used draft (take was c))) → All (λ k. k < slots g) (take asked d′)
+  pub leftMost : left ≤ slots g
+  pub leftIs : r ≡ true → (draft : List Label) → Shows s (slots g) (units (used draft (take was c))) → left ≡ total (freeFrom s′ (slots g) 0)
 
 -- for any geometry of n slots
-abbrev pub SettlesIn : ℕ → (s s′ c c′ d d′ : List ℕ) → (was need asked : ℕ) → Bool → Type 0
-SettlesIn n s s′ c c′ d d′ was need asked r = (g : Geometry) → slots g ≡ n → Settles g s s′ c c′ d d′ was need asked r
+abbrev pub SettlesIn : ℕ → (s s′ c c′ d d′ : List ℕ) → (was need asked left : ℕ) → Bool → Type 0
+SettlesIn n s s′ c c′ d d′ was need asked left r = (g : Geometry) → slots g ≡ n → Settles g s s′ c c′ d d′ was need asked left r

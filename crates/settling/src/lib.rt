@@ -123,8 +123,14 @@ fn longer(was: usize, need: usize) -> usize
     need - was
 }
 
+// Whether a change has the slots that it needs, and how many are free then.
+pub struct Outcome {
+    pub fits: bool,
+    pub left: usize,
+}
+
 // Makes the chain of `was` slots one of `need`, and fills `given` with the `asked` slots that labels take, which come first.
-// False: VTOC full. More format 5s than slots are refused at once, since `chain` need not have room for them.
+// More format 5s than slots are refused at once, since `chain` need not have room for them.
 pub fn settle(
     empty: &mut [u64],
     n: usize,
@@ -133,19 +139,29 @@ pub fn settle(
     need: usize,
     given: &mut [u16],
     asked: usize,
-) -> bool
+) -> Outcome
     requires { ⌜ (n ≤ 468) × (n ≤ 64 * length (now empty)) × (n ≤ length (now chain)) × (was ≤ length (now chain)) × (asked ≤ 2) × (length (now given) ≡ 2) × All (λ k. k < n) (take was (now chain)) ⌝ }
-    ensures { λ r. ⌜ SettlesIn n (now (empty .entry)) (now (empty .exit)) (now (chain .entry)) (now (chain .exit)) (now (given .entry)) (now (given .exit)) was need asked r ⌝ }
+    ensures { λ r. ⌜ SettlesIn n (now (empty .entry)) (now (empty .exit)) (now (chain .entry)) (now (chain .exit)) (now (given .entry)) (now (given .exit)) was need asked (r .left) (r .fits) ⌝ }
 {
     if need > n {
-        return false;
+        return Outcome {
+            fits: false,
+            left: 0,
+        };
     }
     give_slots(empty, chain, need, was);
     let more = asked + longer(was, need);
-    if more > count_free(empty, n) {
-        return false;
+    let count = count_free(empty, n);
+    if more > count {
+        return Outcome {
+            fits: false,
+            left: 0,
+        };
     }
     take_slots(empty, n, given, 0, asked);
     take_slots(empty, n, chain, was, need);
-    true
+    Outcome {
+        fits: true,
+        left: count - more,
+    }
 }

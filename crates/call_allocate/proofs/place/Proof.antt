@@ -1,11 +1,15 @@
+use Rattle.call_allocate.proofs.NewSet.{asks, count-most, full, grants, limits, lists, long, map-fits, no-space, put, secondary-fits, sum-most, writes}
 use native.Mathlib.Omega.{arith}
-use Rattle.call_allocate.proofs.NewSet.{asks, count-most, grants, limits, lists, long, no-space, put, secondary-fits, sum-most}
+use mathlib.Core.Path.{refl}
 use borrow.Author.Needs.{needs}
 use Rattle.call_allocate.proofs.place.Statement.{statement}
 use Rattle.call_allocate.proofs.place.Tie as tie
 use Rattle.call_allocate.proofs.place.Reads as reads
 use Rattle.call_allocate.proofs.place.Lts as lts
-use Rattle.granting.proofs.put_grant.Reads as put-grant-reads
+use Rattle.answers.proofs.put_granted.Reads as put-granted-reads
+use Rattle.grant.proofs.count_pieces.Reads as count-pieces-reads
+use Rattle.granting.proofs.plan_grant.Reads as plan-grant-reads
+use Rattle.granting.proofs.write_grant.Reads as write-grant-reads
 use Rattle.labels.proofs.empty_three.Reads as empty-three-reads
 use Rattle.labels.proofs.new_label.Reads as new-label-reads
 use Rattle.request.proofs.fulfil.Reads as fulfil-reads
@@ -28,30 +32,28 @@ same-length-2 c = search needs
 
 returns : tie.Need-returns
 returns c =
-    let at-fulfil = c .before .before .before in
+    let at-if1 = c in
+    let at-count-pieces = at-if1 .before .before in
+    let at-fulfil = at-count-pieces .before in
     let top = at-fulfil .before .before .before .before .before .before .before .before .before in
-    no-space (top .pre) _ (at-fulfil .fulfil .ensures) _ _ (c .before .before .count-pieces .ensures) (c .if1 .taken)
-
-unit-byte-requires : tie.Need-unit-byte-requires
-unit-byte-requires c κs = search needs
+    no-space (top .pre) _ (at-fulfil .fulfil .ensures) _ _ (at-count-pieces .count-pieces .ensures) (at-if1 .if1 .taken)
 
 type-byte-requires : tie.Need-type-byte-requires
 type-byte-requires c κs = search needs
 
-new-label-requires : tie.Need-new-label-requires
-new-label-requires c κs =
-    let top = c .before .before .before .before .before .before .before .before .before .before .before .before .before .before in
-    (top .pre .longName, top .pre .longAttributes, secondary-fits (top .pre))
+slice-aggregate-plan-grant : tie.Need-slice-aggregate-plan-grant
+slice-aggregate-plan-grant c = search needs
 
-empty-three-requires : tie.Need-empty-three-requires
-empty-three-requires c κs = search needs
-
-put-grant-requires : tie.Need-put-grant-requires
-put-grant-requires c κs =
-    let least = limits (c .before .before .before .before .before .before .before .before .before .before .before .before .before .before .before .before .before .before .before .before .before .before .pre) .least in
-    let most = count-most (c .before .before .before .before .before .before .before .before .before .before .before .before .before .before .before .before .before .before .before .before .before .before .pre) _ (c .before .before .before .before .before .before .before .before .before .before .before .before .before .fulfil .ensures) _ _ (c .before .before .before .before .before .before .before .before .before .before .before .before .count-pieces .ensures) (c .before .before .before .before .before .before .before .before .before .before .if1 .left) in (
-      (limits (c .before .before .before .before .before .before .before .before .before .before .before .before .before .before .before .before .before .before .before .before .before .before .pre), long (c .before .before .before .before .before .before .before .before .before .before .before .before .before .before .before .before .before .before .before .before .before .before .pre), c .before .before .before .before .before .before .before .before .before .before .before .before .before .before .before .before .before .before .before .before .before .before .pre .mapFits, c .before .before .before .before .before .before .before .before .before .before .before .before .before .before .before .before .before .before .before .before .before .before .pre .longSlots, c .before .before .before .before .before .before .before .before .before .before .before .before .before .before .before .before .before .before .before .before .before .before .pre .longAnswer, omega arith, omega arith, most, omega arith, sum-most (c .before .before .before .before .before .before .before .before .before .before .before .before .before .before .before .before .before .before .before .before .before .before .pre) _ (c .before .before .before .before .before .before .before .before .before .before .before .before .before .fulfil .ensures) _ _ (c .before .before .before .before .before .before .before .before .before .before .before .before .count-pieces .ensures) (c .before .before .before .before .before .before .before .before .before .before .if1 .left), search needs, search needs),
-      grants (c .before .before .before .before .before .before .before .before .before .before .before .before .before .before .before .before .before .before .before .before .before .before .pre) _ (c .before .before .before .before .before .before .before .before .before .before .before .before .before .fulfil .ensures) _ _ (c .before .before .before .before .before .before .before .before .before .before .before .before .count-pieces .ensures) (c .before .before .before .before .before .before .before .before .before .before .if1 .left) _ _ (c .before .before .before .before .before .before .before .before .before .unit-byte .ensures) (c .before .before .before .before .before .before .before .before .type-byte .ensures) _ _ (c .before .before .before .before .before .before .before .new-label .ensures) (c .before .before .before .before .before .before .empty-three .ensures),
+plan-grant-requires : tie.Need-plan-grant-requires
+plan-grant-requires c κs =
+    let at-type-byte = c .before .before .before .before in
+    let at-if1 = at-type-byte .before in
+    let at-count-pieces = at-if1 .before .before in
+    let at-fulfil = at-count-pieces .before in
+    let top = at-fulfil .before .before .before .before .before .before .before .before .before in
+    let most = count-most (top .pre) _ (at-fulfil .fulfil .ensures) _ _ (at-count-pieces .count-pieces .ensures) (at-if1 .if1 .left) in (
+      (limits (top .pre), long (top .pre), top .pre .mapFits, top .pre .longSlots, refl, most, omega (arith, most)),
+      grants (top .pre) _ (at-fulfil .fulfil .ensures) _ _ (at-count-pieces .count-pieces .ensures) (at-if1 .if1 .left) _ (at-type-byte .type-byte .ensures),
     )
 
 same-length-3 : tie.Need-same-length-3
@@ -63,22 +65,74 @@ same-length-4 c = search needs
 same-length-5 : tie.Need-same-length-5
 same-length-5 c = search needs
 
-same-length-6 : tie.Need-same-length-6
-same-length-6 c = search needs
-
 returns-2 : tie.Need-returns-2
 returns-2 c =
-    let at-put-grant = c .before .before .before .before .before .before .before .before in
-    let at-empty-three = at-put-grant .before .before .before .before .before .before .before in
-    let at-new-label = at-empty-three .before in
-    let at-type-byte = at-new-label .before in
-    let at-unit-byte = at-type-byte .before in
-    let at-if1 = at-unit-byte .before in
+    let at-if2 = c in
+    let at-plan-grant = at-if2 .before .before .before .before .before .before in
+    let at-type-byte = at-plan-grant .before .before .before .before .before in
+    let at-if1 = at-type-byte .before in
     let at-count-pieces = at-if1 .before .before in
     let at-fulfil = at-count-pieces .before in
     let top = at-fulfil .before .before .before .before .before .before .before .before .before in
-    put (top .pre) _ (at-fulfil .fulfil .ensures) _ _ (at-count-pieces .count-pieces .ensures) (at-if1 .if1 .left) _ _ (at-unit-byte .unit-byte .ensures) (at-type-byte .type-byte .ensures) _ _ (at-new-label .new-label .ensures) (at-empty-three .empty-three .ensures) _ _ _
-    (at-put-grant .put-grant .ensures (grants (top .pre) _ (at-fulfil .fulfil .ensures) _ _ (at-count-pieces .count-pieces .ensures) (at-if1 .if1 .left) _ _ (at-unit-byte .unit-byte .ensures) (at-type-byte .type-byte .ensures) _ _ (at-new-label .new-label .ensures) (at-empty-three .empty-three .ensures)))
+    full (top .pre) _ (at-fulfil .fulfil .ensures) _ _ (at-count-pieces .count-pieces .ensures) (at-if1 .if1 .left) _ (at-type-byte .type-byte .ensures) (at-plan-grant .plan-grant .ensures) (at-if2 .if2 .left)
+
+unit-byte-requires : tie.Need-unit-byte-requires
+unit-byte-requires c κs = search needs
+
+new-label-requires : tie.Need-new-label-requires
+new-label-requires c κs =
+    let top = c .before .before .before .before .before .before .before .before .before .before .before .before .before .before .before .before .before .before .before .before .before .before .before .before .before in
+    (top .pre .longName, top .pre .longAttributes, secondary-fits (top .pre))
+
+empty-three-requires : tie.Need-empty-three-requires
+empty-three-requires c κs = search needs
+
+slice-aggregate-write-grant : tie.Need-slice-aggregate-write-grant
+slice-aggregate-write-grant c = search needs
+
+write-grant-requires : tie.Need-write-grant-requires
+write-grant-requires c κs = (
+  (let least = limits (c .before .before .before .before .before .before .before .before .before .before .before .before .before .before .before .before .before .before .before .before .before .before .before .before .before .before .before .before .before .before .pre) .least in
+      let most = count-most (c .before .before .before .before .before .before .before .before .before .before .before .before .before .before .before .before .before .before .before .before .before .before .before .before .before .before .before .before .before .before .pre) _ (c .before .before .before .before .before .before .before .before .before .before .before .before .before .before .before .before .before .before .before .before .before .fulfil .ensures) _ _ (c .before .before .before .before .before .before .before .before .before .before .before .before .before .before .before .before .before .before .before .before .count-pieces .ensures) (c .before .before .before .before .before .before .before .before .before .before .before .before .before .before .before .before .before .before .if1 .left) in
+      (limits (c .before .before .before .before .before .before .before .before .before .before .before .before .before .before .before .before .before .before .before .before .before .before .before .before .before .before .before .before .before .before .pre), long (c .before .before .before .before .before .before .before .before .before .before .before .before .before .before .before .before .before .before .before .before .before .before .before .before .before .before .before .before .before .before .pre), map-fits (c .before .before .before .before .before .before .before .before .before .before .before .before .before .before .before .before .before .before .before .before .before .before .before .before .before .before .before .before .before .before .pre) _ (c .before .before .before .before .before .before .before .before .before .before .before .before .plan-grant .ensures .took .long), omega (arith, least), omega (arith, least), most, omega (arith, most), search needs, search needs)),
+  writes (c .before .before .before .before .before .before .before .before .before .before .before .before .before .before .before .before .before .before .before .before .before .before .before .before .before .before .before .before .before .before .pre) _ (c .before .before .before .before .before .before .before .before .before .before .before .before .before .before .before .before .before .before .before .before .before .fulfil .ensures) _ _ (c .before .before .before .before .before .before .before .before .before .before .before .before .before .before .before .before .before .before .before .before .count-pieces .ensures) (c .before .before .before .before .before .before .before .before .before .before .before .before .before .before .before .before .before .before .if1 .left) _ (c .before .before .before .before .before .before .before .before .before .before .before .before .before .before .before .before .before .type-byte .ensures) (c .before .before .before .before .before .before .before .before .before .before .before .before .plan-grant .ensures) (c .before .before .before .before .before .before .if2 .taken) _ (c .before .before .before .before .before .unit-byte .ensures) _ _ (c .before .before .before .before .new-label .ensures) (c .before .before .before .empty-three .ensures),
+)
+
+put-granted-requires : tie.Need-put-granted-requires
+put-granted-requires c κs =
+    let at-if1 = c .before .before .before .before .before .before .before .before .before .before .before .before .before .before .before .before .before .before .before .before .before .before in
+    let at-count-pieces = at-if1 .before .before in
+    let at-fulfil = at-count-pieces .before in
+    let top = at-fulfil .before .before .before .before .before .before .before .before .before in
+    (top .pre .longAnswer, count-most (top .pre) _ (at-fulfil .fulfil .ensures) _ _ (at-count-pieces .count-pieces .ensures) (at-if1 .if1 .left), omega (arith, sum-most (top .pre) _ (at-fulfil .fulfil .ensures) _ _ (at-count-pieces .count-pieces .ensures) (at-if1 .if1 .left)))
+
+same-length-6 : tie.Need-same-length-6
+same-length-6 c = search needs
+
+same-length-7 : tie.Need-same-length-7
+same-length-7 c = search needs
+
+same-length-8 : tie.Need-same-length-8
+same-length-8 c = search needs
+
+same-length-9 : tie.Need-same-length-9
+same-length-9 c = search needs
+
+returns-3 : tie.Need-returns-3
+returns-3 c =
+    let at-put-granted = c .before .before in
+    let at-write-grant = at-put-granted .before .before .before .before in
+    let at-empty-three = at-write-grant .before .before .before .before in
+    let at-new-label = at-empty-three .before in
+    let at-unit-byte = at-new-label .before in
+    let at-if2 = at-unit-byte .before in
+    let at-plan-grant = at-if2 .before .before .before .before .before .before in
+    let at-type-byte = at-plan-grant .before .before .before .before .before in
+    let at-if1 = at-type-byte .before in
+    let at-count-pieces = at-if1 .before .before in
+    let at-fulfil = at-count-pieces .before in
+    let top = at-fulfil .before .before .before .before .before .before .before .before .before in
+    put (top .pre) _ (at-fulfil .fulfil .ensures) _ _ (at-count-pieces .count-pieces .ensures) (at-if1 .if1 .left) _ (at-type-byte .type-byte .ensures) (at-plan-grant .plan-grant .ensures) (at-if2 .if2 .taken) _ (at-unit-byte .unit-byte .ensures) _ _ (at-new-label .new-label .ensures) (at-empty-three .empty-three .ensures) _ _ (at-write-grant .write-grant .ensures) (at-put-granted .put-granted .ensures)
 
 pub place-spec : {M : Type 1} → statement M
 place-spec =
@@ -89,13 +143,21 @@ place-spec =
     same-length
     same-length-2
     returns
-    unit-byte-requires
     type-byte-requires
-    new-label-requires
-    empty-three-requires
-    put-grant-requires
+    slice-aggregate-plan-grant
+    plan-grant-requires
     same-length-3
     same-length-4
     same-length-5
+    returns-2
+    unit-byte-requires
+    new-label-requires
+    empty-three-requires
+    slice-aggregate-write-grant
+    write-grant-requires
+    put-granted-requires
     same-length-6
-    returns-2)
+    same-length-7
+    same-length-8
+    same-length-9
+    returns-3)

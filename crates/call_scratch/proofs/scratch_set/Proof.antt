@@ -1,47 +1,20 @@
-use mathlib.Core.Path.{_∙_}
+use Rattle.call_scratch.proofs.Laws.{drops, full, gone}
+use Rattle.giving.proofs.Laws.{set-small, slot-inside, slot3-inside}
 use native.Mathlib.Omega.{arith}
-use Rattle.giving.proofs.Laws.{fits, set-small, third-inside}
-use Rattle.call_scratch.proofs.Laws.{full, gone, left}
 use borrow.Author.Needs.{needs}
 use Rattle.call_scratch.proofs.scratch_set.Statement.{statement}
 use Rattle.call_scratch.proofs.scratch_set.Tie as tie
 use Rattle.call_scratch.proofs.scratch_set.Reads as reads
 use Rattle.call_scratch.proofs.scratch_set.Lts as lts
 use Rattle.answers.proofs.put_back.Reads as put-back-reads
-use Rattle.commit.proofs.drop_set.Reads as drop-set-reads
-use Rattle.giving.proofs.free_slot.Reads as free-slot-reads
-use Rattle.giving.proofs.give_back.Reads as give-back-reads
-use Rattle.giving.proofs.measure.Reads as measure-reads
+use Rattle.call_scratch.proofs.plan_scratch.Reads as plan-scratch-reads
+use Rattle.commit.proofs.write_drop.Reads as write-drop-reads
 
-measure-requires : tie.Need-measure-requires
-measure-requires c κs = search needs
+slice-aggregate-plan-scratch : tie.Need-slice-aggregate-plan-scratch
+slice-aggregate-plan-scratch c = search needs
 
-give-back-requires : tie.Need-give-back-requires
-give-back-requires c κs =
-    let top = c .before .before .before .before .before .before .before .before in
-    let x = c .before .before .measure .ensures _ _ (top .pre .1) in
-    ((top .pre .0 .1, top .pre .0 .4, third-inside _ _ _ _ _ (top .pre .1) _ _ _ _ x, top .pre .0 .2), x .stored .set)
-
-free-slot-requires : tie.Need-free-slot-requires
-free-slot-requires c κs = search needs
-
-free-slot-requires-2 : tie.Need-free-slot-requires-2
-free-slot-requires-2 c κs =
-    let top = c .before .before .before .before .before .before .before .before .before .before .before .before .before .before .before .before in
-    let a = third-inside _ _ _ _ _ (top .pre .1) _ _ _ _ (c .before .before .before .before .before .before .before .before .before .before .measure .ensures _ _ (top .pre .1)) in
-    let e = top .pre .0 .0 .most in
-    (c .before .before .before .free-slot .ensures .long ∙ top .pre .0 .3, omega arith)
-
-cast-drop-set : tie.Need-cast-drop-set
-cast-drop-set c = search needs
-
-drop-set-requires : tie.Need-drop-set-requires
-drop-set-requires c κs =
-    let top = c .before .before .before .before .before .before .before .before .before .before .before .before .before .before .before .before .before .before .before .before .before .before .before in
-    let x = c .before .before .before .before .before .before .before .before .before .before .before .before .before .before .before .before .before .measure .ensures _ _ (top .pre .1) in (
-      fits _ _ _ _ _ (top .pre .1) (top .pre .0 .3) (top .pre .0 .2) _ _ _ _ x (c .before .before .before .before .before .before .before .before .before .before .before .before .before .before .give-back .last .1 .1 .1 .1 .1 .0) (c .before .before .before .before .before .before .free-slot2 .last .0) (c .before .before .before .before .before .before .before .before .before .before .before .before .before .before .give-back .ensures .0 .long) (c .before .before .before .before .before .before .free-slot2 .ensures .long ∙ c .before .before .before .before .before .before .before .before .before .before .free-slot .ensures .long),
-      left _ _ _ _ _ (top .pre .1) _ _ _ _ x _ _ _ (c .before .before .before .before .before .before .before .before .before .before .before .before .before .before .give-back .ensures .0) (c .before .before .before .before .before .before .before .before .before .before .free-slot .ensures) (c .before .before .before .before .before .before .free-slot2 .ensures),
-    )
+plan-scratch-requires : tie.Need-plan-scratch-requires
+plan-scratch-requires c κs = search needs
 
 same-length : tie.Need-same-length
 same-length c = search needs
@@ -54,18 +27,30 @@ same-length-3 c = search needs
 
 returns : tie.Need-returns
 returns c =
-    let at-drop-set = c .before .before .before .before .before in
-    let at-free-slot2 = at-drop-set .before .before .before .before .before .before .before in
-    let at-free-slot = at-free-slot2 .before .before .before .before in
-    let at-give-back = at-free-slot .before .before .before .before in
-    let at-measure = at-give-back .before .before .before in
-    λ d. full _ _ _ _ _ d _ _ _ _ (at-measure .measure .ensures _ _ d) _ _ _ (at-give-back .give-back .ensures .0) (at-free-slot .free-slot .ensures) (at-free-slot2 .free-slot2 .ensures) _ _ _ (at-drop-set .drop-set .ensures) (c .if1 .left)
+    let at-if1 = c in
+    let at-plan-scratch = at-if1 .before .before .before .before .before .before .before .before in
+    λ d. full d (at-plan-scratch .plan-scratch .ensures d) _ (at-if1 .if1 .left)
+
+slice-aggregate-write-drop : tie.Need-slice-aggregate-write-drop
+slice-aggregate-write-drop c = search needs
+
+write-drop-requires : tie.Need-write-drop-requires
+write-drop-requires c κs =
+    let at-if1 = c .before .before .before in
+    let at-plan-scratch = at-if1 .before .before .before .before .before .before .before .before in
+    let top = at-plan-scratch .before .before .before .before .before .before .before .before .before in
+    let p = top .pre .0 in
+    let x = at-plan-scratch .plan-scratch .ensures (top .pre .1) in (
+      (p .0, p .1, omega (arith, p .2, x .tail .long), slot-inside (x .measured) (p .4), slot3-inside _ _ _ _ _ (top .pre .1) _ (x .measured)),
+      drops (top .pre .1) x (at-if1 .if1 .taken),
+    )
 
 put-back-requires : tie.Need-put-back-requires
 put-back-requires c κs =
-    let top = c .before .before .before .before .before .before .before .before .before .before .before .before .before .before .before .before .before .before .before .before .before .before .before .before .before .before .before .before .before .before in
+    let at-plan-scratch = c .before .before .before .before .before .before .before .before .before .before .before .before .before .before .before in
+    let top = at-plan-scratch .before .before .before .before .before .before .before .before .before in
     let a = set-small _ _ _ _ _ (top .pre .1) in
-    let b = c .before .before .before .before .before .before .before .before .before .before .before .before .before .before .before .before .before .before .before .before .before .before .before .before .measure .ensures _ _ (top .pre .1) .spread .sum in
+    let b = at-plan-scratch .plan-scratch .ensures (top .pre .1) .measured .spread .sum in
     (top .pre .0 .5, omega arith)
 
 same-length-4 : tie.Need-same-length-4
@@ -82,28 +67,24 @@ same-length-7 c = search needs
 
 returns-2 : tie.Need-returns-2
 returns-2 c =
-    let at-if1 = c .before .before .before .before in
-    let at-drop-set = at-if1 .before .before .before .before .before in
-    let at-free-slot2 = at-drop-set .before .before .before .before .before .before .before in
-    let at-free-slot = at-free-slot2 .before .before .before .before in
-    let at-give-back = at-free-slot .before .before .before .before in
-    let at-measure = at-give-back .before .before .before in
-    λ d. gone _ _ _ _ _ d _ _ _ _ (at-measure .measure .ensures _ _ d) _ _ _ (at-give-back .give-back .ensures .0) (at-free-slot .free-slot .ensures) (at-free-slot2 .free-slot2 .ensures) _ _ _ (at-drop-set .drop-set .ensures) (at-if1 .if1 .taken) _ (c .before .before .put-back .ensures)
+    let at-put-back = c .before .before in
+    let at-write-drop = at-put-back .before .before .before .before in
+    let at-if1 = at-write-drop .before .before .before .before in
+    let at-plan-scratch = at-if1 .before .before .before .before .before .before .before .before in
+    λ d. gone d (at-plan-scratch .plan-scratch .ensures d) (at-if1 .if1 .taken) _ _ _ (at-write-drop .write-drop .ensures) (at-put-back .put-back .ensures)
 
 pub scratch-set-spec : {M : Type 1} → statement M
 scratch-set-spec =
     tie.close
     (tie.spec
-    measure-requires
-    give-back-requires
-    free-slot-requires
-    free-slot-requires-2
-    cast-drop-set
-    drop-set-requires
+    slice-aggregate-plan-scratch
+    plan-scratch-requires
     same-length
     same-length-2
     same-length-3
     returns
+    slice-aggregate-write-drop
+    write-drop-requires
     put-back-requires
     same-length-4
     same-length-5

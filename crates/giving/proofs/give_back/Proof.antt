@@ -20,7 +20,7 @@ give-tail-requires c κs =
     let a = top .args in
     let one = c .before .before .record-at in
     let three = c .before .record-at2 in
-    (set-looked (geometryOf (a .g)) (a .table .now) (a .k) (a .x .third) (a .x .count) (one .result .now) (three .result .now) (one .ensures .0) (three .ensures .0) (top .pre .1), top .pre .0 .3)
+    (set-looked (geometryOf (a .g)) (a .table .now) (a .x .slot) (a .x .slot3) (a .x .count) (one .result .now) (three .result .now) (one .ensures .0) (three .ensures .0) (top .pre .1), top .pre .0 .3)
 
 same-length : tie.Need-same-length
 same-length c = search needs
@@ -33,7 +33,7 @@ returns c =
     let a = top .args in
     let one = at-record-at .record-at in
     let three = at-record-at2 .record-at2 in
-    tail-looked (geometryOf (a .g)) (a .table .now) (a .k) (a .x .third) (a .x .count) (one .result .now) (three .result .now) (one .ensures .0) (three .ensures .0) (a .keep) _ _ _ _ _ _ (c .before .before .give-tail .ensures)
+    tail-looked (geometryOf (a .g)) (a .table .now) (a .x .slot) (a .x .slot3) (a .x .count) (one .result .now) (three .result .now) (one .ensures .0) (three .ensures .0) (a .keep) _ _ _ _ _ _ (c .before .before .give-tail .ensures)
 
 pub give-back-spec : {M : Type 1} → statement M
 give-back-spec =

@@ -1,3 +1,5 @@
+use mathlib.Core.Path.{ap}
+use Prim.Native.Nat.{ℕ, _+_}
 use native.Mathlib.Omega.{arith}
 use Rattle.settling.proofs.Settled.{full-in, give-low, over-in, yes-in}
 use borrow.Author.Needs.{needs}
@@ -53,15 +55,19 @@ same-length-5 c = search needs
 
 returns-3 : tie.Need-returns-3
 returns-3 c =
-    let l = c .before .before .before .before .before .before .before .before .before .before .before .before .before .before .before .before .before .longer .ensures in
-    let f = c .before .before .before .before .before .before .before .before .before .before .before .before .before .before .before .count-free .ensures .0 in
-    let u = c .before .before .before .before .before .before .before .before .before .before .before .before .before .before .if2 .left in
-    let v = c .before .before .before .before .before .before .before .before .before .before .before .before .before .before .before .before .before .before .before .before .before .before .before .if1 .left in
-    let p = c .before .before .before .before .before .before .before .before .before .before .before .before .before .before .before .before .before .before .before .before .before .before .before .before .before .before .before .pre .2 in
-    let q = c .before .before .before .before .before .before .before .before .before .before .before .before .before .before .before .before .before .before .before .before .before .before .before .before .before .before .before .pre .4 in
-    let r = c .before .before .before .before .before .before .before .before .before .before .before .before .before .before .before .before .before .before .before .before .before .before .before .before .before .before .before .pre .5 in
-    yes-in (c .before .before .before .before .before .before .before .before .before .before .before .before .before .before .before .before .before .before .before .before .before .before .before .before .before .before .before .args .n) (c .before .before .before .before .before .before .before .before .before .before .before .before .before .before .before .before .before .before .before .before .before .before .before .before .before .before .before .args .empty .now) (c .before .before .before .before .before .before .before .before .before .before .before .before .before .before .before .before .before .before .before .before .before .before .before .before .before .before .before .args .chain .now) (c .before .before .before .before .before .before .before .before .before .before .before .before .before .before .before .before .before .before .before .before .before .before .before .before .before .before .before .args .given .now) (c .before .before .before .before .before .before .before .before .before .before .before .before .before .before .before .before .before .before .before .before .before .before .before .before .before .before .before .args .was) (c .before .before .before .before .before .before .before .before .before .before .before .before .before .before .before .before .before .before .before .before .before .before .before .before .before .before .before .args .need) (c .before .before .before .before .before .before .before .before .before .before .before .before .before .before .before .before .before .before .before .before .before .before .before .before .before .before .before .args .asked) (c .before .before .before .before .before .before .before .before .before .before .before .before .before .before .before .before .before .before .before .before .before .before .before .before .before .before .before .pre .3) (c .before .before .before .before .before .before .before .before .before .before .before .before .before .before .before .before .before .before .before .before .before .before .before .before .before .before .before .pre .6) (c .before .before .before .before .before .before .before .before .before .before .before .before .before .before .before .before .before .before .before .before .give-slots .last .0) (c .before .before .before .before .before .before .before .before .before .before .before .before .before .before .before .before .before .before .before .before .give-slots .ensures)
-    (c .before .before .before .before .before .before .before .before .before .before .before .take-slots .last .0) (c .before .before .before .before .take-slots2 .last .0) (c .before .before .before .before .take-slots2 .last .1 .1 .0) (c .before .before .before .before .before .before .before .before .before .before .before .take-slots .last .1 .1 .0) (c .before .before .before .before .before .before .before .before .before .before .before .take-slots .ensures) (c .before .before .before .before .take-slots2 .ensures) (omega arith) (omega arith) v (omega arith)
+    let at-take-slots2 = c .before .before .before .before in
+    let at-take-slots = at-take-slots2 .before .before .before .before .before .before .before in
+    let at-if2 = at-take-slots .before .before .before in
+    let at-give-slots = at-if2 .before .before .before .before .before .before in
+    let at-if1 = at-give-slots .before .before .before in
+    let top = at-if1 .before .before .before .before in
+    let p = top .pre .2 in
+    let q = top .pre .4 in
+    let r = top .pre .5 in
+    let v = at-if1 .if1 .left in
+    yes-in (top .args .n) (top .args .empty .now) (top .args .chain .now) (top .args .given .now) (top .args .was) (top .args .need) (top .args .asked) (top .pre .3) (top .pre .6) (at-give-slots .give-slots .last .0) (at-give-slots .give-slots .ensures)
+    (at-take-slots .take-slots .last .0) (at-take-slots2 .take-slots2 .last .0) (at-take-slots2 .take-slots2 .last .1 .1 .0) (at-take-slots .take-slots .last .1 .1 .0) (at-take-slots .take-slots .ensures) (at-take-slots2 .take-slots2 .ensures) (omega arith) (omega arith) v
+    _ _ (at-if2 .before .count-free .ensures .0) (at-if2 .before .count-free .ensures .1) (ap (λ (k : ℕ). top .args .asked + k) (at-if2 .before .before .before .longer .ensures)) (at-if2 .if2 .left)
 
 pub settle-spec : {M : Type 1} → statement M
 settle-spec =
