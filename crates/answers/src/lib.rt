@@ -27,8 +27,8 @@ fn put_piece(all: [u8; 24], at: usize, p: [u16; 2]) -> [u8; 24]
     requires { ⌜ at + 3 < 24 ⌝ }
     ensures { λ r. ⌜ r ≡ putAt all at (pieceBytes p) ⌝ }
 {
-    let begun = put_two(all, at, grant::wide(p[0]));
-    put_two(begun, at + 2, grant::wide(p[1]))
+    let begun = put_two(all, at, fields::wide16(p[0]));
+    put_two(begun, at + 2, fields::wide16(p[1]))
 }
 
 // The answer of a call that reports no number.

@@ -1,5 +1,5 @@
 -- A fresh table, slot by slot, and initialise as a whole. Assumes nothing.
-use mathlib.Core.Path.{_≡_, refl, sym, ap, ap₂, _∙_}
+use mathlib.Core.Path.{_≡_, refl, sym, ap, ap₂, _∙_, subst}
 use mathlib.Core.Bool.{true, false}
 use mathlib.Core.List.{List, [], _∷_, append-nil}
 use Prim.Native.Nat.{ℕ, zero, suc, _+_, _-_, _*_, _≤_, _<_}
@@ -74,12 +74,13 @@ module _ (g : Geometry) (r r′ : List ℕ) (j start count : ℕ) (is : r ≡ bl
   room = (ap length first ∙ five-long g (someRun start count) 0, let n = first-number in let a = some-length start count in omega arith)
 
 -- and the second
-pub both : (g : Geometry) → Limits g → (r r₁ r₂ : List ℕ) (j₁ j₂ : ℕ) → r ≡ blank 4 0x05 0xF5
-    → More g (someRun 1 (g .vtocStart - 1)) r 0 r₁ j₁
-    → More g (someRun (g .vtocStart + g .vtocTracks) (tracks g - (g .vtocStart + g .vtocTracks))) r₁ j₁ r₂ j₂
+pub both : (g : Geometry) → Limits g → (r r₁ r₂ : List ℕ) (j₁ j₂ all : ℕ) → r ≡ blank 4 0x05 0xF5
+    → More g (someRun 1 (g .vtocStart - 1)) r 0 r₁ j₁ → all ≡ tracks g
+    → More g (someRun (g .vtocStart + g .vtocTracks) (all - (g .vtocStart + g .vtocTracks))) r₁ j₁ r₂ j₂
     → r₂ ≡ format5 g (free g []) 0
-both g lim r r₁ r₂ j₁ j₂ is one two =
-    two .bytes (someRun 1 (g .vtocStart - 1)) (first-number g r r₁ j₁ 1 (g .vtocStart - 1) is one) (first g r r₁ j₁ 1 (g .vtocStart - 1) is one)
+both g lim r r₁ r₂ j₁ j₂ all is one e two =
+    subst (λ (n : ℕ). More g (someRun (g .vtocStart + g .vtocTracks) (n - (g .vtocStart + g .vtocTracks))) r₁ j₁ r₂ j₂) e two
+    .bytes (someRun 1 (g .vtocStart - 1)) (first-number g r r₁ j₁ 1 (g .vtocStart - 1) is one) (first g r r₁ j₁ 1 (g .vtocStart - 1) is one)
     ∙ ap (λ (f : List Run). format5 g f 0) (fresh-free g (→limits g lim))
 
 -- ---- slot 1, slot 0, and zeros
@@ -123,12 +124,13 @@ module _ (g : Geometry) (t a : List ℕ) where
   unfolding initialise
   no-geometry h = rw h
 
-  module _ (h : limits g ≡ true) where
-    pub wrong-table : (length t ≡ 140 * slots g → ⊥) → result 2 (lent t a []) ≡ initialise g (lent t a [])
+  -- m is the number of slots as it was computed
+  module _ (h : limits g ≡ true) (m : ℕ) (many : m ≡ slots g) where
+    pub wrong-table : (length t ≡ 140 * m → ⊥) → result 2 (lent t a []) ≡ initialise g (lent t a [])
     unfolding initialise
     wrong-table n = rw (h, ne-eqb (length t) (slots g * 140) (λ e. n (omega arith)))
 
-    module _ (l : length t ≡ 140 * slots g) where
+    module _ (l : length t ≡ 140 * m) where
       fits : eqb (length t) (slots g * 140) ≡ true
       fits = eq-eqb (length t) (slots g * 140) (omega arith)
 

@@ -1,4 +1,5 @@
 // Initialise: a table with no data set.
+use fields::places::*;
 use forms::Geometry;
 ghost use mathlib.Core.Path.{_≡_};
 ghost use mathlib.Core.List.{[]};
@@ -42,10 +43,10 @@ fn fresh_five(g: Geometry) -> [u8; 140]
     requires { ⌜ Limits (geometryOf g) ⌝ }
     ensures { λ r. ⌜ r ≡ format5 (geometryOf g) (free (geometryOf g) []) 0 ⌝ }
 {
-    let mut rec = records::blank(4, 0x05, 0xF5);
+    let mut rec = records::blank(DS5AVEXT, 0x05, FORMAT5);
     let behind = g.vtoc_start + g.vtoc_tracks;
     let j = put_some(&mut rec, 0, g, 1, g.vtoc_start - 1);
-    put_some(&mut rec, j, g, behind, g.cylinders * g.heads - behind);
+    put_some(&mut rec, j, g, behind, forms::tracks(g) - behind);
     rec
 }
 
@@ -57,7 +58,7 @@ fn write_fresh(table: &mut [u8], g: Geometry)
     erase(table);
     let five = fresh_five(g);
     fields::put_record(table, 1, &five);
-    let four = records::four(g, 0, (g.vtoc_tracks * g.records) as usize - 2);
+    let four = records::four(g, 0, forms::slots(g) - 2);
     fields::put_record(table, 0, &four);
 }
 
@@ -83,7 +84,7 @@ pub fn initialise(
     if forms::limits(g) {} else {
         return 1;
     }
-    if table.len() != 140 * (v * d) as usize {
+    if table.len() != 140 * forms::slots(g) {
         return 2;
     }
     if answer.len() != 24 {

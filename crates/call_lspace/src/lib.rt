@@ -1,5 +1,6 @@
 // LSPACE, the space inquiry: how many free cylinders, odd tracks, free extents and format 0s there are, and the longest
 // free extent. All but the format 0s is read in the entries of the format 5s.
+use fields::places::*;
 use forms::Geometry;
 ghost use mathlib.Core.Path.{_≡_};
 ghost use mathlib.Core.List.{List};
@@ -62,7 +63,7 @@ fn add_all(table: &[u8], g: Geometry) -> Sums
         long: 0,
     };
     let mut k: usize = 1;
-    let mut left = (g.vtoc_tracks * g.records) as usize;
+    let mut left = forms::slots(g);
     while 0 < left {
         if k == 0 {
             return s;
@@ -101,7 +102,7 @@ pub fn lspace(table: &[u8], answer: &mut [u8]) -> u32
         return r;
     }
     let g = opening::geometry(table);
-    let format0s = fields::two(fields::record_at(table, 0), 50);
+    let format0s = fields::two(fields::record_at(table, 0), DS4DSREC);
     let six = space(table, g, format0s);
     answers::put_numbers(answer, six);
     0

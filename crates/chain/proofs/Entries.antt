@@ -198,5 +198,7 @@ module _ (g : Geometry) (m : List ℕ) (n at : ℕ) (r : List ℕ) where
           no = λ q k e. y .no q (rear ∙ sym (at-field 3 (omega arith) k e));
         }
 
-pub listed-at : (g : Geometry) (m : List ℕ) (n at : ℕ) (r r′ : List ℕ) (ok ok′ : Bool) (next : ℕ) → r ≡ r′ → ok ≡ ok′ → HoldsRuns g m n at r ok next → HoldsRuns g m n at r′ ok′ next
-listed-at g m n at r r′ ok ok′ next e o x = subst (λ (y : List ℕ). HoldsRuns g m n at y ok′ next) e (subst (λ (b : Bool). HoldsRuns g m n at r b next) o x)
+pub listed-at : (g : Geometry) (m : List ℕ) (n n′ at : ℕ) (r r′ : List ℕ) (ok ok′ : Bool) (next : ℕ) → n ≡ n′ → r ≡ r′ → ok ≡ ok′ → HoldsRuns g m n at r ok next → HoldsRuns g m n′ at r′ ok′ next
+listed-at g m n n′ at r r′ ok ok′ next w e o x =
+    subst (λ (z : ℕ). HoldsRuns g m z at r′ ok′ next) w
+    (subst (λ (y : List ℕ). HoldsRuns g m n at y ok′ next) e (subst (λ (b : Bool). HoldsRuns g m n at r b next) o x))

@@ -16,13 +16,15 @@ use Rattle.rules.specs.Reading.{chop, follow, recordAt, slotAt}
 use Rattle.rules.proofs.Valid.{Limits}
 use Rattle.rules.proofs.FreeBack.{five-link}
 use Rattle.sound.specs.Sound.{FiveOk}
-use Rattle.tracks.specs.Map.{Shows, Taken, freeFrom}
+use Rattle.tracks.specs.Map.{NextRun, Shows, Taken, freeFrom}
 use Rattle.tracks.proofs.Held.{shows-same}
 use Rattle.fields.specs.Records.{Bytes, slotBytes}
 use Rattle.fields.specs.Tests.{allAre, slotNamed}
-use Rattle.fields.proofs.Links.{none-is, none-passes, place-read, slot-below, slot-found, slot-named, slot-none}
+use Rattle.fields.proofs.Links.{none-is, none-passes, place-read, slot-found, slot-named, slot-none}
 use Rattle.fields.proofs.Slots.{chop-slot, length-part}
+use Rattle.forms.specs.Forms.{linkedSlot}
 use Rattle.forms.proofs.Cutting.{bytes-part}
+use Rattle.forms.proofs.Linked.{linked-below}
 use Rattle.label_check.specs.Marks.{units}
 use Rattle.label_check.proofs.Taking.{took-no, took-yes}
 use Rattle.chain.specs.declared.Member.{Member}
@@ -220,6 +222,14 @@ held-hit g t m f k s s′ r u b e x o =
       no = λ q us w c i z. took-no (slots g) k 1 s s′ b x e (omega arith) us w c;
     }
 
+-- what the next run tells, where the number n of tracks was computed
+module _ (m : List ℕ) (n n′ at from to : ℕ) (w : n ≡ n′) (x : NextRun m n at from to) where
+  pub none-left : n ≤ from → freeFrom m n′ at ≡ []
+  none-left u = subst (λ (z : ℕ). freeFrom m z at ≡ []) w (x .done u)
+
+  pub some-left : from < n → freeFrom m n′ at ≡ run from (to - from) ∷ freeFrom m n′ to
+  some-left u = subst (λ (z : ℕ). freeFrom m z at ≡ run from (to - from) ∷ freeFrom m z to) w (x .more u .1)
+
 module _ (g : Geometry) (limit : Limits g) (t m : List ℕ) (at k : ℕ) (s s′ : List ℕ) (b : Bool) (e : b ≡ true) (x : Taken s s′ k (k + 1) b) where
   abbrev f5 : List Run
   f5 = freeFrom m (tracks g) at
@@ -269,14 +279,14 @@ module _ (g : Geometry) (limit : Limits g) (t m : List ℕ) (at k : ℕ) (s s′
 
     -- there are more: the record names the slot that holds them
     pub held-more : (r : Member) (v : Run) (vs : List Run) → freeFrom m (tracks g) behind ≡ v ∷ vs
-        → r .slot ≡ slotNamed (g .heads) (g .records) (g .vtocStart) (slots g) linked → r .ok ≡ linkOk (r .slot) linked → r .last ≡ false → r .at ≡ behind → Held g t m f5 k s s′ r
+        → r .slot ≡ linkedSlot g record5 → r .ok ≡ linkOk (r .slot) linked → r .last ≡ false → r .at ≡ behind → Held g t m f5 k s s′ r
     held-more r v vs some z o l a =
         record {
           long = x .long;
           took = λ q us w. took-yes (slots g) k 1 s s′ b x e us w;
           here = λ q. ap (format5 g (take 26 f5)) (sym (named q)) ∙ y .yes refl (r .slot) (is-link q);
           next = named;
-          inside = λ q. rw z (slot-below (g .heads) (g .records) (g .vtocStart) (slots g) linked (omega (arith, limit .least)));
+          inside = λ q. rw z (linked-below g record5 limit);
           rest = λ q. rw a (y .rest refl);
           upTo = λ q. rw a (y .upTo refl);
           last = λ q. l ∙ sym (ap isNone d);
@@ -292,7 +302,7 @@ module _ (g : Geometry) (limit : Limits g) (t m : List ℕ) (at k : ℕ) (s s′
         is-link : r .ok ≡ true → link g (r .slot) ≡ linked
         is-link q = go (r .slot) (sym z) (sym o ∙ q)
           where
-            go : (j : ℕ) → slotNamed (g .heads) (g .records) (g .vtocStart) (slots g) linked ≡ j → linkOk j linked ≡ true → link g j ≡ linked
+            go : (j : ℕ) → linkedSlot g record5 ≡ j → linkOk j linked ≡ true → link g j ≡ linked
             go zero p f = none-is g linked long-link (true-is f)
             go (suc j) p f = slot-named g (slots g) linked (suc j) long-link (bytes-part 135 5 record5 (bytes-part (140 * k) 140 t bytes)) (omega arith) p .0
 
@@ -304,9 +314,9 @@ module _ (g : Geometry) (limit : Limits g) (t m : List ℕ) (at k : ℕ) (s s′
         unlinked (suc j) p f q = let z : eqb (suc j) 0 ≡ false = ne-eqb (suc j) 0 (λ w. absurd (omega arith)) in clash {b = true} refl (rw z at f)
 
         found : nextOf g (drop 26 f5) record5 < slots g → format5 g (take 26 f5) (nextOf g (drop 26 f5) record5) ≡ record5
-            → slotNamed (g .heads) (g .records) (g .vtocStart) (slots g) linked ≡ nextOf g (drop 26 f5) record5
+            → linkedSlot g record5 ≡ nextOf g (drop 26 f5) record5
         found i h = go (nextOf g (drop 26 f5) record5) i (sym (five-link g (take 26 f5) (nextOf g (drop 26 f5) record5)) ∙ ap (part 135 5) h)
           where
-            go : (j : ℕ) → j < slots g → link g j ≡ linked → slotNamed (g .heads) (g .records) (g .vtocStart) (slots g) linked ≡ j
+            go : (j : ℕ) → j < slots g → link g j ≡ linked → linkedSlot g record5 ≡ j
             go zero i p = ap (slotNamed (g .heads) (g .records) (g .vtocStart) (slots g)) (sym p) ∙ slot-none (g .heads) (g .records) (g .vtocStart) (slots g)
             go (suc j) i p = slot-found g (slots g) linked (limit .heads) (limit .records) (suc j) (omega arith) i p

@@ -1,4 +1,5 @@
 // The chain of format 5s in a table, held against the map of free tracks.
+use fields::places::*;
 use forms::Geometry;
 ghost use mathlib.Core.Path.{_≡_};
 ghost use mathlib.Core.Bool.{false};
@@ -91,14 +92,14 @@ fn compare(rec: &[u8], map: &[u64], n: usize, at: usize, g: Geometry) -> Compare
     if fields::part_is(rec, 0, 4, 0x05) {} else {
         return Compared { ok: false, next: n };
     }
-    if rec[44] != 0xF5 {
+    if rec[DS5FMTID] != FORMAT5 {
         return Compared { ok: false, next: n };
     }
-    let front = entries_are(&rec[4..44], 8, map, n, at, g);
+    let front = entries_are(&rec[DS5AVEXT..DS5FMTID], 8, map, n, at, g);
     if front.ok {} else {
         return Compared { ok: false, next: n };
     }
-    entries_are(&rec[45..135], 18, map, n, front.next, g)
+    entries_are(&rec[DS5MAVET..DS5PTRDS], 18, map, n, front.next, g)
 }
 
 // Whether the link of a format 5 is the address of a slot, or zeros where the slot is 0.
@@ -109,7 +110,7 @@ fn is_linked(rec: &[u8], slot: usize) -> bool
     if slot != 0 {
         return true;
     }
-    fields::part_is(rec, 135, 5, 0)
+    fields::part_is(rec, DS5PTRDS, 5, 0)
 }
 
 // Takes slot k out of the map of free slots. It must hold the free extents from track `at` on, as far as it has room,
@@ -128,7 +129,7 @@ fn take_member(
     if tracks::take_range(empty, k, k + 1) {} else {
         return refused();
     }
-    let t = (g.cylinders * g.heads) as usize;
+    let t = forms::tracks(g) as usize;
     let rec = fields::record_at(table, k);
     let listed = compare(rec, map, t, at, g);
     if listed.ok {} else {
@@ -137,7 +138,7 @@ fn take_member(
     let behind = listed.next;
     let free = tracks::next_run(map, behind, t);
     if free.from >= t {
-        let ok = fields::part_is(rec, 135, 5, 0);
+        let ok = fields::part_is(rec, DS5PTRDS, 5, 0);
         return Member {
             ok,
             last: true,
@@ -145,8 +146,7 @@ fn take_member(
             at: behind,
         };
     }
-    let n = (g.vtoc_tracks * g.records) as usize;
-    let slot = fields::slot_of(&rec[135..140], g.heads, g.records, g.vtoc_start, n);
+    let slot = forms::link(rec, g);
     let ok = is_linked(rec, slot);
     Member {
         ok,

@@ -6,14 +6,18 @@ use lib.Dec.{ltb, eqb}
 use lib.ListN.{getD}
 use Rattle.forms.specs.declared.Geometry.{Geometry as Numbers}
 use Rattle.model.specs.Basics.{get3, part, within}
-use Rattle.model.specs.Model.{Geometry}
+use Rattle.model.specs.Model.{Geometry, slots}
 use Rattle.rules.specs.Table.{goodName, goodUnit}
-use Rattle.fields.specs.Tests.{allAre, goodTen}
+use Rattle.fields.specs.Tests.{allAre, goodTen, slotNamed}
 
 -- the numbers as the model's geometry
 abbrev pub geometryOf : Numbers → Geometry
 geometryOf n =
     record { cylinders = n .cylinders; heads = n .heads; records = n .records; vtocStart = n .«vtoc_start»; vtocTracks = n .«vtoc_tracks» }
+
+-- the slot whose address stands at the end of a format 1 or 5, 0 for none
+abbrev pub linkedSlot : Geometry → List ℕ → ℕ
+linkedSlot g r = slotNamed (g .heads) (g .records) (g .vtocStart) (slots g) (part 135 5 r)
 
 -- format 1 but for its id, its extents and its link
 unfoldable pub oneOk : List ℕ → Bool

@@ -19,34 +19,29 @@ use Rattle.rules.proofs.Valid.{Limits, free-apart}
 use Rattle.sound.specs.Sound.{FiveOk, Sound}
 use Rattle.fields.specs.Records.{slotBytes}
 use Rattle.fields.specs.Tests.{slotNamed}
-use Rattle.fields.proofs.Links.{slot-below, slot-found, slot-none}
+use Rattle.fields.proofs.Links.{slot-found, slot-none}
 use Rattle.fields.proofs.Slots.{chop-slot}
+use Rattle.forms.specs.Forms.{linkedSlot}
 use Rattle.free_list.specs.FreeList.{Entries, Listed, Lists}
 
 -- ---- the next member
 
 -- the slot that the record in slot k names as the next
 abbrev pub named : Geometry → List ℕ → ℕ → ℕ
-named g t k = slotNamed (g .heads) (g .records) (g .vtocStart) (slots g) (part 135 5 (slotBytes t k))
+named g t k = linkedSlot g (slotBytes t k)
 
 module _ (g : Geometry) (limit : Limits g) (t : List ℕ) where
   named-is : (k j : ℕ) → j < slots g → link g j ≡ part 135 5 (slotBytes t k) → named g t k ≡ j
   named-is k zero u p = ap (slotNamed (g .heads) (g .records) (g .vtocStart) (slots g)) (sym p) ∙ slot-none (g .heads) (g .records) (g .vtocStart) (slots g)
   named-is k (suc j) u p = slot-found g (slots g) (part 135 5 (slotBytes t k)) (limit .heads) (limit .records) (suc j) (omega arith) u p
 
-  pub named-below : (k : ℕ) → named g t k < slots g
-  named-below k = slot-below (g .heads) (g .records) (g .vtocStart) (slots g) (part 135 5 (slotBytes t k)) (omega (arith, limit .least))
-
   -- behind a member that holds its free extents comes the one that it names
   pub named-next : (k j : ℕ) (f : List Run) → k < slots g → j < slots g → format5 g f j ≡ slotBytes t k → named g t k ≡ j
   named-next k j f u w e = named-is k j w (sym (five-link g f j) ∙ ap (part 135 5) e)
 
 -- the code's answer is that slot
-pub next-named : (g : Geometry) (t r : List ℕ) (n k j : ℕ) → n ≡ slots g → r ≡ slotBytes t k → j ≡ slotNamed (g .heads) (g .records) (g .vtocStart) n (part 135 5 r)
-    → j ≡ named g t k
-next-named g t r n k j e f h =
-    h ∙ ap (λ (m : ℕ). slotNamed (g .heads) (g .records) (g .vtocStart) m (part 135 5 r)) e
-    ∙ ap (λ (y : List ℕ). slotNamed (g .heads) (g .records) (g .vtocStart) (slots g) (part 135 5 y)) f
+pub next-named : (g : Geometry) (t r : List ℕ) (k j : ℕ) → r ≡ slotBytes t k → j ≡ linkedSlot g r → j ≡ named g t k
+next-named g t r k j f h = h ∙ ap (λ (y : List ℕ). linkedSlot g y) f
 
 -- ---- the chain of a sound table
 

@@ -19,8 +19,8 @@ pub record Going (g : Geometry) (t : List ℕ) (left k : ℕ) (P : List Run → 
   pub known : P rest
 
 module _ (g : Geometry) (t : List ℕ) (P : List Run → Type 0) where
-  pub going-all : (f : List Run) → Listed g t f → P f → Going g t (slots g) 1 P
-  going-all f x p = record { members = x .members; rest = f; few = x .few; lists = x .lists; known = p }
+  pub going-all : (n : ℕ) → n ≡ slots g → (f : List Run) → Listed g t f → P f → Going g t n 1 P
+  going-all n e f x p = record { members = x .members; rest = f; few = omega (arith, e, x .few); lists = x .lists; known = p }
 
   module _ (left k : ℕ) (x : Going g t left k P) where
     -- one member, and the slot r of the next

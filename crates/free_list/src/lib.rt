@@ -60,12 +60,5 @@ pub fn member_after(table: &[u8], g: Geometry, k: usize) -> usize
     requires { ⌜ Limits (geometryOf g) × (length (now table) ≡ 140 * slots (geometryOf g)) × (k < slots (geometryOf g)) ⌝ }
     ensures { λ r. ⌜ (r < slots (geometryOf g)) × ((n : ℕ) (f : List Run) → Lists (geometryOf g) (now (table .entry)) (suc n) k f → Lists (geometryOf g) (now (table .entry)) n r (drop 26 f)) ⌝ }
 {
-    let rec = fields::record_at(table, k);
-    fields::slot_of(
-        &rec[135..140],
-        g.heads,
-        g.records,
-        g.vtoc_start,
-        (g.vtoc_tracks * g.records) as usize,
-    )
+    forms::link(fields::record_at(table, k), g)
 }

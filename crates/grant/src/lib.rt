@@ -182,7 +182,7 @@ fn survey(
 {
     let mut best = Units { start: 0, count: 0 };
     let mut k: usize = 1;
-    let mut left = (g.vtoc_tracks * g.records) as usize;
+    let mut left = forms::slots(g);
     while 0 < left {
         if k == 0 {
             return best;
@@ -278,13 +278,6 @@ pub fn choose(table: &[u8], g: Geometry, u: u32, amount: u32) -> [[u16; 2]; 5]
     fill(five, u, amount)
 }
 
-// A number of two bytes.
-pub fn wide(x: u16) -> u32
-    ensures { λ r. ⌜ (r ≡ x) × (r < 65536) ⌝ }
-{
-    x as u32
-}
-
 // What is granted: how many pieces, none where it is 0, and their tracks.
 pub struct Chosen {
     pub count: usize,
@@ -298,7 +291,7 @@ pub fn count_pieces(pieces: [[u16; 2]; 5]) -> Chosen
     let mut count: usize = 0;
     let mut tracks: u32 = 0;
     while count < 5 {
-        let n = wide(pieces[count][1]);
+        let n = fields::wide16(pieces[count][1]);
         if n == 0 {
             return Chosen { count, tracks };
         }

@@ -15,10 +15,10 @@ use Rattle.rules.specs.Layout.{extentPart}
 use Rattle.rules.proofs.Valid.{Limits}
 use Rattle.fields.specs.Records.{slotBytes}
 use Rattle.fields.specs.Tests.{allAre}
-use Rattle.fields.proofs.Links.{slot-below}
 use Rattle.fields.proofs.Rows.{and-assoc}
 use Rattle.fields.proofs.Tens.{in-format1}
 use Rattle.forms.specs.Forms.{extentOk, oneOk, threeOk}
+use Rattle.forms.proofs.Linked.{linked-below}
 use Rattle.label_check.specs.Label.{Answer, extentsOk, fewOk, fewShape, formOf, goodIf, goodThird, namedThird, orZero, shapeOf, soundLabel, thirdOf, thirdShape, unsound, unusedOk, usedOk}
 use Rattle.label_check.proofs.Laws.{not-sound, same-third}
 
@@ -158,7 +158,7 @@ module _ (g : Geometry) (limit : Limits g) (t : List ℕ) (long : (j : ℕ) → 
       let p : ℕ = namedThird g f1 in
       let z : p ≡ q = third-slot (threeOk (slotBytes t p) && unusedOk f1 (slotBytes t p) n (16 - n)) p q f in
       record {
-        slot = subst (λ (i : ℕ). i < slots g) z (slot-below (g .heads) (g .records) (g .vtocStart) (slots g) (part 135 5 f1) (omega (arith, limit .least)));
+        slot = subst (λ (i : ℕ). i < slots g) z (linked-below g f1 limit);
         few = one-few f1 a;
         form =
             rw (a, b)

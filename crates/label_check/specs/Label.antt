@@ -5,11 +5,11 @@ use mathlib.Core.List.{List}
 use lib.ListN.{getD}
 use lib.Dec.{leb}
 use Rattle.model.specs.Basics.{part}
-use Rattle.model.specs.Model.{Geometry, tracks, slots}
+use Rattle.model.specs.Model.{Geometry, tracks}
 use Rattle.rules.specs.Layout.{extentPart}
 use Rattle.fields.specs.Records.{slotBytes}
-use Rattle.fields.specs.Tests.{allAre, slotNamed}
-use Rattle.forms.specs.Forms.{extentOk, oneOk, threeOk}
+use Rattle.fields.specs.Tests.{allAre}
+use Rattle.forms.specs.Forms.{extentOk, linkedSlot, oneOk, threeOk}
 use Rattle.label_check.specs.declared.Form.{Form}
 use Rattle.label_check.specs.declared.Form.the-variants.{Good, Bad}
 
@@ -24,7 +24,7 @@ fewOk h t f1 n = allAre 0 (part 135 5 f1) && extentsOk h t f1 f1 n 0 3
 
 -- the slot that a format 1 names as its format 3's
 abbrev pub namedThird : Geometry → List ℕ → ℕ
-namedThird g f1 = slotNamed (g .heads) (g .records) (g .vtocStart) (slots g) (part 135 5 f1)
+namedThird = linkedSlot
 
 abbrev pub orZero : Bool → ℕ → ℕ
 orZero true q = q

@@ -1,5 +1,6 @@
 // Data sets' labels in a table: whether a format 1, with its format 3, is as the layout says, and its tracks and slots taken
 // out of the maps of free ones.
+use fields::places::*;
 use forms::Geometry;
 ghost use mathlib.Core.Path.{_≡_};
 ghost use mathlib.Core.List.{List};
@@ -24,14 +25,14 @@ fn unused_ok(f3: &[u8], n: usize) -> bool
     ensures { λ r. ⌜ ((f1 : List ℕ) → length f1 ≡ 140 → r ≡ unusedOk f1 (now (f3 .entry)) n (16 - n)) ⌝ }
 {
     if n >= 7 {
-        let at = 45 + 10 * (n - 7);
-        return fields::all_are(&f3[at..135], 0);
+        let at = DS3ADEXT + 10 * (n - 7);
+        return fields::all_are(&f3[at..DS3PTRDS], 0);
     }
-    let at = 4 + 10 * (n - 3);
-    if fields::all_are(&f3[at..44], 0) {} else {
+    let at = DS3EXTNT + 10 * (n - 3);
+    if fields::all_are(&f3[at..DS3FMTID], 0) {} else {
         return false;
     }
-    fields::all_are(&f3[45..135], 0)
+    fields::all_are(&f3[DS3ADEXT..DS3PTRDS], 0)
 }
 
 // Whether a format 1 of n extents, 3 at most, has zeros behind them and no link: one row of zeros, to the record's end.
@@ -39,7 +40,7 @@ fn few_ok(f1: &[u8], n: usize) -> bool
     requires { ⌜ (length (now f1) ≡ 140) × (n ≤ 3) ⌝ }
     ensures { λ r. ⌜ r ≡ fewShape (now (f1 .entry)) n ⌝ }
 {
-    let at = 105 + 10 * n;
+    let at = DS1EXT1 + 10 * n;
     fields::all_are(&f1[at..], 0)
 }
 
@@ -48,8 +49,7 @@ fn third_of<'a>(table: &'a [u8], f1: &'a [u8], n: usize, g: Geometry) -> usize
     requires { ⌜ (length (now f1) ≡ 140) × (3 < n) × (n ≤ 16) × Limits (geometryOf g) × (140 * slots (geometryOf g) ≤ length (now table)) ⌝ }
     ensures { λ r. ⌜ r ≡ thirdShape (geometryOf g) (now (table .entry)) (now (f1 .entry)) n ⌝ }
 {
-    let many = (g.vtoc_tracks * g.records) as usize;
-    let q = fields::slot_of(&f1[135..140], g.heads, g.records, g.vtoc_start, many);
+    let q = forms::link(f1, g);
     if q == 0 {
         return 0;
     }
@@ -72,7 +72,7 @@ fn shape_of(table: &[u8], k: usize, g: Geometry) -> Form
     if forms::one_ok(f1) {} else {
         return Form::Bad;
     }
-    let n = fields::wide(f1[59]) as usize;
+    let n = fields::wide(f1[DS1NOEPV]) as usize;
     if n <= 3 {
         if few_ok(f1, n) {
             return Form::Good(0);
@@ -93,7 +93,7 @@ fn take_extent(x: &[u8], e: usize, g: Geometry, map: &mut [u64]) -> bool
     ensures { λ r. ⌜ TookTen (geometryOf g) e (now (x .entry)) (now (map .entry)) (now (map .exit)) r ⌝ }
 {
     let h = g.heads;
-    if fields::good_ten(x, e as u32, h, g.cylinders * h) {} else {
+    if fields::good_ten(x, e as u32, h, forms::tracks(g)) {} else {
         return false;
     }
     let first = fields::track_at(x, 2, h) as usize;
@@ -149,6 +149,6 @@ pub fn take_label(table: &[u8], k: usize, g: Geometry, map: &mut [u64], slots: &
     }
     let f1 = fields::record_at(table, k);
     let f3 = fields::record_at(table, q);
-    let n = fields::wide(f1[59]) as usize;
+    let n = fields::wide(f1[DS1NOEPV]) as usize;
     take_extents(f1, f3, n, g, map)
 }

@@ -1,5 +1,6 @@
 // Data sets in their records: the format 1 of a label, and its format 3 where there are more than three extents. Each
 // function takes the record of some label to that of another.
+use fields::places::*;
 ghost use mathlib.Core.Path.{_≡_};
 ghost use Prim.Native.Nat.{ℕ, _+_, _≤_, _<_};
 ghost use lib.ListN.{length};
@@ -16,9 +17,9 @@ pub fn new_label(name: &[u8], attributes: &[u8], unit: u8, secondary: u32) -> [u
 {
     let mut r = [0u8; 140];
     records::put_row(&mut r, 0, name); // DS1DSNAM
-    r[44] = 0xF1; // DS1FMTID
-    r[94] = unit; // DS1SCALO
-    records::put_three(&mut r, 95, secondary);
+    r[DS1FMTID] = FORMAT1;
+    r[DS1SCALO] = unit;
+    records::put_three(&mut r, SECONDARY, secondary);
     records::put_row(&mut r, 45, &attributes[0..14]);
     records::put_row(&mut r, 60, &attributes[14..48]);
     records::put_row(&mut r, 101, &attributes[48..52]);
@@ -29,7 +30,7 @@ pub fn new_label(name: &[u8], attributes: &[u8], unit: u8, secondary: u32) -> [u
 pub fn empty_three() -> [u8; 140]
     ensures { λ r. ⌜ ((g : Geometry) (l : Label) → length (l .extents) ≤ 3 → Format3 g l r) ⌝ }
 {
-    records::blank(4, 0x03, 0xF3)
+    records::blank(DS3EXTNT, 0x03, FORMAT3)
 }
 
 // Makes the format 1 of a label with n extents that of the label with one more.
@@ -44,9 +45,9 @@ pub fn add_extent1(
     requires { ⌜ (length (now rec) ≡ 140) × (n < 16) × (1 ≤ count) × (start + count ≤ 65535) × Limits (geometryOf g) ⌝ }
     ensures { λ _. ⌜ ((l : Label) → length (l .extents) ≡ n → Format1 (geometryOf g) l (now (rec .entry)) → Format1 (geometryOf g) (added (extent kind (run start count)) l) (now (rec .exit))) × (length (now (rec .exit)) ≡ 140) ⌝ }
 {
-    rec[59] = (n + 1) as u8; // DS1NOEPV
+    rec[DS1NOEPV] = (n + 1) as u8;
     if n < 3 {
-        records::put_extent(rec, 105 + 10 * n, g, n, kind, start, count); // DS1EXT1
+        records::put_extent(rec, DS1EXT1 + 10 * n, g, n, kind, start, count);
         return;
     }
 }
@@ -64,10 +65,10 @@ pub fn add_extent3(
     ensures { λ _. ⌜ ((l : Label) → length (l .extents) ≡ n → Format3 (geometryOf g) l (now (rec .entry)) → Format3 (geometryOf g) (added (extent kind (run start count)) l) (now (rec .exit))) × (length (now (rec .exit)) ≡ 140) ⌝ }
 {
     if n < 7 {
-        records::put_extent(rec, 4 + 10 * (n - 3), g, n, kind, start, count); // DS3EXTNT
+        records::put_extent(rec, DS3EXTNT + 10 * (n - 3), g, n, kind, start, count);
         return;
     }
-    records::put_extent(rec, 45 + 10 * (n - 7), g, n, kind, start, count); // DS3ADEXT
+    records::put_extent(rec, DS3ADEXT + 10 * (n - 7), g, n, kind, start, count);
 }
 
 // Makes the format 1 of a label that of the label with its first n extents.
@@ -75,9 +76,9 @@ pub fn keep_extents1(rec: &mut [u8; 140], n: usize)
     requires { ⌜ (length (now rec) ≡ 140) × (n ≤ 16) ⌝ }
     ensures { λ _. ⌜ ((g : Geometry) (l : Label) → n ≤ length (l .extents) → Format1 g l (now (rec .entry)) → Format1 g (firstExtents n l) (now (rec .exit))) × (length (now (rec .exit)) ≡ 140) ⌝ }
 {
-    rec[59] = n as u8; // DS1NOEPV
+    rec[DS1NOEPV] = n as u8;
     if n < 3 {
-        records::put_same(rec, 105 + 10 * n, 135, 0);
+        records::put_same(rec, DS1EXT1 + 10 * n, DS1PTRDS, 0);
         return;
     }
 }
@@ -88,11 +89,11 @@ pub fn keep_extents3(rec: &mut [u8; 140], n: usize)
     ensures { λ _. ⌜ ((g : Geometry) (l : Label) → Format3 g l (now (rec .entry)) → Format3 g (firstExtents n l) (now (rec .exit))) × (length (now (rec .exit)) ≡ 140) ⌝ }
 {
     if n < 7 {
-        records::put_same(rec, 4 + 10 * (n - 3), 44, 0);
-        records::put_same(rec, 45, 135, 0);
+        records::put_same(rec, DS3EXTNT + 10 * (n - 3), DS3FMTID, 0);
+        records::put_same(rec, DS3ADEXT, DS3PTRDS, 0);
         return;
     }
-    records::put_same(rec, 45 + 10 * (n - 7), 135, 0);
+    records::put_same(rec, DS3ADEXT + 10 * (n - 7), DS3PTRDS, 0);
 }
 
 // Makes the format 1 one with another last block.
@@ -100,7 +101,7 @@ pub fn set_ttr(rec: &mut [u8; 140], ttr: u32)
     requires { ⌜ (length (now rec) ≡ 140) × (ttr < 16777216) ⌝ }
     ensures { λ _. ⌜ ((g : Geometry) (l : Label) → Format1 g l (now (rec .entry)) → Format1 g (withTtr ttr l) (now (rec .exit))) × (length (now (rec .exit)) ≡ 140) ⌝ }
 {
-    records::put_three(rec, 98, ttr); // DS1LSTAR
+    records::put_three(rec, DS1LSTAR, ttr);
 }
 
 // A format 1 with another name.
@@ -118,5 +119,5 @@ pub fn set_link3(rec: &mut [u8; 140], g: forms::Geometry, k: usize)
     requires { ⌜ (length (now rec) ≡ 140) × (k < slots (geometryOf g)) × Limits (geometryOf g) ⌝ }
     ensures { λ _. ⌜ ((l : Label) (slot : ℕ) → Format1 (geometryOf g) l (now (rec .entry)) → Format1 (geometryOf g) (withSlots slot k l) (now (rec .exit))) ⌝ }
 {
-    records::put_link(rec, 135, g, k); // DS1PTRDS
+    records::put_link(rec, DS1PTRDS, g, k);
 }

@@ -1,4 +1,5 @@
 // Names in a table: the lookup, and that no two data sets have the same one.
+use fields::places::*;
 use fields::*;
 ghost use mathlib.Core.Path.{_≡_};
 ghost use Prim.Native.Nat.{_+_, _*_, _≤_, _<_};
@@ -17,10 +18,10 @@ pub fn is_named(rec: &[u8], name: &[u8]) -> bool
     requires { ⌜ length (now rec) ≡ 140 ⌝ }
     ensures { λ r. ⌜ r ≡ isNamed (now (rec .entry)) (now (name .entry)) ⌝ }
 {
-    if fields::same(&rec[..44], name) {} else {
+    if fields::same(&rec[..DS1FMTID], name) {} else {
         return false;
     }
-    rec[44] == 0xF1
+    rec[DS1FMTID] == FORMAT1
 }
 
 // The first of the n slots that has a format 1 under this name. Its number is 0, or document 01's 5 where there is none.
@@ -124,10 +125,10 @@ pub fn enter(table: &[u8], k: usize, tags: &mut [u16], seen: &mut [u64]) -> bool
     ensures { λ r. ⌜ Entered (now (table .entry)) k (now (tags .entry)) (now (tags .exit)) (now (seen .entry)) (now (seen .exit)) r ⌝ }
 {
     let rec = fields::record_at(table, k);
-    if rec[44] != 0xF1 {
+    if rec[DS1FMTID] != FORMAT1 {
         return true;
     }
-    let name = &rec[..44];
+    let name = &rec[..DS1FMTID];
     let t = tag(name);
     if is_new(table, k, &tags[..k], seen, t, name) {
         tags[k] = t;

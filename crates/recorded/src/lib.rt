@@ -1,6 +1,6 @@
 // Recorded calls (docs/REPLAY.md): the fields of a record, the digest of a buffer, and the line that is printed.
 ghost use mathlib.Core.Path.{_≡_};
-ghost use Prim.Native.Nat.{_+_, _*_, _/_, _%_, _≤_, _<_, min};
+ghost use Prim.Native.Nat.{_+_, _*_, _/_, _%_, _≤_, _<_};
 ghost use mathlib.Core.List.{[], _∷_, _++_};
 ghost use lib.ListN.{length};
 ghost use Rattle.recorded.specs.Line.{Wrote, be4, digest, hex, hexByte, hexDigit, lineOf, twoDigits};
@@ -18,19 +18,12 @@ pub fn four(s: &[u8], i: usize) -> u32
     hi * 65536 + lo
 }
 
-// The lesser of two numbers.
-fn lesser(a: usize, b: usize) -> usize
-    ensures { λ r. ⌜ r ≡ min a b ⌝ }
-{
-    if a < b { a } else { b }
-}
-
 // How many bytes of the answer buffer are lent.
 pub fn answer_lent(asked: &[u8]) -> usize
     requires { ⌜ length (now asked) ≡ 128 ⌝ }
     ensures { λ r. ⌜ (r ≡ answerLent (now (asked .entry))) × (r ≤ 32) ⌝ }
 {
-    lesser(fields::wide(asked[3]) as usize, 32)
+    fields::at_most(fields::wide(asked[3]) as usize, 32)
 }
 
 // How many bytes of the labels buffer are lent.
@@ -38,7 +31,7 @@ pub fn labels_lent(asked: &[u8]) -> usize
     requires { ⌜ length (now asked) ≡ 128 ⌝ }
     ensures { λ r. ⌜ (r ≡ labelsLent (now (asked .entry))) × (r ≤ 288) ⌝ }
 {
-    lesser(fields::two(asked, 4) as usize, 288)
+    fields::at_most(fields::two(asked, 4) as usize, 288)
 }
 
 // How many bytes of the table buffer are lent.
@@ -54,7 +47,7 @@ pub fn name_of(asked: &[u8]) -> &[u8]
     requires { ⌜ length (now asked) ≡ 128 ⌝ }
     ensures { λ r. ⌜ now r ≡ nameOf (now (asked .entry)) ⌝ }
 {
-    let e = 28 + lesser(fields::wide(asked[1]) as usize, 46);
+    let e = 28 + fields::at_most(fields::wide(asked[1]) as usize, 46);
     &asked[28..e]
 }
 
@@ -63,7 +56,7 @@ pub fn other_of(asked: &[u8]) -> &[u8]
     requires { ⌜ length (now asked) ≡ 128 ⌝ }
     ensures { λ r. ⌜ now r ≡ otherOf (now (asked .entry)) ⌝ }
 {
-    let e = 74 + lesser(fields::wide(asked[2]) as usize, 54);
+    let e = 74 + fields::at_most(fields::wide(asked[2]) as usize, 54);
     &asked[74..e]
 }
 
@@ -72,7 +65,7 @@ pub fn bytes_of(asked: &[u8]) -> &[u8]
     requires { ⌜ length (now asked) ≡ 128 ⌝ }
     ensures { λ r. ⌜ now r ≡ bytesOf (now (asked .entry)) ⌝ }
 {
-    let e = 28 + lesser(fields::wide(asked[1]) as usize, 100);
+    let e = 28 + fields::at_most(fields::wide(asked[1]) as usize, 100);
     &asked[28..e]
 }
 
@@ -81,7 +74,7 @@ pub fn put_over(table: &mut [u8], place: usize, s: &[u8])
     ensures { λ _. ⌜ now (table .exit) ≡ overAt place (now (s .entry)) (now (table .entry)) ⌝ }
 {
     if place < table.len() {
-        let n = lesser(s.len(), table.len() - place);
+        let n = fields::at_most(s.len(), table.len() - place);
         bytes::copy(&s[..n], &mut table[place..]);
     }
 }

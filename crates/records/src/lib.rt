@@ -1,5 +1,6 @@
 // Label records (DSCBs) built: bytes put at their places, where the record stands, and formats 4 and 5 whole. The formats of data
 // sets are in the crate labels.
+use fields::places::*;
 use forms::Geometry;
 ghost use mathlib.Core.Path.{_≡_};
 ghost use mathlib.Core.List.{[]};
@@ -161,7 +162,7 @@ pub fn blank(n: usize, v: u8, id: u8) -> [u8; 140]
 {
     let mut r = [0u8; 140];
     put_same(&mut r, 0, n, v);
-    r[44] = id;
+    r[DS1FMTID] = id;
     r
 }
 
@@ -172,28 +173,28 @@ pub fn four(g: Geometry, highest: usize, empty: usize) -> [u8; 140]
     requires { ⌜ (highest < slots (geometryOf g)) × (empty < 65536) × Limits (geometryOf g) ⌝ }
     ensures { λ r. ⌜ r ≡ format4 (geometryOf g) highest empty ⌝ }
 {
-    let mut r = blank(44, 0x04, 0xF4);
-    put_link(&mut r, 45, g, highest); // DS4HPCHR
-    put_two(&mut r, 50, empty as u32); // DS4DSREC
-    r[59] = 0x01; // DS4NOEXT
-    put_two(&mut r, 62, g.cylinders); // DS4DEVSZ
-    put_two(&mut r, 64, g.heads);
-    r[74] = g.records as u8; // DS4DEVDT
-    put_extent(&mut r, 105, g, 0, 0x01, g.vtoc_start, g.vtoc_tracks); // DS4VTOCE
+    let mut r = blank(DS4IDFMT, 0x04, FORMAT4);
+    put_link(&mut r, DS4HPCHR, g, highest);
+    put_two(&mut r, DS4DSREC, empty as u32);
+    r[DS4NOEXT] = 0x01;
+    put_two(&mut r, DS4DEVSZ, g.cylinders);
+    put_two(&mut r, HEADS, g.heads);
+    r[DS4DEVDT] = g.records as u8;
+    put_extent(&mut r, DS4VTOCE, g, 0, 0x01, g.vtoc_start, g.vtoc_tracks);
     r
 }
 
 // ---- format 5
 
-// Where entry j stands: 8 from byte 4, 18 from byte 45.
+// Where entry j stands: there are 8 before the identifier, 18 behind it.
 pub fn entry_place(j: usize) -> usize
     requires { ⌜ j < 26 ⌝ }
     ensures { λ r. ⌜ (r ≡ entryPlace j) × (r + 4 < 140) ⌝ }
 {
     if j < 8 {
-        return 4 + 5 * j;
+        return DS5AVEXT + 5 * j;
     }
-    45 + 5 * (j - 8)
+    DS5MAVET + 5 * (j - 8)
 }
 
 // The format 5 that has no entry, with slot k as the next one, 0 for none.
@@ -201,8 +202,8 @@ fn empty_five(g: Geometry, k: usize) -> [u8; 140]
     requires { ⌜ (k < slots (geometryOf g)) × Limits (geometryOf g) ⌝ }
     ensures { λ r. ⌜ r ≡ format5 (geometryOf g) [] k ⌝ }
 {
-    let mut r = blank(4, 0x05, 0xF5);
-    put_link(&mut r, 135, g, k); // DS5PTRDS
+    let mut r = blank(DS5AVEXT, 0x05, FORMAT5);
+    put_link(&mut r, DS5PTRDS, g, k);
     r
 }
 

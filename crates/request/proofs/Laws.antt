@@ -1,11 +1,11 @@
 -- What a caller reads off a reply: refused or not, and what the pieces are. Assumes nothing.
 use mathlib.Core.Path.{_≡_, refl, sym, ap, _∙_, subst}
-use mathlib.Core.Bool.{Bool, true, false, cond}
+use mathlib.Core.Bool.{Bool, true, false, _&&_, cond}
 use mathlib.Core.Option.{Option, none, some}
 use mathlib.Core.List.{List, [], _∷_, _++_, map}
 use Prim.Native.Nat.{ℕ, zero, suc, _+_, _≤_}
 use native.Mathlib.Omega.{arith}
-use lib.Dec.{eqb}
+use lib.Dec.{eqb, leb}
 use lib.ListN.{length, drop, take, length-map}
 use lib.Seq.{take-all, take-append-le}
 use Rattle.model.specs.Basics.{all, bit, mapOption, upFrom}
@@ -24,6 +24,10 @@ use Rattle.request.specs.Request.{piecesOf, typeOf}
 use Rattle.request.proofs.Granting.{runs-back}
 
 -- ---- what may be asked for
+
+-- the answer about a place, where the number t of tracks was computed
+pub on-volume : (start n secondary t t′ : ℕ) (r : Bool) → t ≡ t′ → r ≡ (leb 1 n && leb (start + n) t && eqb secondary 0) → r ≡ (leb 1 n && leb (start + n) t′ && eqb secondary 0)
+on-volume start n secondary t t′ r e h = subst (λ (u : ℕ). r ≡ (leb 1 n && leb (start + n) u && eqb secondary 0)) e h
 
 -- 7 for an unknown kind
 pub unknown-kind : (kind start n : ℕ) → 3 ≤ kind → amountOf kind start n ≡ none

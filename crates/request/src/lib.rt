@@ -95,9 +95,7 @@ pub fn in_range(request: Request, g: Geometry) -> bool
     match amount {
         Amount::Tracks(n) => counts_ok(n, request.secondary),
         Amount::Cylinders(n) => counts_ok(n, request.secondary),
-        Amount::Absolute(start, n) => {
-            place_ok(start, n, request.secondary, g.cylinders * g.heads)
-        }
+        Amount::Absolute(start, n) => { place_ok(start, n, request.secondary, forms::tracks(g)) }
     }
 }
 

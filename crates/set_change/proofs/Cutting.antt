@@ -126,8 +126,8 @@ sum-next g es e s c all x before =
     let f = ap (λ (r : Run). r .count) (x .over) in
     omega arith
 
-pub spread-none : (n : ℕ) → Spreads n [] 0 n
-spread-none n = record { sum = refl; lowIn = omega arith; lowest = λ t u. refl }
+pub spread-none : (n low : ℕ) → low ≡ n → Spreads n [] 0 low
+spread-none n low e = record { sum = refl; lowIn = omega (arith, e); lowest = λ t u. refl }
 
 pub spread-next : (g : Geometry) (es : List Extent) (e s c all low low′ : ℕ) → At g es e s c → low′ ≡ min low s
     → Spreads (tracks g) (take e es) all low → Spreads (tracks g) (take (e + 1) es) (all + c) low′

@@ -33,8 +33,8 @@ fn piece_at(pieces: [[u16; 2]; 5], k: usize) -> Tracks
     requires { ⌜ k < 5 ⌝ }
     ensures { λ r. ⌜ (r .start ≡ getD (getD pieces k []) 0 0) × (r .count ≡ getD (getD pieces k []) 1 0) × (r .start < 65536) × (r .count < 65536) ⌝ }
 {
-    let start = grant::wide(pieces[k][0]);
-    let count = grant::wide(pieces[k][1]);
+    let start = fields::wide16(pieces[k][0]);
+    let count = fields::wide16(pieces[k][1]);
     Tracks { start, count }
 }
 
@@ -137,7 +137,7 @@ pub fn spread_of<'a>(f1: &'a [u8], f3: &'a [u8], n: usize, g: forms::Geometry) -
     ensures { λ r. ⌜ Spreads (tracks (geometryOf g)) (extentsIn (geometryOf g) (now (f1 .entry)) (now (f3 .entry)) n) (r .all) (r .lowest) ⌝ }
 {
     let mut all: u32 = 0;
-    let mut lowest = g.cylinders * g.heads;
+    let mut lowest = forms::tracks(g);
     let mut e: usize = 0;
     while e < n {
         let x = extent_at(f1, f3, e, g.heads);

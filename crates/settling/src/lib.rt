@@ -58,13 +58,6 @@ pub fn take_slots(empty: &mut [u64], n: usize, into: &mut [u16], a: usize, b: us
     }
 }
 
-// A slot of a chain as a number.
-fn wide(k: u16) -> usize
-    ensures { λ r. ⌜ (r ≡ k) × (r < 65536) ⌝ }
-{
-    k as usize
-}
-
 // Makes the slots that stand from a up to b free.
 pub fn give_slots(empty: &mut [u64], chain: &[u16], a: usize, b: usize)
     requires { ⌜ (b ≤ length (now chain)) × All (λ k. k < 64 * length (now empty)) (slice a b (now chain)) ⌝ }
@@ -72,7 +65,7 @@ pub fn give_slots(empty: &mut [u64], chain: &[u16], a: usize, b: usize)
 {
     let mut i = a;
     while i < b {
-        let k = wide(chain[i]);
+        let k = fields::index(chain[i]);
         tracks::give_range(empty, k, k + 1);
         i += 1;
     }
@@ -96,7 +89,7 @@ pub fn read_chain(table: &[u8], g: Geometry, chain: &mut [u16]) -> usize
     requires { ⌜ Limits (geometryOf g) × (length (now table) ≡ 140 * slots (geometryOf g)) × (slots (geometryOf g) ≤ length (now chain)) ⌝ }
     ensures { λ r. ⌜ Chained (geometryOf g) (now (table .entry)) (now (chain .entry)) (now (chain .exit)) r ⌝ }
 {
-    let n = (g.vtoc_tracks * g.records) as usize;
+    let n = forms::slots(g);
     let mut k: usize = 1;
     let mut i: usize = 0;
     while i < n {
@@ -105,7 +98,7 @@ pub fn read_chain(table: &[u8], g: Geometry, chain: &mut [u16]) -> usize
         }
         chain[i] = k as u16;
         let rec = fields::record_at(table, k);
-        k = fields::slot_of(&rec[135..140], g.heads, g.records, g.vtoc_start, n);
+        k = forms::link(rec, g);
         i += 1;
     }
     i

@@ -1,4 +1,5 @@
 // The slots of a table that nothing uses, and the highest slot of a label.
+use fields::places::*;
 use fields::*;
 use tracks::*;
 ghost use mathlib.Core.Path.{_≡_};
@@ -44,7 +45,7 @@ pub fn highest(table: &[u8], n: usize) -> usize
     while 0 < k {
         k -= 1;
         let rec = fields::record_at(table, k);
-        if rec[44] == 0xF1 {
+        if rec[DS1FMTID] == FORMAT1 {
             return k;
         }
     }

@@ -1,4 +1,5 @@
 // The labels of a table, slot by slot: tested, their names compared, and taken out of the maps of free tracks and slots.
+use fields::places::*;
 use forms::Geometry;
 ghost use mathlib.Core.Path.{_≡_};
 ghost use mathlib.Core.Bool.{false};
@@ -17,7 +18,7 @@ fn look(table: &[u8], k: usize, g: Geometry, map: &mut [u64], empty: &mut [u64])
     ensures { λ r. ⌜ Looked (geometryOf g) (now (table .entry)) k (now (map .entry)) (now (map .exit)) (now (empty .entry)) (now (empty .exit)) r ⌝ }
 {
     let rec = fields::record_at(table, k);
-    if rec[44] != 0xF1 {
+    if rec[DS1FMTID] != FORMAT1 {
         return true;
     }
     label_check::take_label(table, k, g, map, empty)
@@ -29,7 +30,7 @@ pub fn take_labels(table: &[u8], g: Geometry, map: &mut [u64], empty: &mut [u64]
     requires { ⌜ Limits (geometryOf g) × (length (now table) ≡ 140 * slots (geometryOf g)) × (isLabel (slotBytes (now table) 0) ≡ false) × (tracks (geometryOf g) ≤ 64 * length (now map)) × (length (now empty) ≡ 8) ⌝ }
     ensures { λ r. ⌜ LabelsTaken (geometryOf g) (now (table .entry)) (slots (geometryOf g)) (now (map .entry)) (now (map .exit)) (now (empty .entry)) (now (empty .exit)) r ⌝ }
 {
-    let n = (g.vtoc_tracks * g.records) as usize;
+    let n = forms::slots(g);
     let mut tags = [0u16; 468];
     let mut seen = [0u64; 64];
     let mut k: usize = 1;

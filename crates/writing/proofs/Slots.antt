@@ -1,5 +1,5 @@
 -- The loops that write slots, turn by turn. Assumes nothing.
-use mathlib.Core.Path.{_≡_, refl, sym, ap, ap₂, _∙_}
+use mathlib.Core.Path.{_≡_, refl, sym, ap, ap₂, _∙_, subst}
 use mathlib.Core.List.{List, [], _∷_, _++_}
 use Prim.Native.Nat.{ℕ, zero, suc, _+_, _-_, _*_, _≤_, _<_}
 use native.Mathlib.Numerals.{add-one}
@@ -140,6 +140,10 @@ module _ (g : Geometry) (m ks t₀ t : List ℕ) (from start at i : ℕ) (s : Ch
           ∙ one-more g t (chainEntry ks i) (drop (i + 1) ks) free
           ∙ ap (λ (x : List ℕ). fivesPut g t (fives x free)) (sym first)
           ∙ s .rest
+
+-- a record of the chain, where the number t of tracks and the next slot k were computed
+pub fills-told : (g : Geometry) (m : List ℕ) (t t′ at k k′ : ℕ) (made : List ℕ) (next : ℕ) → t ≡ t′ → k ≡ k′ → Fills g m t at k made next → Fills g m t′ at k′ made next
+fills-told g m t t′ at k k′ made next e h f = subst (λ (j : ℕ). Fills g m t′ at j made next) h (subst (λ (n : ℕ). Fills g m n at k made next) e f)
 
 pub chain-end : (g : Geometry) (m ks t₀ t : List ℕ) (from start at i : ℕ) → Chaining g m ks t₀ t from start at i → length ks ≤ i
     → t ≡ fivesPut g t₀ (fives (drop from ks) (freeFrom m (tracks g) start))

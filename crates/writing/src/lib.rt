@@ -1,4 +1,5 @@
 // Slots of a table written: zeros, a label's records, the chain of format 5s, the format 4.
+use fields::places::*;
 use forms::Geometry;
 ghost use mathlib.Core.Path.{_≡_};
 ghost use Prim.Native.Nat.{_+_, _*_, _≤_, _<_};
@@ -13,13 +14,6 @@ ghost use Rattle.forms.specs.Forms.{geometryOf};
 ghost use Rattle.labels.specs.Labels.{Format1};
 ghost use Rattle.writing.specs.Writing.{Reached, chainEntry, cleared, fivesPut, fourPut, labelPut};
 
-// A slot's number as an index.
-fn wide(k: u16) -> usize
-    ensures { λ r. ⌜ r ≡ k ⌝ }
-{
-    k as usize
-}
-
 // Puts zeros into the slots that stand in the list from place a up to place b.
 pub fn clear(table: &mut [u8], list: &[u16], a: usize, b: usize)
     requires { ⌜ (b ≤ length (now list)) × All (λ k. 140 * k + 140 ≤ length (now table)) (slice a b (now list)) ⌝ }
@@ -28,7 +22,7 @@ pub fn clear(table: &mut [u8], list: &[u16], a: usize, b: usize)
     let zeros = [0u8; 140];
     let mut i = a;
     while i < b {
-        fields::put_record(table, wide(list[i]), &zeros);
+        fields::put_record(table, fields::index(list[i]), &zeros);
         i += 1;
     }
 }
@@ -70,7 +64,7 @@ fn member(chain: &[u16], i: usize, n: usize) -> usize
     ensures { λ r. ⌜ r ≡ chainEntry (take n (now (chain .entry))) i ⌝ }
 {
     if i < n {
-        return wide(chain[i]);
+        return fields::index(chain[i]);
     }
     0
 }
@@ -91,7 +85,7 @@ pub fn begin(table: &[u8], g: Geometry, chain: &[u16], n: usize, lo: usize) -> P
     let mut i: usize = 0;
     while i + 1 < n {
         let rec = fields::record_at(table, member(chain, i + 1, n));
-        let start = fields::two(rec, 4) as usize;
+        let start = fields::two(rec, DS5AVEXT) as usize;
         if start > lo {
             return Place { from: i, at };
         }
@@ -116,7 +110,7 @@ pub fn put_chain(
     requires { ⌜ (n ≤ length (now chain)) × All (λ k. k < slots (geometryOf g)) (take n (now chain)) × (from ≤ n) × (start ≤ tracks (geometryOf g)) ⌝ }
     ensures { λ _. ⌜ now (table .exit) ≡ fivesPut (geometryOf g) (now (table .entry)) (fives (drop from (take n (now (chain .entry)))) (freeFrom (now (map .entry)) (tracks (geometryOf g)) start)) ⌝ }
 {
-    let t = (g.cylinders * g.heads) as usize;
+    let t = forms::tracks(g) as usize;
     let mut at = start;
     let mut i = from;
     while i < n {
@@ -133,7 +127,7 @@ pub fn put_four(table: &mut [u8], g: Geometry, empty: usize)
     requires { ⌜ Limits (geometryOf g) × (length (now table) ≡ 140 * slots (geometryOf g)) × (empty < 65536) ⌝ }
     ensures { λ _. ⌜ now (table .exit) ≡ fourPut (geometryOf g) (now (table .entry)) empty ⌝ }
 {
-    let highest = spare::highest(table, (g.vtoc_tracks * g.records) as usize);
+    let highest = spare::highest(table, forms::slots(g));
     let four = records::four(g, highest, empty);
     fields::put_record(table, 0, &four);
 }

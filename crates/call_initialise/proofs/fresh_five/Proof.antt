@@ -27,8 +27,8 @@ put-some-requires c κs = search needs
 slice-aggregate-put-some-2 : tie.Need-slice-aggregate-put-some-2
 slice-aggregate-put-some-2 c = search needs
 
-mul-put-some : tie.Need-mul-put-some
-mul-put-some c = search needs
+tracks-requires : tie.Need-tracks-requires
+tracks-requires c κs = search needs
 
 sub-put-some-2 : tie.Need-sub-put-some-2
 sub-put-some-2 c = search needs
@@ -46,7 +46,7 @@ returns c =
     let at-put-some = c .before .before .before .before .before in
     let at-blank = at-put-some .before .before .before .before in
     let top = at-blank .before in
-    both (geometryOf (top .args .g)) (top .pre) (at-blank .blank .result) _ _ (at-put-some .put-some .result) (c .before .put-some2 .result) (at-blank .blank .ensures) (at-put-some .put-some .ensures) (c .before .put-some2 .ensures)
+    both (geometryOf (top .args .g)) (top .pre) (at-blank .blank .result) _ _ (at-put-some .put-some .result) (c .before .put-some2 .result) (c .before .before .tracks .result) (at-blank .blank .ensures) (at-put-some .put-some .ensures) (c .before .before .tracks .ensures .0) (c .before .put-some2 .ensures)
 
 pub fresh-five-spec : {M : Type 1} → statement M
 fresh-five-spec =
@@ -58,7 +58,7 @@ fresh-five-spec =
     sub-put-some
     put-some-requires
     slice-aggregate-put-some-2
-    mul-put-some
+    tracks-requires
     sub-put-some-2
     put-some-requires-2
     returns)

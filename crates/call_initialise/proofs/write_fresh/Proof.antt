@@ -1,7 +1,8 @@
 use Rattle.call_initialise.proofs.Laws.{fresh-written}
 use Rattle.forms.specs.Forms.{geometryOf}
 use lib.ListN.{length}
-use mathlib.Core.Path.{_≡_, refl}
+use mathlib.Core.Path.{_≡_, ap}
+use Prim.Native.Nat.{ℕ, _-_}
 use borrow.Author.Needs.{needs}
 use Rattle.call_initialise.proofs.write_fresh.Statement.{statement}
 use Rattle.call_initialise.proofs.write_fresh.Tie as tie
@@ -15,11 +16,8 @@ fresh-five-requires c κs = search needs
 put-record-requires : tie.Need-put-record-requires
 put-record-requires c κs = search needs
 
-mul-four : tie.Need-mul-four
-mul-four c = search needs
-
-cast-four : tie.Need-cast-four
-cast-four c = search needs
+slots-requires : tie.Need-slots-requires
+slots-requires c κs = search needs
 
 sub-four : tie.Need-sub-four
 sub-four c = search needs
@@ -35,9 +33,16 @@ same-length c = search needs
 
 returns : tie.Need-returns
 returns c =
-    let n : length (c .before .before .before .before .before .before .before .before .before .before .before .before .fresh-five .result) ≡ 140 = search needs in
-    let m : length (c .before .before .before .before .before .four .result) ≡ 140 = search needs in
-    fresh-written (geometryOf (c .before .before .before .before .before .before .before .before .before .before .before .before .before .before .before .before .before .before .args .g)) (c .before .before .before .before .before .before .before .before .before .before .before .before .before .before .before .before .before .before .pre .0) (c .before .before .before .before .before .before .before .before .before .before .before .before .before .before .before .before .before .before .args .table .now) _ _ _ (c .before .before .before .before .before .before .before .before .before .before .before .before .fresh-five .result) (c .before .before .before .before .before .four .result) _ (c .before .before .before .before .before .before .before .before .before .before .before .before .before .before .before .before .before .before .pre .1) (c .before .before .before .before .before .before .before .before .before .before .before .before .before .before .before .erase .ensures) (c .before .before .before .before .before .before .before .before .before .before .before .before .fresh-five .ensures) n (c .before .before .before .before .before .before .before .before .before .put-record .ensures) refl (c .before .before .before .before .before .four .ensures) m (c .before .before .put-record2 .ensures)
+    let at-four = c .before .before .before .before .before in
+    let at-slots = at-four .before in
+    let at-put-record = at-slots .before .before .before in
+    let at-fresh-five = at-put-record .before .before .before in
+    let at-erase = at-fresh-five .before .before .before in
+    let top = at-erase .before .before .before in
+    let n : length (at-fresh-five .fresh-five .result) ≡ 140 = search needs in
+    let m : length (at-four .four .result) ≡ 140 = search needs in
+    fresh-written (geometryOf (top .args .g)) (top .pre .0) (top .args .table .now) _ _ _ (at-fresh-five .fresh-five .result) (at-four .four .result) _ (top .pre .1) (at-erase .erase .ensures) (at-fresh-five .fresh-five .ensures) n (at-put-record .put-record .ensures)
+    (ap (λ (k : ℕ). k - 2) (at-slots .slots .ensures .0)) (at-four .four .ensures) m (c .before .before .put-record2 .ensures)
 
 pub write-fresh-spec : {M : Type 1} → statement M
 write-fresh-spec =
@@ -46,8 +51,7 @@ write-fresh-spec =
     erase-requires
     fresh-five-requires
     put-record-requires
-    mul-four
-    cast-four
+    slots-requires
     sub-four
     four-requires
     put-record-requires-2

@@ -26,11 +26,8 @@ Inv-loop table g s₀ k₀ left₀ s k left =
 abbrev μ-loop : tie.MeasureT-loop
 μ-loop table g s₀ k₀ left₀ s k left = left
 
-mul-left : tie.Need-mul-left Inv-loop μ-loop
-mul-left c = search needs
-
-cast-left : tie.Need-cast-left Inv-loop μ-loop
-cast-left c = search needs
+slots-requires : tie.Need-slots-requires Inv-loop μ-loop
+slots-requires c κs = search needs
 
 loop-holds : tie.Need-loop-holds Inv-loop μ-loop
 loop-holds c =
@@ -39,7 +36,7 @@ loop-holds c =
       omega (arith, p .0 .least),
       omega arith,
       record { cylinders = omega arith; odd = omega arith; many = omega arith; long = omega arith },
-      λ f x. going-all (geometryOf (a .g)) (a .table .now) _ f x (λ r y. y),
+      λ f x. going-all (geometryOf (a .g)) (a .table .now) _ (c .slots .result) (c .slots .ensures .0) f x (λ r y. y),
     )
 
 returns : tie.Need-returns Inv-loop μ-loop
@@ -101,8 +98,7 @@ add-all-spec =
     (tie.spec
     Inv-loop
     μ-loop
-    mul-left
-    cast-left
+    slots-requires
     loop-holds
     returns
     record-at-requires

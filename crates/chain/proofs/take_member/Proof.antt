@@ -5,14 +5,13 @@ use mathlib.Core.Bool.{true}
 use lib.ListN.{length}
 use native.Mathlib.Omega.{arith}
 use Rattle.model.specs.Basics.{part}
-use Rattle.model.specs.Model.{slots, tracks}
-use Rattle.forms.specs.Forms.{geometryOf}
-use Rattle.fields.specs.Tests.{allAre, slotNamed}
+use Rattle.model.specs.Model.{tracks}
+use Rattle.forms.specs.Forms.{geometryOf, linkedSlot}
+use Rattle.fields.specs.Tests.{allAre}
 use Rattle.fields.specs.Records.{slotBytes}
-use Rattle.fields.proofs.Slots.{length-part}
 use Rattle.chain.specs.Entries.{linkOk}
 use Rattle.chain.proofs.Entries.{listed-at}
-use Rattle.chain.proofs.Laws.{held-bad, held-hit, held-last, held-more}
+use Rattle.chain.proofs.Laws.{held-bad, held-hit, held-last, held-more, none-left, some-left}
 use borrow.Author.Needs.{needs}
 use Rattle.chain.proofs.take_member.Statement.{statement}
 use Rattle.chain.proofs.take_member.Tie as tie
@@ -23,7 +22,6 @@ use Rattle.chain.proofs.is_linked.Reads as is-linked-reads
 use Rattle.chain.proofs.refused.Reads as refused-reads
 use Rattle.fields.proofs.part_is.Reads as part-is-reads
 use Rattle.fields.proofs.record_at.Reads as record-at-reads
-use Rattle.fields.proofs.slot_of.Reads as slot-of-reads
 use Rattle.tracks.proofs.next_run.Reads as next-run-reads
 use Rattle.tracks.proofs.take_range.Reads as take-range-reads
 
@@ -45,8 +43,8 @@ returns c =
     let top = at-take-range .before .before .before .before .before in
     held-hit (geometryOf (top .args .g)) (top .args .table .now) (top .args .map .now) _ (top .args .k) (top .args .empty .now) _ _ (top .pre .2) (at-take-range .take-range .result) (c .before .if1 .left) (at-take-range .take-range .ensures) (c .refused .ensures)
 
-mul-t : tie.Need-mul-t
-mul-t c = search needs
+tracks-requires : tie.Need-tracks-requires
+tracks-requires c κs = search needs
 
 cast-t : tie.Need-cast-t
 cast-t c = search needs
@@ -65,17 +63,21 @@ same-length-2 c = search needs
 
 returns-2 : tie.Need-returns-2
 returns-2 c =
-    let at-record-at = c .before .before .before in
-    let at-if1 = at-record-at .before .before in
+    let at-compare = c .before .before in
+    let at-record-at = at-compare .before in
+    let at-tracks = at-record-at .before in
+    let at-if1 = at-tracks .before in
     let at-take-range = at-if1 .before .before .before in
     let top = at-take-range .before .before .before .before .before in
-    held-bad (geometryOf (top .args .g)) (top .pre .0) (top .args .table .now) (top .args .map .now) (top .args .at) (top .args .k) (top .args .empty .now) _ (at-take-range .take-range .result) (at-if1 .if1 .taken) (at-take-range .take-range .ensures)
-    _ (at-record-at .record-at .result .now) (c .before .before .compare .result .ok) (c .before .before .compare .result .next) (at-record-at .record-at .ensures .0) (c .before .before .compare .ensures) (c .before .if2 .left) (c .refused2 .ensures)
+    let g = geometryOf (top .args .g) in
+    held-bad g (top .pre .0) (top .args .table .now) (top .args .map .now) (top .args .at) (top .args .k) (top .args .empty .now) _ (at-take-range .take-range .result) (at-if1 .if1 .taken) (at-take-range .take-range .ensures)
+    _ (at-record-at .record-at .result .now) (at-compare .compare .result .ok) (at-compare .compare .result .next) (at-record-at .record-at .ensures .0)
+    (listed-at g (top .args .map .now) (at-tracks .tracks .result) (tracks g) (top .args .at) _ _ _ _ (at-compare .compare .result .next) (at-tracks .tracks .ensures .0) refl refl (at-compare .compare .ensures)) (c .before .if2 .left) (c .refused2 .ensures)
 
 next-run-requires : tie.Need-next-run-requires
 next-run-requires c κs =
     let top = c .before .before .before .before .before .before .before .before .before .before .before .before in
-    (c .before .compare .ensures .upTo (c .if2 .taken), top .pre .4)
+    (c .before .compare .ensures .upTo (c .if2 .taken), omega (arith, c .before .before .before .tracks .ensures .0, top .pre .4))
 
 part-is-requires : tie.Need-part-is-requires
 part-is-requires c κs = search needs
@@ -89,32 +91,20 @@ returns-3 c =
     let at-if2 = at-next-run .before in
     let at-compare = at-if2 .before in
     let at-record-at = at-compare .before in
-    let at-if1 = at-record-at .before .before in
+    let at-tracks = at-record-at .before in
+    let at-if1 = at-tracks .before in
     let at-take-range = at-if1 .before .before .before in
     let at-shared-slice-known = at-take-range .before .before .before .before in
     let top = at-shared-slice-known .before in
-    held-last (geometryOf (top .args .g)) (top .pre .0) (top .args .table .now) (top .args .map .now) (top .args .at) (top .args .k) (top .args .empty .now) _ (at-take-range .take-range .result) (at-if1 .if1 .taken) (at-take-range .take-range .ensures)
+    let g = geometryOf (top .args .g) in
+    held-last g (top .pre .0) (top .args .table .now) (top .args .map .now) (top .args .at) (top .args .k) (top .args .empty .now) _ (at-take-range .take-range .result) (at-if1 .if1 .taken) (at-take-range .take-range .ensures)
     (λ j. at-shared-slice-known .shared-slice-known .given j .fits) (sym (ap length (at-record-at .record-at .ensures .0)) ∙ at-record-at .record-at .ensures .1) (at-compare .compare .result .next)
-    (listed-at (geometryOf (top .args .g)) (top .args .map .now) (tracks (geometryOf (top .args .g))) (top .args .at) (at-record-at .record-at .result .now) (slotBytes (top .args .table .now) (top .args .k)) (at-compare .compare .result .ok) true (at-compare .compare .result .next) (at-record-at .record-at .ensures .0) (at-if2 .if2 .taken) (at-compare .compare .ensures))
-    _ (at-next-run .next-run .ensures .done (c .before .if3 .taken)) (c .part-is .ensures ∙ ap (λ (x : List ℕ). allAre 0 (part 135 5 x)) (at-record-at .record-at .ensures .0)) refl refl refl
+    (listed-at g (top .args .map .now) (at-tracks .tracks .result) (tracks g) (top .args .at) (at-record-at .record-at .result .now) (slotBytes (top .args .table .now) (top .args .k)) (at-compare .compare .result .ok) true (at-compare .compare .result .next) (at-tracks .tracks .ensures .0) (at-record-at .record-at .ensures .0) (at-if2 .if2 .taken) (at-compare .compare .ensures))
+    _ (none-left (top .args .map .now) (at-tracks .tracks .result) (tracks g) (at-compare .compare .result .next) (at-next-run .next-run .result .from) (at-next-run .next-run .result .to) (at-tracks .tracks .ensures .0) (at-next-run .next-run .ensures) (c .before .if3 .taken))
+    (c .part-is .ensures ∙ ap (λ (x : List ℕ). allAre 0 (part 135 5 x)) (at-record-at .record-at .ensures .0)) refl refl refl
 
-mul-n : tie.Need-mul-n
-mul-n c = search needs
-
-cast-n : tie.Need-cast-n
-cast-n c = search needs
-
-sub-slot-of : tie.Need-sub-slot-of
-sub-slot-of c = search needs
-
-part-slot-of-start : tie.Need-part-slot-of-start
-part-slot-of-start c = search needs
-
-part-slot-of-end : tie.Need-part-slot-of-end
-part-slot-of-end c = search needs
-
-slot-of-requires : tie.Need-slot-of-requires
-slot-of-requires c κs = (length-part 135 5 (c .before .before .before .before .before .before .before .record-at .result .now) (omega (arith, c .before .before .before .before .before .before .before .record-at .ensures .1)), c .before .before .before .before .before .before .before .before .before .before .before .before .before .before .before .before .before .pre .0 .headsMost, c .before .before .before .before .before .before .before .before .before .before .before .before .before .before .before .before .before .pre .0 .recordsMost)
+link-requires : tie.Need-link-requires
+link-requires c κs = search needs
 
 is-linked-requires : tie.Need-is-linked-requires
 is-linked-requires c κs = search needs
@@ -124,12 +114,23 @@ same-length-4 c = search needs
 
 returns-4 : tie.Need-returns-4
 returns-4 c =
-    held-more (geometryOf (c .before .before .before .before .before .before .before .before .before .before .before .before .before .before .before .before .before .before .before .args .g)) (c .before .before .before .before .before .before .before .before .before .before .before .before .before .before .before .before .before .before .before .pre .0) (c .before .before .before .before .before .before .before .before .before .before .before .before .before .before .before .before .before .before .before .args .table .now) (c .before .before .before .before .before .before .before .before .before .before .before .before .before .before .before .before .before .before .before .args .map .now) (c .before .before .before .before .before .before .before .before .before .before .before .before .before .before .before .before .before .before .before .args .at) (c .before .before .before .before .before .before .before .before .before .before .before .before .before .before .before .before .before .before .before .args .k) (c .before .before .before .before .before .before .before .before .before .before .before .before .before .before .before .before .before .before .before .args .empty .now) _ (c .before .before .before .before .before .before .before .before .before .before .before .before .before .before .take-range .result) (c .before .before .before .before .before .before .before .before .before .before .before .if1 .taken) (c .before .before .before .before .before .before .before .before .before .before .before .before .before .before .take-range .ensures)
-    (λ j. c .before .before .before .before .before .before .before .before .before .before .before .before .before .before .before .before .before .before .shared-slice-known .given j .fits) (sym (ap length (c .before .before .before .before .before .before .before .before .before .record-at .ensures .0)) ∙ c .before .before .before .before .before .before .before .before .before .record-at .ensures .1) (c .before .before .before .before .before .before .before .before .compare .result .next)
-    (listed-at (geometryOf (c .before .before .before .before .before .before .before .before .before .before .before .before .before .before .before .before .before .before .before .args .g)) (c .before .before .before .before .before .before .before .before .before .before .before .before .before .before .before .before .before .before .before .args .map .now) (tracks (geometryOf (c .before .before .before .before .before .before .before .before .before .before .before .before .before .before .before .before .before .before .before .args .g))) (c .before .before .before .before .before .before .before .before .before .before .before .before .before .before .before .before .before .before .before .args .at) (c .before .before .before .before .before .before .before .before .before .record-at .result .now) (slotBytes (c .before .before .before .before .before .before .before .before .before .before .before .before .before .before .before .before .before .before .before .args .table .now) (c .before .before .before .before .before .before .before .before .before .before .before .before .before .before .before .before .before .before .before .args .k)) (c .before .before .before .before .before .before .before .before .compare .result .ok) true (c .before .before .before .before .before .before .before .before .compare .result .next) (c .before .before .before .before .before .before .before .before .before .record-at .ensures .0) (c .before .before .before .before .before .before .before .if2 .taken) (c .before .before .before .before .before .before .before .before .compare .ensures))
-    _ _ _ (c .before .before .before .before .before .before .next-run .ensures .more (omega (arith, c .before .before .before .before .if3 .left)) .1)
-    (c .before .slot-of .ensures ∙ ap (λ (x : List ℕ). slotNamed (c .before .before .before .before .before .before .before .before .before .before .before .before .before .before .before .before .before .before .before .args .g .heads) (c .before .before .before .before .before .before .before .before .before .before .before .before .before .before .before .before .before .before .before .args .g .records) (c .before .before .before .before .before .before .before .before .before .before .before .before .before .before .before .before .before .before .before .args .g .«vtoc_start») (slots (geometryOf (c .before .before .before .before .before .before .before .before .before .before .before .before .before .before .before .before .before .before .before .args .g))) (part 135 5 x)) (c .before .before .before .before .before .before .before .before .before .record-at .ensures .0))
-    (c .is-linked .ensures ∙ ap (λ (x : List ℕ). linkOk (c .before .slot-of .result) (part 135 5 x)) (c .before .before .before .before .before .before .before .before .before .record-at .ensures .0)) refl refl
+    let at-link = c .before in
+    let at-next-run = at-link .before .before .before in
+    let at-if2 = at-next-run .before in
+    let at-compare = at-if2 .before in
+    let at-record-at = at-compare .before in
+    let at-tracks = at-record-at .before in
+    let at-if1 = at-tracks .before in
+    let at-take-range = at-if1 .before .before .before in
+    let at-shared-slice-known = at-take-range .before .before .before .before in
+    let top = at-shared-slice-known .before in
+    let g = geometryOf (top .args .g) in
+    held-more g (top .pre .0) (top .args .table .now) (top .args .map .now) (top .args .at) (top .args .k) (top .args .empty .now) _ (at-take-range .take-range .result) (at-if1 .if1 .taken) (at-take-range .take-range .ensures)
+    (λ j. at-shared-slice-known .shared-slice-known .given j .fits) (sym (ap length (at-record-at .record-at .ensures .0)) ∙ at-record-at .record-at .ensures .1) (at-compare .compare .result .next)
+    (listed-at g (top .args .map .now) (at-tracks .tracks .result) (tracks g) (top .args .at) (at-record-at .record-at .result .now) (slotBytes (top .args .table .now) (top .args .k)) (at-compare .compare .result .ok) true (at-compare .compare .result .next) (at-tracks .tracks .ensures .0) (at-record-at .record-at .ensures .0) (at-if2 .if2 .taken) (at-compare .compare .ensures))
+    _ _ _ (some-left (top .args .map .now) (at-tracks .tracks .result) (tracks g) (at-compare .compare .result .next) (at-next-run .next-run .result .from) (at-next-run .next-run .result .to) (at-tracks .tracks .ensures .0) (at-next-run .next-run .ensures) (omega (arith, c .before .before .if3 .left)))
+    (at-link .link .ensures .0 ∙ ap (λ (x : List ℕ). linkedSlot g x) (at-record-at .record-at .ensures .0))
+    (c .is-linked .ensures ∙ ap (λ (x : List ℕ). linkOk (at-link .link .result) (part 135 5 x)) (at-record-at .record-at .ensures .0)) refl refl
 
 pub take-member-spec : {M : Type 1} → statement M
 take-member-spec =
@@ -140,7 +141,7 @@ take-member-spec =
     refused-requires
     same-length
     returns
-    mul-t
+    tracks-requires
     cast-t
     record-at-requires
     compare-requires
@@ -151,12 +152,7 @@ take-member-spec =
     part-is-requires
     same-length-3
     returns-3
-    mul-n
-    cast-n
-    sub-slot-of
-    part-slot-of-start
-    part-slot-of-end
-    slot-of-requires
+    link-requires
     is-linked-requires
     same-length-4
     returns-4)

@@ -14,20 +14,20 @@ abbrev μ-loop : tie.MeasureT-loop
 loop-holds : tie.Need-loop-holds Inv-loop μ-loop
 loop-holds c = (omega arith, counting-none (c .args .t1))
 
-mul-wide : tie.Need-mul-wide Inv-loop μ-loop
-mul-wide c = search needs
+mul-wide16 : tie.Need-mul-wide16 Inv-loop μ-loop
+mul-wide16 c = search needs
 
-index-1-wide : tie.Need-index-1-wide Inv-loop μ-loop
-index-1-wide c = search needs
+index-1-wide16 : tie.Need-index-1-wide16 Inv-loop μ-loop
+index-1-wide16 c = search needs
 
-index-2-wide : tie.Need-index-2-wide Inv-loop μ-loop
-index-2-wide c = search needs
+index-2-wide16 : tie.Need-index-2-wide16 Inv-loop μ-loop
+index-2-wide16 c = search needs
 
-wide-requires : tie.Need-wide-requires Inv-loop μ-loop
-wide-requires c κs = search needs
+wide16-requires : tie.Need-wide16-requires Inv-loop μ-loop
+wide16-requires c κs = search needs
 
 returns : tie.Need-returns Inv-loop μ-loop
-returns c = counted-here (c .before .before .before .before .loop .inv .1) (search needs) (c .before .before .before .loop-test .taken) _ (c .before .wide .ensures .0) (c .if1 .taken)
+returns c = counted-here (c .before .before .before .before .loop .inv .1) (search needs) (c .before .before .before .loop-test .taken) _ (c .before .wide16 .ensures .0) (c .if1 .taken)
 
 add-tracks : tie.Need-add-tracks Inv-loop μ-loop
 add-tracks c = search needs
@@ -39,7 +39,7 @@ loop-less : tie.Need-loop-less Inv-loop μ-loop
 loop-less c = search needs
 
 loop-again : tie.Need-loop-again Inv-loop μ-loop
-loop-again c = (search needs, counting-next (c .before .before .before .before .loop .inv .1) (search needs) (c .before .before .before .loop-test .taken) _ (c .before .wide .ensures .0) (c .if1 .left))
+loop-again c = (search needs, counting-next (c .before .before .before .before .loop .inv .1) (search needs) (c .before .before .before .loop-test .taken) _ (c .before .wide16 .ensures .0) (c .if1 .left))
 
 returns-2 : tie.Need-returns-2 Inv-loop μ-loop
 returns-2 c = counted-all (c .before .loop .inv .1) (search needs) (omega arith)
@@ -51,10 +51,10 @@ count-pieces-spec =
     Inv-loop
     μ-loop
     loop-holds
-    mul-wide
-    index-1-wide
-    index-2-wide
-    wide-requires
+    mul-wide16
+    index-1-wide16
+    index-2-wide16
+    wide16-requires
     returns
     add-tracks
     add-count

@@ -26,39 +26,36 @@ Inv-loop table g pass u amount five₀ best₀ k₀ left₀ five best k left =
 abbrev μ-loop : tie.MeasureT-loop
 μ-loop table g pass u amount five₀ best₀ k₀ left₀ five best k left = left
 
-mul-left : tie.Need-mul-left Inv-loop μ-loop
-mul-left c = search needs
-
-cast-left : tie.Need-cast-left Inv-loop μ-loop
-cast-left c = search needs
+slots-requires : tie.Need-slots-requires Inv-loop μ-loop
+slots-requires c κs = search needs
 
 loop-holds : tie.Need-loop-holds Inv-loop μ-loop
 loop-holds c =
-    let a = c .before .args in
-    let p = c .before .pre in
-    (p .1 .0, omega (arith, p .0 .0 .least), λ f x. going-all (geometryOf (a .g)) (a .table .now) _ f x (λ best five y. y))
+    let a = c .before .before .args in
+    let p = c .before .before .pre in
+    (p .1 .0, omega (arith, p .0 .0 .least), λ f x. going-all (geometryOf (a .g)) (a .table .now) _ (c .slots .result) (c .slots .ensures .0) f x (λ best five y. y))
 
 returns : tie.Need-returns Inv-loop μ-loop
 returns c =
-    let top = c .before .before .before .before in
+    let top = c .before .before .before .before .before in
     let a = top .args in
     let p = top .pre in
     let l = c .before .before .loop in
     λ f x. onwards-done (a .u) (a .amount) f (toRuns (a .five .now)) _ _ (p .1 .1) (p .0 .4) (going-none (geometryOf (a .g)) (a .table .now) _ (l .left) (l .k) (l .inv .2 f x) (c .if1 .taken))
 
 record-at-requires : tie.Need-record-at-requires Inv-loop μ-loop
-record-at-requires c κs = omega (arith, c .before .before .loop .inv .1, c .before .before .before .before .pre .0 .1)
+record-at-requires c κs = omega (arith, c .before .before .loop .inv .1, c .before .before .before .before .before .pre .0 .1)
 
 look-or-pass-requires : tie.Need-look-or-pass-requires Inv-loop μ-loop
 look-or-pass-requires c κs =
     let at-loop = c .before .before .before .before .before in
-    let top = at-loop .before .before in
+    let top = at-loop .before .before .before in
     let p = top .pre in
     (c .before .before .record-at .ensures .1, p .0 .0 .heads, p .0 .0 .headsMost, p .0 .2, p .0 .3, p .0 .4, at-loop .loop .inv .0)
 
 returns-2 : tie.Need-returns-2 Inv-loop μ-loop
 returns-2 c =
-    let top = c .before .before .before .before .before .before .before .before .before in
+    let top = c .before .before .before .before .before .before .before .before .before .before in
     let a = top .args in
     let p = top .pre in
     let l = c .before .before .before .before .before .before .before .loop in
@@ -70,7 +67,7 @@ returns-2 c =
 member-after-requires : tie.Need-member-after-requires Inv-loop μ-loop
 member-after-requires c κs =
     let at-loop = c .before .before .before .before .before .before .before in
-    let top = at-loop .before .before in
+    let top = at-loop .before .before .before in
     let p = top .pre in
     (p .0 .0, p .0 .1, at-loop .loop .inv .1)
 
@@ -82,7 +79,7 @@ loop-less c = search needs
 
 loop-again : tie.Need-loop-again Inv-loop μ-loop
 loop-again c =
-    let top = c .before .before .before .before .before .before .before .before .before .before in
+    let top = c .before .before .before .before .before .before .before .before .before .before .before in
     let a = top .args in
     let p = top .pre in
     let l = c .before .before .before .before .before .before .before .before .loop in
@@ -97,8 +94,8 @@ loop-again c =
 
 returns-3 : tie.Need-returns-3 Inv-loop μ-loop
 returns-3 c =
-    let a = c .before .before .before .args in
-    let p = c .before .before .before .pre in
+    let a = c .before .before .before .before .args in
+    let p = c .before .before .before .before .pre in
     let l = c .before .loop in
     λ f x. onwards-done (a .u) (a .amount) f (toRuns (a .five .now)) _ _ (p .1 .1) (p .0 .4) (going-end (geometryOf (a .g)) (a .table .now) _ (l .left) (l .k) (l .inv .2 f x) (omega arith))
 
@@ -108,8 +105,7 @@ survey-spec =
     (tie.spec
     Inv-loop
     μ-loop
-    mul-left
-    cast-left
+    slots-requires
     loop-holds
     returns
     record-at-requires

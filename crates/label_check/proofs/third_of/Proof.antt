@@ -1,10 +1,7 @@
-use mathlib.Core.Path.{_≡_, sym, _∙_}
+use mathlib.Core.Path.{sym, _∙_}
 use mathlib.Core.Bool.{true, false}
 use native.Mathlib.Omega.{arith}
-use Rattle.model.specs.Basics.{part}
-use Rattle.model.specs.Model.{slots}
 use Rattle.forms.specs.Forms.{geometryOf}
-use Rattle.fields.proofs.Links.{slot-below}
 use Rattle.label_check.proofs.Laws.{third-none, third-wrong, third-tested}
 use borrow.Author.Needs.{needs}
 use Rattle.label_check.proofs.third_of.Statement.{statement}
@@ -12,48 +9,30 @@ use Rattle.label_check.proofs.third_of.Tie as tie
 use Rattle.label_check.proofs.third_of.Reads as reads
 use Rattle.label_check.proofs.third_of.Lts as lts
 use Rattle.fields.proofs.record_at.Reads as record-at-reads
-use Rattle.fields.proofs.slot_of.Reads as slot-of-reads
 use Rattle.forms.proofs.three_ok.Reads as three-ok-reads
 use Rattle.label_check.proofs.unused_ok.Reads as unused-ok-reads
 
-mul-many : tie.Need-mul-many
-mul-many c = search needs
-
-cast-many : tie.Need-cast-many
-cast-many c = search needs
-
-sub-slot-of : tie.Need-sub-slot-of
-sub-slot-of c = search needs
-
-part-slot-of-start : tie.Need-part-slot-of-start
-part-slot-of-start c = search needs
-
-part-slot-of-end : tie.Need-part-slot-of-end
-part-slot-of-end c = search needs
-
-slot-of-requires : tie.Need-slot-of-requires
-slot-of-requires c κs = search needs
+link-requires : tie.Need-link-requires
+link-requires c κs = search needs
 
 returns : tie.Need-returns
 returns c =
-    let top = c .before .before .before .before .before .before in
-    third-none (geometryOf (top .args .g)) (top .args .table .now) (top .args .f1 .now) (top .args .n) (c .before .slot-of .result) (c .before .slot-of .ensures) (c .if1 .taken)
+    let top = c .before .before .before .before in
+    third-none (geometryOf (top .args .g)) (top .args .table .now) (top .args .f1 .now) (top .args .n) (c .before .link .result) (c .before .link .ensures .0) (c .if1 .taken)
 
 record-at-requires : tie.Need-record-at-requires
 record-at-requires c κs =
-    let g = geometryOf (c .before .before .before .before .before .before .args .g) in
-    let n = c .before .before .before .before .before .before .pre .3 .least in
-    let b = slot-below (g .heads) (g .records) (g .vtocStart) (slots g) (part 135 5 (c .before .before .before .before .before .before .args .f1 .now)) (omega arith) in
-    omega (arith, c .before .slot-of .ensures, c .before .before .before .before .before .before .pre .4)
+    let at-link = c .before in
+    omega (arith, at-link .link .ensures .1, at-link .before .before .before .pre .4)
 
 three-ok-requires : tie.Need-three-ok-requires
 three-ok-requires c κs = search needs
 
 returns-2 : tie.Need-returns-2
 returns-2 c =
-    let at-slot-of = c .before .before .before .before in
-    let top = at-slot-of .before .before .before .before .before in
-    third-wrong (geometryOf (top .args .g)) (top .args .table .now) (top .args .f1 .now) (top .args .n) (at-slot-of .slot-of .result) (at-slot-of .slot-of .ensures) (c .before .before .record-at .result .now) (c .before .before .record-at .ensures .0) (sym (c .before .three-ok .ensures) ∙ c .if2 .left)
+    let at-link = c .before .before .before .before in
+    let top = at-link .before .before .before in
+    third-wrong (geometryOf (top .args .g)) (top .args .table .now) (top .args .f1 .now) (top .args .n) (at-link .link .result) (at-link .link .ensures .0) (c .before .before .record-at .result .now) (c .before .before .record-at .ensures .0) (sym (c .before .three-ok .ensures) ∙ c .if2 .left)
 
 unused-ok-requires : tie.Need-unused-ok-requires
 unused-ok-requires c κs = search needs
@@ -62,28 +41,23 @@ returns-3 : tie.Need-returns-3
 returns-3 c =
     let at-three-ok = c .before .before .before in
     let at-record-at = at-three-ok .before in
-    let at-slot-of = at-record-at .before .before in
-    let top = at-slot-of .before .before .before .before .before in
-    third-tested (geometryOf (top .args .g)) (top .args .table .now) (top .args .f1 .now) (top .args .n) (at-slot-of .slot-of .result) (at-slot-of .slot-of .ensures) (at-record-at .record-at .result .now) (at-record-at .record-at .ensures .0) true (sym (at-three-ok .three-ok .ensures) ∙ c .before .before .if2 .taken) (sym (c .before .unused-ok .ensures (top .args .f1 .now) (top .pre .0)) ∙ c .if3 .taken)
+    let at-link = at-record-at .before .before in
+    let top = at-link .before .before .before in
+    third-tested (geometryOf (top .args .g)) (top .args .table .now) (top .args .f1 .now) (top .args .n) (at-link .link .result) (at-link .link .ensures .0) (at-record-at .record-at .result .now) (at-record-at .record-at .ensures .0) true (sym (at-three-ok .three-ok .ensures) ∙ c .before .before .if2 .taken) (sym (c .before .unused-ok .ensures (top .args .f1 .now) (top .pre .0)) ∙ c .if3 .taken)
 
 returns-4 : tie.Need-returns-4
 returns-4 c =
     let at-three-ok = c .before .before .before in
     let at-record-at = at-three-ok .before in
-    let at-slot-of = at-record-at .before .before in
-    let top = at-slot-of .before .before .before .before .before in
-    third-tested (geometryOf (top .args .g)) (top .args .table .now) (top .args .f1 .now) (top .args .n) (at-slot-of .slot-of .result) (at-slot-of .slot-of .ensures) (at-record-at .record-at .result .now) (at-record-at .record-at .ensures .0) false (sym (at-three-ok .three-ok .ensures) ∙ c .before .before .if2 .taken) (sym (c .before .unused-ok .ensures (top .args .f1 .now) (top .pre .0)) ∙ c .if3 .left)
+    let at-link = at-record-at .before .before in
+    let top = at-link .before .before .before in
+    third-tested (geometryOf (top .args .g)) (top .args .table .now) (top .args .f1 .now) (top .args .n) (at-link .link .result) (at-link .link .ensures .0) (at-record-at .record-at .result .now) (at-record-at .record-at .ensures .0) false (sym (at-three-ok .three-ok .ensures) ∙ c .before .before .if2 .taken) (sym (c .before .unused-ok .ensures (top .args .f1 .now) (top .pre .0)) ∙ c .if3 .left)
 
 pub third-of-spec : {M : Type 1} → statement M
 third-of-spec =
     tie.close
     (tie.spec
-    mul-many
-    cast-many
-    sub-slot-of
-    part-slot-of-start
-    part-slot-of-end
-    slot-of-requires
+    link-requires
     returns
     record-at-requires
     three-ok-requires

@@ -6,7 +6,7 @@ use Rattle.recorded.proofs.answer_lent.Tie as tie
 use Rattle.recorded.proofs.answer_lent.Reads as reads
 use Rattle.recorded.proofs.answer_lent.Lts as lts
 use Rattle.fields.proofs.wide.Reads as wide-reads
-use Rattle.recorded.proofs.lesser.Reads as lesser-reads
+use Rattle.fields.proofs.at_most.Reads as at-most-reads
 
 shared-slice-read-wide : tie.Need-shared-slice-read-wide
 shared-slice-read-wide c = search needs
@@ -14,16 +14,16 @@ shared-slice-read-wide c = search needs
 wide-requires : tie.Need-wide-requires
 wide-requires c κs = search needs
 
-cast-lesser : tie.Need-cast-lesser
-cast-lesser c = search needs
+cast-at-most : tie.Need-cast-at-most
+cast-at-most c = search needs
 
-lesser-requires : tie.Need-lesser-requires
-lesser-requires c κs = search needs
+at-most-requires : tie.Need-at-most-requires
+at-most-requires c κs = search needs
 
 returns : tie.Need-returns
 unfolding answerLent
-returns c = capped _ _ 32 _ (c .before .wide .ensures .0) (c .lesser .ensures)
+returns c = capped _ _ 32 _ (c .before .wide .ensures .0) (c .at-most .ensures)
 
 pub answer-lent-spec : {M : Type 1} → statement M
 answer-lent-spec =
-    tie.close (tie.spec shared-slice-read-wide wide-requires cast-lesser lesser-requires returns)
+    tie.close (tie.spec shared-slice-read-wide wide-requires cast-at-most at-most-requires returns)

@@ -6,7 +6,7 @@ use Rattle.recorded.proofs.bytes_of.Tie as tie
 use Rattle.recorded.proofs.bytes_of.Reads as reads
 use Rattle.recorded.proofs.bytes_of.Lts as lts
 use Rattle.fields.proofs.wide.Reads as wide-reads
-use Rattle.recorded.proofs.lesser.Reads as lesser-reads
+use Rattle.fields.proofs.at_most.Reads as at-most-reads
 
 shared-slice-read-wide : tie.Need-shared-slice-read-wide
 shared-slice-read-wide c = search needs
@@ -14,11 +14,11 @@ shared-slice-read-wide c = search needs
 wide-requires : tie.Need-wide-requires
 wide-requires c κs = search needs
 
-cast-lesser : tie.Need-cast-lesser
-cast-lesser c = search needs
+cast-at-most : tie.Need-cast-at-most
+cast-at-most c = search needs
 
-lesser-requires : tie.Need-lesser-requires
-lesser-requires c κs = search needs
+at-most-requires : tie.Need-at-most-requires
+at-most-requires c κs = search needs
 
 add-e : tie.Need-add-e
 add-e c = search needs
@@ -36,7 +36,7 @@ returns : tie.Need-returns
 unfolding bytesOf
 returns c =
     let top = c .before .before .before .before .before in
-    part-capped (top .args .asked .now) 28 _ _ 100 _ (c .before .before .wide .ensures .0) (c .before .lesser .ensures)
+    part-capped (top .args .asked .now) 28 _ _ 100 _ (c .before .before .wide .ensures .0) (c .before .at-most .ensures)
 
 pub bytes-of-spec : {M : Type 1} → statement M
 bytes-of-spec =
@@ -44,8 +44,8 @@ bytes-of-spec =
     (tie.spec
     shared-slice-read-wide
     wide-requires
-    cast-lesser
-    lesser-requires
+    cast-at-most
+    at-most-requires
     add-e
     sub-result
     part-result-start

@@ -6,20 +6,20 @@ use Rattle.recorded.proofs.labels_lent.Tie as tie
 use Rattle.recorded.proofs.labels_lent.Reads as reads
 use Rattle.recorded.proofs.labels_lent.Lts as lts
 use Rattle.fields.proofs.two.Reads as two-reads
-use Rattle.recorded.proofs.lesser.Reads as lesser-reads
+use Rattle.fields.proofs.at_most.Reads as at-most-reads
 
 two-requires : tie.Need-two-requires
 two-requires c κs = search needs
 
-cast-lesser : tie.Need-cast-lesser
-cast-lesser c = search needs
+cast-at-most : tie.Need-cast-at-most
+cast-at-most c = search needs
 
-lesser-requires : tie.Need-lesser-requires
-lesser-requires c κs = search needs
+at-most-requires : tie.Need-at-most-requires
+at-most-requires c κs = search needs
 
 returns : tie.Need-returns
 unfolding labelsLent
-returns c = capped _ _ 288 _ (c .before .two .ensures .0) (c .lesser .ensures)
+returns c = capped _ _ 288 _ (c .before .two .ensures .0) (c .at-most .ensures)
 
 pub labels-lent-spec : {M : Type 1} → statement M
-labels-lent-spec = tie.close (tie.spec two-requires cast-lesser lesser-requires returns)
+labels-lent-spec = tie.close (tie.spec two-requires cast-at-most at-most-requires returns)

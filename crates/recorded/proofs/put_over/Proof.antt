@@ -9,16 +9,16 @@ use Rattle.recorded.proofs.put_over.Tie as tie
 use Rattle.recorded.proofs.put_over.Reads as reads
 use Rattle.recorded.proofs.put_over.Lts as lts
 use Rattle.bytes.proofs.copy.Reads as copy-reads
-use Rattle.recorded.proofs.lesser.Reads as lesser-reads
+use Rattle.fields.proofs.at_most.Reads as at-most-reads
 
-sub-lesser : tie.Need-sub-lesser
-sub-lesser c = search needs
+sub-at-most : tie.Need-sub-at-most
+sub-at-most c = search needs
 
-lesser-requires : tie.Need-lesser-requires
-lesser-requires c κs = search needs
+at-most-requires : tie.Need-at-most-requires
+at-most-requires c κs = search needs
 
 slice-aggregate-copy : tie.Need-slice-aggregate-copy
-slice-aggregate-copy c = let e = c .before .lesser .ensures in simp length-take (omega arith)
+slice-aggregate-copy c = let e = c .before .at-most .ensures in simp length-take (omega arith)
 
 sub-copy : tie.Need-sub-copy
 sub-copy c = search needs
@@ -30,17 +30,17 @@ part-copy-end : tie.Need-part-copy-end
 part-copy-end c = search needs
 
 copy-requires : tie.Need-copy-requires
-copy-requires c κs = let e = c .before .before .lesser .ensures in let h = c .before .before .before .if1 .taken in simp (length-take, length-drop) (omega arith)
+copy-requires c κs = let e = c .before .before .at-most .ensures in let h = c .before .before .before .if1 .taken in simp (length-take, length-drop) (omega arith)
 
 same-length : tie.Need-same-length
 same-length c = search needs
 
 returns : tie.Need-returns
 returns c =
-    let at-lesser = c .before .before .before .before .before in
-    let at-if1 = at-lesser .before in
+    let at-most = c .before .before .before .before .before in
+    let at-if1 = at-most .before in
     let top = at-if1 .before .before .before in
-    over-copied (top .args .table .now) (top .args .s .now) (c .before .before .copy .last .1 .0) (top .args .place) _ (at-if1 .if1 .taken) (at-lesser .lesser .ensures) (c .before .before .copy .ensures .1)
+    over-copied (top .args .table .now) (top .args .s .now) (c .before .before .copy .last .1 .0) (top .args .place) _ (at-if1 .if1 .taken) (at-most .at-most .ensures) (c .before .before .copy .ensures .1)
 
 returns-2 : tie.Need-returns-2
 returns-2 c =
@@ -51,8 +51,8 @@ pub put-over-spec : {M : Type 1} → statement M
 put-over-spec =
     tie.close
     (tie.spec
-    sub-lesser
-    lesser-requires
+    sub-at-most
+    at-most-requires
     slice-aggregate-copy
     sub-copy
     part-copy-start

@@ -1,3 +1,4 @@
+use Rattle.request.proofs.Laws.{on-volume}
 use borrow.Author.Needs.{needs}
 use Rattle.request.proofs.in_range.Statement.{statement}
 use Rattle.request.proofs.in_range.Tie as tie
@@ -17,8 +18,8 @@ counts-ok-requires-2 c κs = search needs
 enum-known-amount-3 : tie.Need-enum-known-amount-3
 enum-known-amount-3 c = search needs
 
-mul-place-ok : tie.Need-mul-place-ok
-mul-place-ok c = search needs
+tracks-requires : tie.Need-tracks-requires
+tracks-requires c κs = search needs
 
 place-ok-requires : tie.Need-place-ok-requires
 place-ok-requires c κs = search needs
@@ -32,7 +33,8 @@ returns-2 c = rw (c .before .before .amount2 .given .1) (c .counts-ok2 .ensures)
 returns-3 : tie.Need-returns-3
 returns-3 c =
     let at-amount3 = c .before .before .before in
-    rw (at-amount3 .amount3 .given .1) (c .place-ok .ensures)
+    let held = at-amount3 .amount3 .given in
+    rw (held .1) (on-volume (held .0 .0) (held .0 .1 .0) (at-amount3 .before .before .args .request .secondary) (c .before .tracks .result) _ (c .place-ok .result) (c .before .tracks .ensures .0) (c .place-ok .ensures))
 
 pub in-range-spec : {M : Type 1} → statement M
 in-range-spec =
@@ -43,7 +45,7 @@ in-range-spec =
     enum-known-amount-2
     counts-ok-requires-2
     enum-known-amount-3
-    mul-place-ok
+    tracks-requires
     place-ok-requires
     returns
     returns-2

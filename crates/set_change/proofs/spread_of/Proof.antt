@@ -21,11 +21,11 @@ Inv-loop f1 f3 n g all₀ lowest₀ e₀ all lowest e = (e ≤ n) × Spreads (tr
 abbrev μ-loop : tie.MeasureT-loop
 μ-loop f1 f3 n g all₀ lowest₀ e₀ all lowest e = n - e
 
-mul-lowest : tie.Need-mul-lowest Inv-loop μ-loop
-mul-lowest c = search needs
+tracks-requires : tie.Need-tracks-requires Inv-loop μ-loop
+tracks-requires c κs = search needs
 
 loop-holds : tie.Need-loop-holds Inv-loop μ-loop
-loop-holds c = (omega arith, spread-none _, omega arith)
+loop-holds c = (omega arith, spread-none _ (c .tracks .result) (c .tracks .ensures .0), omega arith)
 
 extent-at-requires : tie.Need-extent-at-requires Inv-loop μ-loop
 extent-at-requires c κs =
@@ -79,7 +79,7 @@ spread-of-spec =
     (tie.spec
     Inv-loop
     μ-loop
-    mul-lowest
+    tracks-requires
     loop-holds
     extent-at-requires
     add-all

@@ -18,14 +18,14 @@ abbrev μ-loop : tie.MeasureT-loop
 loop-holds : tie.Need-loop-holds Inv-loop μ-loop
 loop-holds c = (le-refl _, omega arith, gave-none _ (c .before .before .args .chain .now) (c .before .before .args .a))
 
-mul-wide : tie.Need-mul-wide Inv-loop μ-loop
-mul-wide c = search needs
+mul-index : tie.Need-mul-index Inv-loop μ-loop
+mul-index c = search needs
 
-shared-slice-read-wide : tie.Need-shared-slice-read-wide Inv-loop μ-loop
-shared-slice-read-wide c = search needs
+shared-slice-read-index : tie.Need-shared-slice-read-index Inv-loop μ-loop
+shared-slice-read-index c = search needs
 
-wide-requires : tie.Need-wide-requires Inv-loop μ-loop
-wide-requires c κs = search needs
+index-requires : tie.Need-index-requires Inv-loop μ-loop
+index-requires c κs = search needs
 
 add-give-range : tie.Need-add-give-range Inv-loop μ-loop
 add-give-range c = search needs
@@ -33,7 +33,7 @@ add-give-range c = search needs
 give-range-requires : tie.Need-give-range-requires Inv-loop μ-loop
 give-range-requires c κs =
     let i = c .before .before .before .before .loop .inv in
-    let k = c .before .wide .ensures .0 in
+    let k = c .before .index .ensures .0 in
     let b = in-slice (λ (j : ℕ). j < 64 * length (c .before .before .before .before .before .before .before .args .empty .now)) (c .before .before .before .before .before .before .before .args .a) (c .before .before .before .before .before .before .before .args .b) (c .before .before .before .before .loop .i) (c .before .before .before .before .before .before .before .args .chain .now) (i .0) (c .before .before .before .loop-test .taken) (c .before .before .before .before .before .before .before .pre .0) (c .before .before .before .before .before .before .before .pre .1) in
     let l = i .2 .long in
     (omega arith, omega arith)
@@ -49,7 +49,7 @@ loop-again c =
     let i = c .before .before .before .before .before .before .before .loop .inv in
     let t = c .before .before .before .before .before .before .loop-test .taken in
     let w = c .before .before .before .before .before .before .before .before .before .before .pre .0 in
-    (omega arith, omega arith, gave-next (c .before .before .before .before .before .before .before .before .before .before .args .empty .now) (c .before .before .before .before .before .before .before .loop .empty) _ (c .before .before .before .before .before .before .before .before .before .before .args .chain .now) (c .before .before .before .before .before .before .before .before .before .before .args .a) (c .before .before .before .before .before .before .before .loop .i) (c .before .before .before .before .wide .result) (i .0) (omega arith) (c .before .before .before .before .wide .ensures .0) (i .2) (c .before .before .give-range .ensures))
+    (omega arith, omega arith, gave-next (c .before .before .before .before .before .before .before .before .before .before .args .empty .now) (c .before .before .before .before .before .before .before .loop .empty) _ (c .before .before .before .before .before .before .before .before .before .before .args .chain .now) (c .before .before .before .before .before .before .before .before .before .before .args .a) (c .before .before .before .before .before .before .before .loop .i) (c .before .before .before .before .index .result) (i .0) (omega arith) (c .before .before .before .before .index .ensures .0) (i .2) (c .before .before .give-range .ensures))
 
 same-length : tie.Need-same-length Inv-loop μ-loop
 same-length c = search needs
@@ -67,9 +67,9 @@ give-slots-spec =
     Inv-loop
     μ-loop
     loop-holds
-    mul-wide
-    shared-slice-read-wide
-    wide-requires
+    mul-index
+    shared-slice-read-index
+    index-requires
     add-give-range
     give-range-requires
     add-i

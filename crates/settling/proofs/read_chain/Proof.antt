@@ -7,7 +7,7 @@ use Rattle.model.proofs.Lists.{All}
 use Rattle.rules.specs.Reading.{chop}
 use Rattle.sound.specs.Sound.{Sound}
 use Rattle.forms.specs.Forms.{geometryOf}
-use Rattle.free_list.proofs.Chain.{named-below, next-named}
+use Rattle.free_list.proofs.Chain.{next-named}
 use Rattle.settling.proofs.Chains.{Read, chain-room, chained, inside-next, read-end, read-full, read-next, read-none}
 use borrow.Author.Needs.{needs}
 use Rattle.settling.proofs.read_chain.Statement.{statement}
@@ -15,7 +15,6 @@ use Rattle.settling.proofs.read_chain.Tie as tie
 use Rattle.settling.proofs.read_chain.Reads as reads
 use Rattle.settling.proofs.read_chain.Lts as lts
 use Rattle.fields.proofs.record_at.Reads as record-at-reads
-use Rattle.fields.proofs.slot_of.Reads as slot-of-reads
 
 abbrev Inv-loop : tie.InvT-loop
 Inv-loop table g chain₀ n k₀ i₀ chain k i =
@@ -25,14 +24,11 @@ Inv-loop table g chain₀ n k₀ i₀ chain k i =
 abbrev μ-loop : tie.MeasureT-loop
 μ-loop table g chain₀ n k₀ i₀ chain k i = n - i
 
-mul-n : tie.Need-mul-n Inv-loop μ-loop
-mul-n c = search needs
-
-cast-n : tie.Need-cast-n Inv-loop μ-loop
-cast-n c = search needs
+slots-requires : tie.Need-slots-requires Inv-loop μ-loop
+slots-requires c κs = search needs
 
 loop-holds : tie.Need-loop-holds Inv-loop μ-loop
-loop-holds c = (omega arith, omega (arith, c .before .before .before .pre .0 .least), refl, refl, tt, read-none (geometryOf (c .before .before .before .args .g)) (c .before .before .before .args .table .now) (c .before .before .before .args .chain .now))
+loop-holds c = (omega (arith, c .slots .ensures .0), omega (arith, c .before .before .before .pre .0 .least), c .slots .ensures .0, refl, tt, read-none (geometryOf (c .before .before .before .args .g)) (c .before .before .before .args .table .now) (c .before .before .before .args .chain .now))
 
 same-length : tie.Need-same-length Inv-loop μ-loop
 same-length c = search needs
@@ -57,17 +53,8 @@ slice-write-chain c = search needs
 record-at-requires : tie.Need-record-at-requires Inv-loop μ-loop
 record-at-requires c κs = search needs
 
-sub-slot-of : tie.Need-sub-slot-of Inv-loop μ-loop
-sub-slot-of c = search needs
-
-part-slot-of-start : tie.Need-part-slot-of-start Inv-loop μ-loop
-part-slot-of-start c = search needs
-
-part-slot-of-end : tie.Need-part-slot-of-end Inv-loop μ-loop
-part-slot-of-end c = search needs
-
-slot-of-requires : tie.Need-slot-of-requires Inv-loop μ-loop
-slot-of-requires c κs = search needs
+link-requires : tie.Need-link-requires Inv-loop μ-loop
+link-requires c κs = search needs
 
 add-i : tie.Need-add-i Inv-loop μ-loop
 add-i c = search needs
@@ -77,19 +64,19 @@ loop-less c = search needs
 
 loop-again : tie.Need-loop-again Inv-loop μ-loop
 loop-again c =
-    let top = c .before .before .before .before .before .before .before .before .before in
+    let top = c .before .before .before .before .before .before .before .before in
     let g = geometryOf (top .args .g) in
     let t = top .args .table .now in
-    let l = c .before .before .before .before .before .loop in
+    let l = c .before .before .before .before .loop in
     let i = l .inv in
-    let u : l .i < length (l .chain) = omega (arith, c .before .before .before .before .loop-test .taken, i .2, i .3, top .pre .2) in
-    let e = next-named g t (c .before .before .record-at .result .now) _ (l .k) (c .slot-of .result) (i .2) (c .before .before .record-at .ensures .0) (c .slot-of .ensures) in (
-      omega (arith, c .before .before .before .before .loop-test .taken),
-      subst (λ (x : ℕ). x < slots g) (sym e) (named-below g (top .pre .0) t (l .k)),
+    let u : l .i < length (l .chain) = omega (arith, c .before .before .before .loop-test .taken, i .2, i .3, top .pre .2) in
+    let e = next-named g t (c .before .record-at .result .now) (l .k) (c .link .result) (c .before .record-at .ensures .0) (c .link .ensures .0) in (
+      omega (arith, c .before .before .before .loop-test .taken),
+      c .link .ensures .1,
       i .2,
       length-set (l .chain) (l .i) _ ∙ i .3,
       inside-next (slots g) (l .chain) (l .i) (l .k) u (i .1) (i .4),
-      λ v same x. read-next g t (l .chain) (l .i) (l .k) (v .chain) (i .5 v same x) (top .pre .0) (c .before .before .before .if1 .left) u (c .slot-of .result) e,
+      λ v same x. read-next g t (l .chain) (l .i) (l .k) (v .chain) (i .5 v same x) (top .pre .0) (c .before .before .if1 .left) u (c .link .result) e,
     )
 
 same-length-2 : tie.Need-same-length-2 Inv-loop μ-loop
@@ -111,8 +98,7 @@ read-chain-spec =
     (tie.spec
     Inv-loop
     μ-loop
-    mul-n
-    cast-n
+    slots-requires
     loop-holds
     same-length
     returns
@@ -120,10 +106,7 @@ read-chain-spec =
     mul-chain
     slice-write-chain
     record-at-requires
-    sub-slot-of
-    part-slot-of-start
-    part-slot-of-end
-    slot-of-requires
+    link-requires
     add-i
     loop-less
     loop-again

@@ -18,21 +18,18 @@ use Rattle.table.proofs.look.Reads as look-reads
 
 abbrev Inv-loop : tie.InvT-loop
 Inv-loop table g map₀ empty₀ n tags₀ seen₀ k₀ map empty tags seen k =
-    (1 ≤ k) × (k ≤ n) × (n ≡ slots (geometryOf g)) × (length map ≡ length map₀) × (length empty ≡ length empty₀) × GoneBelow (geometryOf g) table k map₀ map empty₀ empty true × Entering table tags seen k n
+    (1 ≤ k) × (k ≤ n) × (n ≡ slots (geometryOf g)) × (length map ≡ length map₀) × (length empty ≡ length empty₀) × GoneBelow (geometryOf g) table k map₀ map empty₀ empty true × Entering table tags seen k (slots (geometryOf g))
 
 abbrev μ-loop : tie.MeasureT-loop
 μ-loop table g map₀ empty₀ n tags₀ seen₀ k₀ map empty tags seen k = n - k
 
-mul-n : tie.Need-mul-n Inv-loop μ-loop
-mul-n c = search needs
-
-cast-n : tie.Need-cast-n Inv-loop μ-loop
-cast-n c = search needs
+slots-requires : tie.Need-slots-requires Inv-loop μ-loop
+slots-requires c κs = search needs
 
 loop-holds : tie.Need-loop-holds Inv-loop μ-loop
 loop-holds c =
     let a = c .before .before .before .before in
-    (omega arith, omega (arith, a .pre .0 .least), refl, refl, refl, scan-start (geometryOf (a .args .g)) (a .args .table .now) (a .args .map .now) (a .args .empty .now) (a .pre .2), entering-start (a .args .table .now) _ _ (slots (geometryOf (a .args .g))) (a .pre .2) (omega (arith, a .pre .0 .least)) refl refl)
+    (omega arith, omega (arith, a .pre .0 .least, c .slots .ensures .0), c .slots .ensures .0, refl, refl, scan-start (geometryOf (a .args .g)) (a .args .table .now) (a .args .map .now) (a .args .empty .now) (a .pre .2), entering-start (a .args .table .now) _ _ (slots (geometryOf (a .args .g))) (a .pre .2) (omega (arith, a .pre .0 .least)) refl refl)
 
 look-requires : tie.Need-look-requires Inv-loop μ-loop
 look-requires c κs =
@@ -81,11 +78,11 @@ loop-again c =
     let e = c .before .before .before .enter in (
       omega arith,
       omega arith,
-      refl,
+      l .inv .2,
       k .ensures .longMap ∙ l .inv .3,
       k .ensures .longSlots ∙ l .inv .4,
       scan-next (geometryOf (a .args .g)) (a .args .table .now) (a .args .map .now) (l .map) (k .last .1 .1 .1 .0) (a .args .empty .now) (l .empty) (k .last .1 .1 .1 .1 .0) (l .k) (l .inv .5) (k .result) (c .before .before .before .before .before .before .if1 .taken) (k .ensures),
-      entering-next (a .args .table .now) (l .tags) _ (l .seen) _ (l .k) (slots (geometryOf (a .args .g))) (l .inv .6) (c .before .before .before .before .before .before .before .before .before .before .before .before .before .before .loop-test .taken) (e .result) (e .ensures) (c .if2 .taken),
+      entering-next (a .args .table .now) (l .tags) _ (l .seen) _ (l .k) (slots (geometryOf (a .args .g))) (l .inv .6) (omega (arith, l .inv .2, c .before .before .before .before .before .before .before .before .before .before .before .before .before .before .loop-test .taken)) (e .result) (e .ensures) (c .if2 .taken),
     )
 
 same-length-3 : tie.Need-same-length-3 Inv-loop μ-loop
@@ -108,7 +105,7 @@ returns-2 c =
     let e = at-enter .enter in
     taken-twice (geometryOf (a .args .g)) (a .args .table .now) (a .args .map .now) (k .last .1 .1 .1 .0) (a .args .empty .now) (k .last .1 .1 .1 .1 .0) (l .k + 1) (slots (geometryOf (a .args .g)))
     (scan-next (geometryOf (a .args .g)) (a .args .table .now) (a .args .map .now) (l .map) (k .last .1 .1 .1 .0) (a .args .empty .now) (l .empty) (k .last .1 .1 .1 .1 .0) (l .k) (l .inv .5) (k .result) (at-if1 .if1 .taken) (k .ensures))
-    (entering-stop (a .args .table .now) (l .tags) _ (l .seen) _ (l .k) (slots (geometryOf (a .args .g))) (l .inv .6) (at-loop-test .loop-test .taken) (e .result) (e .ensures) (c .if2 .left))
+    (entering-stop (a .args .table .now) (l .tags) _ (l .seen) _ (l .k) (slots (geometryOf (a .args .g))) (l .inv .6) (omega (arith, l .inv .2, at-loop-test .loop-test .taken)) (e .result) (e .ensures) (c .if2 .left))
 
 same-length-5 : tie.Need-same-length-5 Inv-loop μ-loop
 same-length-5 c = search needs
@@ -120,7 +117,7 @@ returns-3 : tie.Need-returns-3 Inv-loop μ-loop
 returns-3 c =
     let a = c .before .before .before .before .before .before in
     let l = c .before .loop in
-    taken-all (geometryOf (a .args .g)) (a .args .table .now) (a .args .map .now) (l .map) (a .args .empty .now) (l .empty) (l .k) (slots (geometryOf (a .args .g))) (omega arith) (l .inv .5) (entering-end (a .args .table .now) (l .tags) (l .seen) (l .k) (slots (geometryOf (a .args .g))) (l .inv .6) (c .loop-test .left))
+    taken-all (geometryOf (a .args .g)) (a .args .table .now) (a .args .map .now) (l .map) (a .args .empty .now) (l .empty) (l .k) (slots (geometryOf (a .args .g))) (omega arith) (l .inv .5) (entering-end (a .args .table .now) (l .tags) (l .seen) (l .k) (slots (geometryOf (a .args .g))) (l .inv .6) (omega (arith, l .inv .2, c .loop-test .left)))
 
 pub take-labels-spec : {M : Type 1} → statement M
 take-labels-spec =
@@ -128,8 +125,7 @@ take-labels-spec =
     (tie.spec
     Inv-loop
     μ-loop
-    mul-n
-    cast-n
+    slots-requires
     loop-holds
     look-requires
     same-length

@@ -1,11 +1,10 @@
-use Prim.Native.Nat.{ℕ, _+_, _*_, _-_}
-use mathlib.Core.Path.{refl, subst}
+use Prim.Native.Nat.{_+_, _*_, _-_}
+use mathlib.Core.Path.{refl}
 use lib.ListN.{take, length-take}
 use native.Mathlib.Omega.{arith}
 use Rattle.model.specs.Model.{slots, tracks}
 use Rattle.forms.specs.Forms.{geometryOf}
-use Rattle.records.specs.Fives.{Fills}
-use Rattle.writing.proofs.Slots.{Chaining, chain-begin, chain-end, chain-next, entry-below, put-part}
+use Rattle.writing.proofs.Slots.{Chaining, chain-begin, chain-end, chain-next, entry-below, fills-told, put-part}
 use borrow.Author.Needs.{needs}
 use Rattle.writing.proofs.put_chain.Statement.{statement}
 use Rattle.writing.proofs.put_chain.Tie as tie
@@ -20,8 +19,8 @@ Inv-loop table₀ g map chain n from start t at₀ i₀ table at i = Chaining (g
 abbrev μ-loop : tie.MeasureT-loop
 μ-loop table₀ g map chain n from start t at₀ i₀ table at i = n - i
 
-mul-t : tie.Need-mul-t Inv-loop μ-loop
-mul-t c = search needs
+tracks-requires : tie.Need-tracks-requires Inv-loop μ-loop
+tracks-requires c κs = search needs
 
 cast-t : tie.Need-cast-t Inv-loop μ-loop
 cast-t c = search needs
@@ -54,7 +53,15 @@ part-five-end : tie.Need-part-five-end Inv-loop μ-loop
 part-five-end c = let b = entry-below (slots (geometryOf (c .before .before .before .before .before .before .before .before .args .g))) (take (c .before .before .before .before .before .before .before .before .args .n) (c .before .before .before .before .before .before .before .before .args .chain .now)) (c .before .before .before .loop .i) (omega (arith, c .before .before .before .before .before .before .before .before .pre .0 .0 .least)) (c .before .before .before .before .before .before .before .before .pre .1 .1) in let e = c .before .member .ensures in let l = c .before .before .before .loop .inv .long in let m = c .before .before .before .before .before .before .before .before .pre .0 .1 in let o = c .before .before .before .before .before .before .before .before .pre .0 .0 .most in search needs
 
 five-requires : tie.Need-five-requires Inv-loop μ-loop
-five-requires c κs = let b = entry-below (slots (geometryOf (c .before .before .before .before .before .before .before .before .before .args .g))) (take (c .before .before .before .before .before .before .before .before .before .args .n) (c .before .before .before .before .before .before .before .before .before .args .chain .now)) (c .before .before .before .before .loop .i + 1) (omega (arith, c .before .before .before .before .before .before .before .before .before .pre .0 .0 .least)) (c .before .before .before .before .before .before .before .before .before .pre .1 .1) in let e = c .before .member2 .ensures in (search needs, c .before .before .before .before .loop .inv .atUp, c .before .before .before .before .before .before .before .before .before .pre .0 .2, c .before .before .before .before .before .before .before .before .before .pre .0 .0 .tracksMost, omega arith, c .before .before .before .before .before .before .before .before .before .pre .0 .0)
+five-requires c κs =
+    let at-loop = c .before .before .before .before in
+    let at-tracks = at-loop .before in
+    let top = at-tracks .before .before .before .before in
+    let p = top .pre in
+    let b = entry-below (slots (geometryOf (top .args .g))) (take (top .args .n) (top .args .chain .now)) (at-loop .loop .i + 1) (omega (arith, p .0 .0 .least)) (p .1 .1) in
+    let e = c .before .member2 .ensures in
+    let t = at-tracks .tracks .ensures in
+    (search needs, omega (arith, t .0, at-loop .loop .inv .atUp), omega (arith, t .0, p .0 .2), t .1, omega arith, p .0 .0)
 
 add-i : tie.Need-add-i Inv-loop μ-loop
 add-i c = search needs
@@ -64,16 +71,26 @@ loop-less c = let l = length-take (c .before .before .before .before .before .be
 
 loop-again : tie.Need-loop-again Inv-loop μ-loop
 loop-again c =
-    let b = entry-below (slots (geometryOf (c .before .before .before .before .before .before .before .before .before .before .before .before .args .g))) (take (c .before .before .before .before .before .before .before .before .before .before .before .before .args .n) (c .before .before .before .before .before .before .before .before .before .before .before .before .args .chain .now)) (c .before .before .before .before .before .before .before .loop .i) (omega (arith, c .before .before .before .before .before .before .before .before .before .before .before .before .pre .0 .0 .least)) (c .before .before .before .before .before .before .before .before .before .before .before .before .pre .1 .1) in
-    let v = c .before .before .before .before .before .before .before .loop .inv .long in
-    let m = c .before .before .before .before .before .before .before .before .before .before .before .before .pre .0 .1 in
-    let k = c .before .before .before .before .before .member .ensures in
+    let at-member2 = c .before .before .before .before in
+    let at-member = at-member2 .before in
+    let at-loop = at-member .before .before in
+    let at-tracks = at-loop .before in
+    let top = at-tracks .before .before .before .before in
+    let a = top .args in
+    let p = top .pre in
+    let g = geometryOf (a .g) in
+    let ks = take (a .n) (a .chain .now) in
+    let l = at-loop .loop in
+    let b = entry-below (slots g) ks (l .i) (omega (arith, p .0 .0 .least)) (p .1 .1) in
+    let v = l .inv .long in
+    let m = p .0 .1 in
+    let k = at-member .member .ensures in
     let made = c .before .before .five .last .0 in
-    let whole = put-part (c .before .before .before .before .before .before .before .loop .table) made (c .before .before .before .before .before .member .result) (140 * c .before .before .before .before .before .member .result) refl in
+    let whole = put-part (l .table) made (at-member .member .result) (140 * at-member .member .result) refl in
     rw (whole, k)
-    (chain-next (geometryOf (c .before .before .before .before .before .before .before .before .before .before .before .before .args .g)) (c .before .before .before .before .before .before .before .before .before .before .before .before .args .map .now) (take (c .before .before .before .before .before .before .before .before .before .before .before .before .args .n) (c .before .before .before .before .before .before .before .before .before .before .before .before .args .chain .now)) (c .before .before .before .before .before .before .before .before .before .before .before .before .args .table .now) (c .before .before .before .before .before .before .before .loop .table) (c .before .before .before .before .before .before .before .before .before .before .before .before .args .from) (c .before .before .before .before .before .before .before .before .before .before .before .before .args .start) (c .before .before .before .before .before .before .before .loop .at) (c .before .before .before .before .before .before .before .loop .i) (c .before .before .before .before .before .before .before .loop .inv)
-    (let l = length-take (c .before .before .before .before .before .before .before .before .before .before .before .before .args .n) (c .before .before .before .before .before .before .before .before .before .before .before .before .args .chain .now) in let q = c .before .before .before .before .before .before .before .before .before .before .before .before .pre .1 .0 in omega arith) made (c .before .before .five .result)
-    (subst (λ (j : ℕ). Fills (geometryOf (c .before .before .before .before .before .before .before .before .before .before .before .before .args .g)) (c .before .before .before .before .before .before .before .before .before .before .before .before .args .map .now) (tracks (geometryOf (c .before .before .before .before .before .before .before .before .before .before .before .before .args .g))) (c .before .before .before .before .before .before .before .loop .at) j made (c .before .before .five .result)) (c .before .before .before .before .member2 .ensures) (c .before .before .five .ensures)) (omega arith))
+    (chain-next g (a .map .now) ks (a .table .now) (l .table) (a .from) (a .start) (l .at) (l .i) (l .inv)
+    (let w = length-take (a .n) (a .chain .now) in let q = p .1 .0 in omega arith) made (c .before .before .five .result)
+    (fills-told g (a .map .now) (at-tracks .tracks .result) (tracks g) (l .at) (at-member2 .member2 .result) _ made (c .before .before .five .result) (at-tracks .tracks .ensures .0) (at-member2 .member2 .ensures) (c .before .before .five .ensures)) (omega arith))
 
 same-length : tie.Need-same-length Inv-loop μ-loop
 same-length c = c .before .loop .inv .long
@@ -87,7 +104,7 @@ put-chain-spec =
     (tie.spec
     Inv-loop
     μ-loop
-    mul-t
+    tracks-requires
     cast-t
     loop-holds
     member-requires
