@@ -231,6 +231,7 @@ module _ (g : Geometry) (limit : Limits g) (t : List ℕ) (len : length t ≡ 14
           numbers p = record {
             geometryIs = last .geometryIs p;
             countIs = last .countIs p (used ls ks) all-slots;
+            countMost = last .countMost p;
             highestIs = last .highestIs p ∙ sym (highest-is g t N);
           }
 

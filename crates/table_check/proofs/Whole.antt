@@ -76,6 +76,7 @@ module _ (g : Geometry) (t s : List ℕ) (clear : Bool) (count : ℕ) (x : Spare
         yes = λ q. clash q f;
         geometryIs = λ q. clash q f;
         countIs = λ q. clash q f;
+        countMost = λ q. clash q f;
         highestIs = λ q. clash q f;
         no = λ _ us h y. x .wrong e (λ k u i. y .zero k u (let a = h k u in let c = unit-tally k us in omega arith));
       }
@@ -94,6 +95,7 @@ module _ (g : Geometry) (t s : List ℕ) (clear : Bool) (count : ℕ) (x : Spare
         record {
           geometryIs = λ _. is;
           countIs = λ _ us w. many ∙ count-is us w;
+          countMost = λ _. let a = x .most in omega arith;
           highestIs = λ _. high;
           yes = λ q us w.
               record {

@@ -52,6 +52,7 @@ pub record RestTold (g : Geometry) (t s : List ℕ) (r : Verdict) : Type 0 where
   pub no : r .taken ≡ false → (us : List ℕ) → Shows s (slots g) (units us) → Rest g t us → ⊥
   pub geometryIs : r .taken ≡ true → geometryOf (r .geometry) ≡ g
   pub countIs : r .taken ≡ true → (us : List ℕ) → Shows s (slots g) (units us) → r .format0s ≡ length (unused (slots g) us)
+  pub countMost : r .taken ≡ true → r .format0s ≤ slots g
   pub highestIs : r .taken ≡ true → r .highest ≡ highestSlot t (slots g)
 
 -- the maps show what the volume holds
@@ -63,6 +64,7 @@ pub record Shown (v : Volume) (m s : List ℕ) : Type 0 where
 pub record Tells (v : Volume) (g : Geometry) (count top : ℕ) : Type 0 where
   pub geometryIs : g ≡ v .geometry
   pub countIs : count ≡ length (format0s v)
+  pub countMost : count ≤ slots (v .geometry)
   pub highestIs : top ≡ highest (v .labels)
 
 -- a table of this geometry is sound, and the maps show what it holds; or it is not
