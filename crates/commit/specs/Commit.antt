@@ -12,7 +12,7 @@ use Rattle.rules.proofs.Valid.{Valid}
 use Rattle.tracks.specs.Map.{Shows}
 use Rattle.label_check.specs.Marks.{units}
 use Rattle.labels.specs.Labels.{Format1, Format3}
-use Rattle.opening.proofs.Laws.{Ready}
+use Rattle.opening.specs.Opening.{Ready}
 use Rattle.change.proofs.Begin.{Alike}
 
 -- Beside the labels `others` of the volume that table t holds stands `label`, new or changed. It has the slots `slot` and

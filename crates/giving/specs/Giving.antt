@@ -7,8 +7,7 @@ use Rattle.model.specs.Model.{Geometry, Label, Volume, oneSlot, tracks}
 use Rattle.tracks.specs.Map.{Shows}
 use Rattle.label_check.specs.Marks.{units}
 use Rattle.table_check.specs.Check.{Shown}
-use Rattle.opening.proofs.Laws.{Ready}
-use Rattle.opening.proofs.Lookup.{FoundAt}
+use Rattle.opening.specs.Opening.{FoundAt, Ready}
 use Rattle.set_change.specs.Change.{Spreads}
 use Rattle.set_at.proofs.Laws.{Stored}
 

@@ -14,7 +14,7 @@ use Rattle.request.proofs.Laws.{Good}
 use Rattle.set_change.specs.Change.{InRecords}
 use Rattle.set_change.specs.Change.{granted as more}
 use Rattle.table_check.specs.Check.{Shown}
-use Rattle.opening.proofs.Laws.{Ready}
+use Rattle.opening.specs.Opening.{Ready}
 use Rattle.change.proofs.Begin.{Alike}
 
 -- Beside the labels `others` of the volume that table t holds stands `label`, new or found, in the slots `slot` and `third`,
