@@ -2,32 +2,28 @@
 use mathlib.Core.Path.{_≡_, refl, sym, ap, ap₂, _∙_, subst}
 use mathlib.Core.Bool.{Bool, true, false, _&&_}
 use mathlib.Core.List.{List, [], _∷_, _++_}
-use Prim.Native.Nat.{ℕ, zero, suc, _+_, _*_, _/_, _%_, _≤_, _<_, max}
+use Prim.Native.Nat.{ℕ, suc, _+_, _*_, _/_, _%_, _≤_, _<_, max}
 use native.Mathlib.Nat.{div-le-self, mod-le}
 use mathlib.Core.Logic.{⊎-elim}
 use native.Mathlib.Omega.{arith}
 use lib.Dec.{eqb}
 use lib.ListN.{drop, length, length-append, take, take-append-drop}
-use Rattle.model.specs.Basics.{get2, sumOf}
-use Rattle.model.specs.Model.{Geometry, Run, Separate, Volume, format0s, free, slots}
+use Rattle.call_lspace.specs.declared.Sums.{Sums}
+use Rattle.opening.specs.declared.Opening.{Opening}
+use Rattle.model.specs.Basics.{sumOf}
+use Rattle.model.specs.Model.{Geometry, Run, Separate, format0s, free}
 use Rattle.model.proofs.Lists.{All}
 use Rattle.rules.specs.Calls.{answer, inquire, longest, lspace, numbers, rule, spaceNumbers}
-use Rattle.rules.specs.Entries.{lent, perform, result, written}
-use Rattle.rules.specs.Layout.{format4, highest}
+use Rattle.rules.specs.Entries.{lent, perform, result}
 use Rattle.rules.specs.Reading.{read}
-use Rattle.rules.proofs.Bytes.{be2-back}
 use Rattle.tracks.proofs.Bits.{le-or-lt}
-use Rattle.fields.specs.Records.{slotBytes}
-use Rattle.fields.proofs.Slots.{chop-slot}
+use Rattle.forms.specs.Forms.{geometryOf}
 use Rattle.free_list.specs.FreeList.{Listed}
 use Rattle.free_list.proofs.Chain.{listed}
-use Rattle.call_lspace.specs.declared.Sums.{Sums}
-use Rattle.call_lspace.specs.Totals.{Below, Summed, none}
-use Rattle.opening.specs.declared.Opening.{Opening}
 use Rattle.opening.specs.Opening.{Opened}
-use Rattle.opening.proofs.Numbers.{known}
 use Rattle.opening.proofs.Calls.{Asks, passed}
-use Rattle.forms.specs.Forms.{geometryOf}
+use Rattle.opening.proofs.Numbers.{known}
+use Rattle.call_lspace.specs.Totals.{Below, Summed, none}
 
 -- ---- the sums
 

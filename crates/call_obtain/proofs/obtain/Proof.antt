@@ -63,9 +63,9 @@ put-labels-requires c κs =
     let at-and-another = at-open-to-read .before in
     let top = at-and-another .before .before .before .before .before in
     let x = and-named (at-open-to-read .open-to-read .ensures) (at-and-named .and-named .ensures) in
-    let w = known x (at-if1 .if1 .left) in
-    (
-      w .limits, w .long,
+    let w = known x (at-if1 .if1 .left) in (
+      w .limits,
+      w .long,
       there-inside (top .args .table .now) (w .isTaken) _ (w .geometryIs) (top .args .name .now) _ (ap answerOf (sym (c .before .before .k .given .1)) ∙ at-look-up .look-up .ensures),
       labels-long (top .args .table .now) (top .args .name .now) (top .args .labels .now) (top .args .answer .now) _ (at-and-another .and-another .ensures) x (at-if1 .if1 .left),
     )
