@@ -1,0 +1,124 @@
+use mathlib.Core.Path.{refl, sym, _∙_, ap}
+use Rattle.opening.proofs.Calls.{asks, not-found, refused}
+use Rattle.opening.proofs.Numbers.{known, known-maps}
+use Rattle.call_extend.proofs.Laws.{extends, lengthened, longer}
+use Rattle.names.specs.Find.{answerOf}
+use borrow.Author.Needs.{needs}
+use Rattle.call_extend.proofs.extend_in.Statement.{statement}
+use Rattle.call_extend.proofs.extend_in.Tie as tie
+use Rattle.call_extend.proofs.extend_in.Reads as reads
+use Rattle.call_extend.proofs.extend_in.Lts as lts
+use Rattle.call_extend.proofs.lengthen.Reads as lengthen-reads
+use Rattle.opening.proofs.answer_and_name.Reads as answer-and-name-reads
+use Rattle.opening.proofs.look_up.Reads as look-up-reads
+use Rattle.opening.proofs.open_named.Reads as open-named-reads
+
+answer-and-name-requires : tie.Need-answer-and-name-requires
+answer-and-name-requires c κs = search needs
+
+slice-aggregate-open-named : tie.Need-slice-aggregate-open-named
+slice-aggregate-open-named c = search needs
+
+open-named-requires : tie.Need-open-named-requires
+open-named-requires c κs = search needs
+
+same-length : tie.Need-same-length
+same-length c = search needs
+
+same-length-2 : tie.Need-same-length-2
+same-length-2 c = search needs
+
+returns : tie.Need-returns
+returns c =
+    let at-open-named = c .before .before .before .before .before in
+    let at-answer-and-name = at-open-named .before .before .before .before in
+    let top = at-answer-and-name .before .before .before .before .before in
+    refused (asks (extends (top .args .table .now) (top .args .name .now) (top .args .answer .now) _ (at-answer-and-name .answer-and-name .ensures))) (at-open-named .open-named .ensures .0) (c .if1 .taken)
+
+look-up-requires : tie.Need-look-up-requires
+look-up-requires c κs =
+    let at-open-named = c .before .before .before .before .before .before .before in
+    let w = known (at-open-named .open-named .ensures .0) (c .before .before .if1 .left) in
+    (w .limits, w .long)
+
+enum-known-k : tie.Need-enum-known-k
+enum-known-k c = search needs
+
+enum-told : tie.Need-enum-told
+enum-told c = search needs
+
+same-length-3 : tie.Need-same-length-3
+same-length-3 c = search needs
+
+same-length-4 : tie.Need-same-length-4
+same-length-4 c = search needs
+
+returns-2 : tie.Need-returns-2
+returns-2 c =
+    let at-if1 = c .before .before .before .before .before in
+    let at-open-named = at-if1 .before .before .before .before .before in
+    let at-answer-and-name = at-open-named .before .before .before .before in
+    let top = at-answer-and-name .before .before .before .before .before in
+    not-found (extends (top .args .table .now) (top .args .name .now) (top .args .answer .now) _ (at-answer-and-name .answer-and-name .ensures)) (at-open-named .open-named .ensures .0) (at-if1 .if1 .left) (ap answerOf (sym (c .enum-told .given .1)) ∙ c .before .before .look-up .ensures)
+
+slice-aggregate-lengthen : tie.Need-slice-aggregate-lengthen
+slice-aggregate-lengthen c = search needs
+
+lengthen-requires : tie.Need-lengthen-requires
+lengthen-requires c κs =
+    let at-k = c .before .before .before .before .before in
+    let at-look-up = at-k .before .before in
+    let at-if1 = at-look-up .before .before .before in
+    let at-open-named = at-if1 .before .before .before .before .before in
+    let at-answer-and-name = at-open-named .before .before .before .before in
+    let top = at-answer-and-name .before .before .before .before .before in
+    let x = at-open-named .open-named .ensures .0 in
+    let u = known-maps x (at-if1 .if1 .left) (at-open-named .open-named .ensures .1) (top .pre) refl in
+    longer (top .args .table .now) (top .args .name .now) (top .args .answer .now) _ (at-answer-and-name .answer-and-name .ensures) x (at-if1 .if1 .left) u _ (ap answerOf (sym (at-k .k .given .1)) ∙ at-look-up .look-up .ensures)
+
+same-length-5 : tie.Need-same-length-5
+same-length-5 c = search needs
+
+same-length-6 : tie.Need-same-length-6
+same-length-6 c = search needs
+
+same-length-7 : tie.Need-same-length-7
+same-length-7 c = search needs
+
+returns-3 : tie.Need-returns-3
+returns-3 c =
+    let at-lengthen = c .before .before .before .before .before .before .before in
+    let at-k = at-lengthen .before .before .before .before .before .before in
+    let at-look-up = at-k .before .before in
+    let at-if1 = at-look-up .before .before .before in
+    let at-open-named = at-if1 .before .before .before .before .before in
+    let at-answer-and-name = at-open-named .before .before .before .before in
+    let top = at-answer-and-name .before .before .before .before .before in
+    let x = at-open-named .open-named .ensures .0 in
+    let u = known-maps x (at-if1 .if1 .left) (at-open-named .open-named .ensures .1) (top .pre) refl in
+    let e = ap answerOf (sym (at-k .k .given .1)) ∙ at-look-up .look-up .ensures in
+    lengthened (top .args .table .now) (top .args .name .now) (top .args .answer .now) _ (at-answer-and-name .answer-and-name .ensures) x (at-if1 .if1 .left) u _ e _ _ _
+    (at-lengthen .lengthen .ensures (longer (top .args .table .now) (top .args .name .now) (top .args .answer .now) _ (at-answer-and-name .answer-and-name .ensures) x (at-if1 .if1 .left) u _ e))
+
+pub extend-in-spec : {M : Type 1} → statement M
+extend-in-spec =
+    tie.close
+    (tie.spec
+    answer-and-name-requires
+    slice-aggregate-open-named
+    open-named-requires
+    same-length
+    same-length-2
+    returns
+    look-up-requires
+    enum-known-k
+    enum-told
+    same-length-3
+    same-length-4
+    returns-2
+    slice-aggregate-lengthen
+    lengthen-requires
+    same-length-5
+    same-length-6
+    same-length-7
+    returns-3)
