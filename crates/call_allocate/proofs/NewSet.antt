@@ -26,7 +26,8 @@ use Rattle.labels.specs.Labels.{Format1, Format3, newLabel}
 use Rattle.request.specs.Request.{piecesOf, typeOf}
 use Rattle.request.proofs.Laws.{Accepted, accepted, refused}
 use Rattle.set_change.specs.Change.{granted as more}
-use Rattle.opening.proofs.Laws.{Ready, ready}
+use Rattle.opening.specs.Opening.{Ready}
+use Rattle.opening.proofs.Laws.{ready}
 use Rattle.free_list.specs.FreeList.{Listed}
 use Rattle.free_list.proofs.Chain.{listed}
 use Rattle.opening.proofs.Lookup.{limits-of, table-long}

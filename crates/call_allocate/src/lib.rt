@@ -60,32 +60,38 @@ fn allocate_in(
     amount: u32,
     secondary: u32,
     answer: &mut [u8],
-    map: &mut [u64],
+    free_tracks: &mut [u64],
 ) -> u32
-    requires { ⌜ Roomy (now table) (now map) ⌝ }
+    requires { ⌜ Roomy (now table) (now «free_tracks») ⌝ }
     ensures { λ r. ⌜ Allocates (now (table .entry)) (now (name .entry)) (now (attributes .entry)) kind start amount secondary (now (answer .entry)) r (now (table .exit)) (now (answer .exit)) ⌝ }
 {
-    let mut empty = [0u64; 8];
+    let mut free_slots = [0u64; 8];
     let lengths = opening::and_another(answer.len(), name.len(), attributes.len(), 52);
-    let r = opening::open(table, lengths, map, &mut empty);
-    if r != 0 {
-        return r;
-    }
-    if fields::name_ok(name) {} else {
-        return 4;
+    let opened = opening::open_named(table, name, lengths, free_tracks, &mut free_slots);
+    if opened.refusal != 0 {
+        return opened.refusal;
     }
     if kind > 2 {
         return 7;
     }
     let request = request::read_request(kind, start, amount, secondary);
-    let g = opening::geometry(table);
+    let g = opened.geometry;
     if request::in_range(request, g) {} else {
         return 7;
     }
-    if opening::on_volume(table, (g.vtoc_tracks * g.records) as usize, name) {
+    if opening::on_volume(table, g, name) {
         return 6;
     }
-    place(table, g, map, &mut empty, name, attributes, request, answer)
+    place(
+        table,
+        g,
+        free_tracks,
+        &mut free_slots,
+        name,
+        attributes,
+        request,
+        answer,
+    )
 }
 
 // The call. A small volume has a small map: to fill the large one would be much of the call's time.

@@ -30,7 +30,8 @@ use Rattle.request.proofs.Laws.{Accepted, accepted, refused, secondary-asks}
 use Rattle.set_change.specs.Change.{granted as more}
 use Rattle.set_at.specs.Held.{SetAt}
 use Rattle.set_at.proofs.Laws.{Known, known}
-use Rattle.opening.proofs.Laws.{Ready, ready}
+use Rattle.opening.specs.Opening.{Ready}
+use Rattle.opening.proofs.Laws.{ready}
 use Rattle.free_list.specs.FreeList.{Listed}
 use Rattle.free_list.proofs.Chain.{listed}
 use Rattle.opening.proofs.Lookup.{limits-of, table-long}

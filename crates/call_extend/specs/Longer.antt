@@ -10,7 +10,7 @@ use Rattle.rules.specs.Entries.{lent, result, written}
 use Rattle.rules.specs.Reading.{read}
 use Rattle.rules.specs.Table.{taken}
 use Rattle.table_check.specs.Check.{Shown}
-use Rattle.opening.proofs.Lookup.{FoundAt}
+use Rattle.opening.specs.Opening.{FoundAt}
 
 -- it is in slot k; m and s are the maps of free tracks and of free slots, a is the answer before the call
 pub record Longer (t m s a : List ℕ) (g : Geometry) (k : ℕ) : Type 0 where

@@ -2,30 +2,28 @@
 use mathlib.Core.Path.{_≡_, refl, sym, ap, ap₂, _∙_, subst}
 use mathlib.Core.Bool.{Bool, true, false, _&&_}
 use mathlib.Core.List.{List, [], _∷_, _++_}
-use Prim.Native.Nat.{ℕ, zero, suc, _+_, _*_, _/_, _%_, _≤_, _<_, max}
+use Prim.Native.Nat.{ℕ, suc, _+_, _*_, _/_, _%_, _≤_, _<_, max}
 use native.Mathlib.Nat.{div-le-self, mod-le}
 use mathlib.Core.Logic.{⊎-elim}
 use native.Mathlib.Omega.{arith}
 use lib.Dec.{eqb}
 use lib.ListN.{drop, length, length-append, take, take-append-drop}
-use Rattle.model.specs.Basics.{get2, sumOf}
-use Rattle.model.specs.Model.{Geometry, Run, Separate, Volume, format0s, free, slots}
+use Rattle.call_lspace.specs.declared.Sums.{Sums}
+use Rattle.opening.specs.declared.Opening.{Opening}
+use Rattle.model.specs.Basics.{sumOf}
+use Rattle.model.specs.Model.{Geometry, Run, Separate, format0s, free}
 use Rattle.model.proofs.Lists.{All}
-use Rattle.rules.specs.Calls.{answer, longest, lspace, numbers, rule, spaceNumbers}
-use Rattle.rules.specs.Entries.{lent, perform, result, written}
-use Rattle.rules.specs.Layout.{format4, highest}
+use Rattle.rules.specs.Calls.{answer, inquire, longest, lspace, numbers, rule, spaceNumbers}
+use Rattle.rules.specs.Entries.{lent, perform, result}
 use Rattle.rules.specs.Reading.{read}
-use Rattle.rules.proofs.Bytes.{be2-back}
 use Rattle.tracks.proofs.Bits.{le-or-lt}
-use Rattle.fields.specs.Records.{slotBytes}
-use Rattle.fields.proofs.Slots.{chop-slot}
+use Rattle.forms.specs.Forms.{geometryOf}
 use Rattle.free_list.specs.FreeList.{Listed}
 use Rattle.free_list.proofs.Chain.{listed}
-use Rattle.call_lspace.specs.declared.Sums.{Sums}
+use Rattle.opening.specs.Opening.{Opened}
+use Rattle.opening.proofs.Calls.{Asks, passed}
+use Rattle.opening.proofs.Numbers.{known}
 use Rattle.call_lspace.specs.Totals.{Below, Summed, none}
-use Rattle.opening.specs.Opening.{openNumber}
-use Rattle.opening.proofs.Laws.{Ready}
-use Rattle.opening.proofs.Numbers.{opened-ready, passed, refused}
 
 -- ---- the sums
 
@@ -165,46 +163,28 @@ all-small h e s x w =
     let j = mod-le (s .long) h in
     (omega arith, (omega arith, (omega arith, (omega arith, (omega arith, (w, tt))))))
 
--- ---- the number of format 0s
-
-pub four-empty : (g : Geometry) (top e : ℕ) → get2 (format4 g top e) 50 ≡ e
-unfolding format4
-four-empty g zero e = be2-back e
-four-empty g (suc k) e = be2-back e
-
-empty-is : (t : List ℕ) (v : Volume) → Ready t v → get2 (slotBytes t 0) 50 ≡ length (format0s v)
-unfolding format0s
-empty-is t v x =
-    let n = x .limits .least in
-    ap (λ (r : List ℕ). get2 r 50) (sym (chop-slot (slots (v .geometry)) t 0 (omega arith)) ∙ sym (x .sound .four)) ∙ four-empty (v .geometry) (highest (v .labels)) _
-
 -- ---- the call
 
 and-true : (b : Bool) → b ≡ (b && true)
 and-true true = refl
 and-true false = refl
 
-module _ (t a : List ℕ) (ok : Bool) (r : ℕ) (long : ok ≡ eqb (length a) 24) (number : r ≡ openNumber t ok) where
-  pub not-opened : (r ≡ 0 → ⊥) → result r (lent t a []) ≡ perform (lent t a []) lspace
-  not-opened n = refused (lent t a []) lspace ok r (long ∙ and-true (eqb (length a) 24)) number n
+module _ (t a : List ℕ) (ok : Bool) (long : ok ≡ eqb (length a) 24) where
+  pub inquires : Asks (lent t a []) lspace ok true inquire
+  unfolding rule
+  inquires = record { lengths = long ∙ and-true (eqb (length a) 24); rules = λ v. refl }
 
-  module _ (z : r ≡ 0) where
-    is-open : Ready t (read t)
-    is-open = opened-ready t ok r number z
+  module _ {o : Opening} (x : Opened t ok true o) (z : o .refusal ≡ 0) where
+    pub lists : Listed (geometryOf (o .geometry)) t (free (read t .geometry) (read t .labels))
+    lists =
+        let w = known x z in
+        subst (λ (y : Geometry). Listed y t (free (read t .geometry) (read t .labels))) (sym (w .geometryIs)) (listed t (read t) (w .ready .sound))
 
-    told : (ns : List ℕ) → ns ≡ spaceNumbers (read t .geometry .heads) (free (read t .geometry) (read t .labels)) (length (format0s (read t)))
-        → written (lent t a []) (rule (read t) lspace) ≡ result 0 (lent t (answer (numbers ns)) [])
-    unfolding rule
-    told ns e = ap₂ (λ (x y : List ℕ). result 0 (lent x (answer (numbers y)) [])) (sym (is-open .bytes)) (sym e)
-
-    pub lists : (g : Geometry) → g ≡ read t .geometry → Listed g t (free (read t .geometry) (read t .labels))
-    lists g e = subst (λ (y : Geometry). Listed y t (free (read t .geometry) (read t .labels))) (sym e) (listed t (read t) (is-open .sound))
-
-    pub inquired : (g : Geometry) (rec six a′ : List ℕ) (e : ℕ) → g ≡ read t .geometry → rec ≡ slotBytes t 0 → e ≡ get2 rec 50
-        → ((f : List Run) → Listed g t f → six ≡ spaceNumbers (g .heads) f e) → a′ ≡ answer (numbers six)
+    pub inquired : (six a′ : List ℕ) → ((f : List Run) → Listed (geometryOf (o .geometry)) t f → six ≡ spaceNumbers (geometryOf (o .geometry) .heads) f (o .format0s)) → a′ ≡ answer (numbers six)
         → result 0 (lent t a′ []) ≡ perform (lent t a []) lspace
-    inquired g rec six a′ e eg er ee es ea =
+    inquired six a′ es ea =
+        let w = known x z in
         let f = free (read t .geometry) (read t .labels) in
-        let n : e ≡ length (format0s (read t)) = ee ∙ ap (λ (x : List ℕ). get2 x 50) er ∙ empty-is t (read t) is-open in
-        let q : six ≡ spaceNumbers (read t .geometry .heads) f (length (format0s (read t))) = es f (lists g eg) ∙ ap₂ (λ (x : Geometry) (y : ℕ). spaceNumbers (x .heads) f y) eg n in
-        ap (λ (x : List ℕ). result 0 (lent t x [])) ea ∙ sym (told six q) ∙ passed (lent t a []) lspace ok r (long ∙ and-true (eqb (length a) 24)) number z
+        let q : six ≡ spaceNumbers (read t .geometry .heads) f (length (format0s (read t)))
+        = es f lists ∙ ap₂ (λ (y : Geometry) (n : ℕ). spaceNumbers (y .heads) f n) (w .geometryIs) (w .countIs) in
+        passed inquires x z 0 (lent t a′ []) (ap₂ (λ (y : List ℕ) (ns : List ℕ). result 0 (lent y ns [])) (w .ready .bytes) (ea ∙ ap (λ (ns : List ℕ). answer (numbers ns)) q))

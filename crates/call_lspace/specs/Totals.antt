@@ -3,11 +3,11 @@ use mathlib.Core.Path.{_≡_}
 use Prim.Native.Nat.{ℕ, _+_, _/_, _%_, _≤_, max}
 use mathlib.Core.List.{List}
 use lib.ListN.{length}
+use Rattle.call_lspace.specs.declared.Sums.{Sums}
 use Rattle.model.specs.Basics.{sumOf}
 use Rattle.model.specs.Model.{Run}
 use Rattle.rules.specs.Calls.{longest}
 use Rattle.free_list.specs.FreeList.{Entries}
-use Rattle.call_lspace.specs.declared.Sums.{Sums}
 
 abbrev pub none : Sums
 none = record { cylinders = 0; odd = 0; many = 0; long = 0 }

@@ -92,18 +92,16 @@ fn space(table: &[u8], g: Geometry, empty: u32) -> [u32; 6]
     ]
 }
 
-// The call: refusals 2 and 3. The number of format 0s is read in the format 4, DS4DSREC.
+// The call: refusals 2 and 3. The number of format 0s is what the check counted.
 pub fn lspace(table: &[u8], answer: &mut [u8]) -> u32
     ensures { λ r. ⌜ Inquires (now (table .entry)) (now (answer .entry)) r (now (answer .exit)) ⌝ }
 {
     let lengths = answer.len() == 24;
-    let r = opening::open_to_read(table, lengths);
-    if r != 0 {
-        return r;
+    let opened = opening::open_to_read(table, lengths);
+    if opened.refusal != 0 {
+        return opened.refusal;
     }
-    let g = opening::geometry(table);
-    let format0s = fields::two(fields::record_at(table, 0), DS4DSREC);
-    let six = space(table, g, format0s);
+    let six = space(table, opened.geometry, opened.format0s as u32);
     answers::put_numbers(answer, six);
     0
 }

@@ -1,31 +1,31 @@
 -- Obtain's 280 bytes, and the call as a whole. Assumes nothing.
 use mathlib.Core.Path.{_≡_, refl, sym, ap, ap₂, _∙_}
-use mathlib.Core.Bool.{Bool, true, false, cond, _&&_}
-use mathlib.Core.Option.{Option}
+use mathlib.Core.Bool.{Bool, cond, _&&_}
 use mathlib.Core.List.{List, _++_, append-nil}
 use Prim.Native.Nat.{ℕ, zero, suc, _≤_}
 use native.Mathlib.Omega.{arith}
 use borrow.Author.Tests.{eq-eqb, ne-eqb}
-use lib.Dec.{T, eqb, eqb→eq}
+use lib.Dec.{eqb, eqb→eq}
 use lib.ListN.{drop, drop-of-length-le, length, length-append, length-drop}
 use lib.Seq.{take-at}
+use Rattle.opening.specs.declared.Opening.{Opening}
 use Rattle.model.specs.Basics.{zeros}
 use Rattle.model.specs.Model.{Geometry, Label, slots}
-use Rattle.model.proofs.Lists.{and-l, and-r, true-is}
-use Rattle.rules.specs.Calls.{given, obtain, obtainSet, refuse, rule}
-use Rattle.rules.specs.Entries.{lent, perform, result, written}
+use Rattle.model.proofs.Lists.{and-r}
+use Rattle.rules.specs.Calls.{obtain, obtainSet, rule}
+use Rattle.rules.specs.Entries.{lent, perform, result}
 use Rattle.rules.specs.Layout.{format1, format3}
 use Rattle.rules.specs.Reading.{read}
-use Rattle.rules.specs.Slots.{found}
-use Rattle.rules.specs.Table.{goodName, taken}
+use Rattle.rules.specs.Table.{goodName}
 use Rattle.rules.proofs.Valid.{Limits}
 use Rattle.fields.specs.Records.{putRecord, slotBytes}
-use Rattle.names.specs.Find.{findSlot, inSlot, notFound}
+use Rattle.names.specs.Find.{findSlot, inSlot}
+use Rattle.forms.specs.Forms.{geometryOf}
 use Rattle.label_check.specs.Label.{namedThird}
-use Rattle.opening.specs.Opening.{openNumber}
-use Rattle.opening.proofs.Laws.{LabelIn, ready, third-is}
-use Rattle.opening.proofs.Lookup.{not-there, there}
-use Rattle.opening.proofs.Numbers.{opened-good, opened-taken, passed, refused}
+use Rattle.opening.specs.Opening.{LabelIn, Opened}
+use Rattle.opening.proofs.Calls.{AsksSet, arguments-long, asks, done, found-at}
+use Rattle.opening.proofs.Laws.{third-is}
+use Rattle.opening.proofs.Numbers.{known}
 use Rattle.call_obtain.specs.Third.{orZeros}
 
 -- ---- the bytes
@@ -66,49 +66,22 @@ label-bytes t g n l lim x =
 
 -- ---- the call
 
-module _ (t name l a : List ℕ) (ok : Bool) (r : ℕ) (long : ok ≡ (eqb (length a) 24 && (eqb (length name) 44 && eqb (length l) 280))) (number : r ≡ openNumber t ok) where
-  pub not-opened : (r ≡ 0 → ⊥) → result r (lent t a l) ≡ perform (lent t a l) (obtain name)
-  not-opened n = refused (lent t a l) (obtain name) ok r long number n
+module _ (t name l a : List ℕ) (ok : Bool) (long : ok ≡ (eqb (length a) 24 && (eqb (length name) 44 && eqb (length l) 280))) where
+  pub obtains : AsksSet (lent t a l) (obtain name) ok (goodName name) name obtainSet
+  unfolding rule
+  obtains = record { lengths = long; rules = λ v. refl }
 
-  module _ (z : r ≡ 0) where
-    ruled : written (lent t a l) (rule (read t) (obtain name)) ≡ perform (lent t a l) (obtain name)
-    ruled = passed (lent t a l) (obtain name) ok r long number z
-
-    all-long : T (eqb (length a) 24 && (eqb (length name) 44 && eqb (length l) 280))
-    all-long = true-is (sym long ∙ opened-good t ok (sym z ∙ number))
-
-    pub answer-long : length a ≡ 24
-    answer-long = eqb→eq (length a) 24 (and-l (eqb (length a) 24) _ all-long)
-
+  module _ {o : Opening} (x : Opened t ok (goodName name) o) (z : o .refusal ≡ 0) where
     pub labels-long : length l ≡ 280
-    labels-long = eqb→eq (length l) 280 (and-r (eqb (length name) 44) _ (and-r (eqb (length a) 24) _ all-long))
+    labels-long = eqb→eq (length l) 280 (and-r (eqb (length name) 44) _ (arguments-long (asks obtains) x z))
 
-    refused-4 : goodName name ≡ false → rule (read t) (obtain name) ≡ refuse 4
-    unfolding rule
-    refused-4 h = rw h
-
-    pub bad-name : goodName name ≡ false → result 4 (lent t a l) ≡ perform (lent t a l) (obtain name)
-    bad-name h = sym (ap (written (lent t a l)) (refused-4 h)) ∙ ruled
-
-    pub is-taken : T (taken t)
-    is-taken = opened-taken t ok (sym z ∙ number)
-
-    module _ (h : goodName name ≡ true) (g : Geometry) (eg : g ≡ read t .geometry) where
-      rule-is : rule (read t) (obtain name) ≡ given (found (read t) name) 5 (obtainSet (read t))
-      unfolding rule
-      rule-is = rw h
-
-      pub not-found : notFound ≡ findSlot t name (slots g) → result (notFound .number) (lent t a l) ≡ perform (lent t a l) (obtain name)
-      not-found e = sym (ap (written (lent t a l)) (rule-is ∙ ap (λ (o : Option Label). given o 5 (obtainSet (read t))) (not-there t is-taken g eg name e))) ∙ ruled
-
-      pub obtained : (k : ℕ) (l′ a′ : List ℕ) → inSlot k ≡ findSlot t name (slots g) → l′ ≡ slotBytes t k ++ orZeros t (namedThird g (slotBytes t k)) → a′ ≡ zeros 24
-          → result 0 (lent t a′ l′) ≡ perform (lent t a l) (obtain name)
-      obtained k l′ a′ e el ea =
-          let x = ready t is-taken in
-          let f = there t is-taken g eg name k e in
-          let m = f .label in
-          let q : l′ ≡ format1 (read t .geometry) m ++ cond (eqb (m .slot3) 0) (zeros 140) (format3 (read t .geometry) m)
-          = el ∙ ap₂ (λ (i : ℕ) (u : Geometry). slotBytes t i ++ orZeros t (namedThird u (slotBytes t i))) (sym (f .slot)) eg ∙ label-bytes t (read t .geometry) name m (x .limits) (f .records) in
-          (λ i. result 0 (lent (x .bytes i) (ea i) (q i)))
-          ∙ sym (ap (written (lent t a l)) (rule-is ∙ ap (λ (o : Option Label). given o 5 (obtainSet (read t))) (f .same)))
-          ∙ ruled
+    pub obtained : (k : ℕ) → inSlot k ≡ findSlot t name (slots (geometryOf (o .geometry))) → (l′ a′ : List ℕ)
+        → l′ ≡ slotBytes t k ++ orZeros t (namedThird (geometryOf (o .geometry)) (slotBytes t k)) → a′ ≡ zeros 24
+        → result 0 (lent t a′ l′) ≡ perform (lent t a l) (obtain name)
+    obtained k e l′ a′ el ea =
+        let w = known x z in
+        let f = found-at obtains x z k e in
+        let m = f .label in
+        let q : l′ ≡ format1 (read t .geometry) m ++ cond (eqb (m .slot3) 0) (zeros 140) (format3 (read t .geometry) m)
+        = el ∙ ap₂ (λ (i : ℕ) (u : Geometry). slotBytes t i ++ orZeros t (namedThird u (slotBytes t i))) (sym (f .slot)) (w .geometryIs) ∙ label-bytes t (read t .geometry) name m (w .ready .limits) (f .records) in
+        done obtains x z f 0 (lent t a′ l′) (λ i. result 0 (lent (w .ready .bytes i) (ea i) (q i)))

@@ -41,15 +41,12 @@ pub fn obtain(table: &[u8], name: &[u8], labels: &mut [u8], answer: &mut [u8]) -
     ensures { λ r. ⌜ Obtains (now (table .entry)) (now (name .entry)) (now (labels .entry)) (now (answer .entry)) r (now (labels .exit)) (now (answer .exit)) ⌝ }
 {
     let lengths = opening::and_another(answer.len(), name.len(), labels.len(), 280);
-    let r = opening::open_to_read(table, lengths);
-    if r != 0 {
-        return r;
+    let opened = opening::and_named(opening::open_to_read(table, lengths), name);
+    if opened.refusal != 0 {
+        return opened.refusal;
     }
-    if fields::name_ok(name) {} else {
-        return 4;
-    }
-    let g = opening::geometry(table);
-    let Found::Slot(k) = names::find(table, (g.vtoc_tracks * g.records) as usize, name) else {
+    let g = opened.geometry;
+    let Found::Slot(k) = opening::look_up(table, g, name) else {
         return 5;
     };
     put_labels(table, g, k, labels);

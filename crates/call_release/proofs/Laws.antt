@@ -1,6 +1,6 @@
 -- Release: the draft that is written, and the call. Assumes nothing.
-use mathlib.Core.Path.{_≡_, refl, sym, ap, _∙_, subst}
-use mathlib.Core.Bool.{Bool, true, false, cond}
+use mathlib.Core.Path.{_≡_, refl, sym, ap, _∙_, subst, ap₂}
+use mathlib.Core.Bool.{Bool, true, false, cond, _&&_}
 use mathlib.Core.Option.{some}
 use mathlib.Core.List.{List, [], _∷_, _++_}
 use Prim.Native.Nat.{ℕ, _+_, _-_, _/_, _≤_, _<_}
@@ -14,7 +14,7 @@ use Rattle.rules.specs.Calls.{accept, answer, givenBack, goodTtr, release, rele
 use Rattle.rules.specs.Ledger.{keeps}
 use Rattle.rules.specs.Entries.{lent, result, written}
 use Rattle.rules.specs.Slots.{kept3, settleWith, without}
-use Rattle.rules.specs.Table.{fewExtents}
+use Rattle.rules.specs.Table.{fewExtents, goodName}
 use Rattle.rules.proofs.Cut.{keep-times}
 use Rattle.rules.proofs.Grants.{release-keeps}
 use Rattle.rules.proofs.Kept.{Keeps}
@@ -37,13 +37,13 @@ use Rattle.set_at.proofs.Laws.{copied}
 use Rattle.giving.specs.declared.Measured.{Measured}
 use Rattle.giving.specs.Giving.{At, FreedSlot, Measures}
 use Rattle.giving.proofs.Laws.{stays-is, tail-is}
-use Rattle.giving.proofs.Calls.{Names}
 use Rattle.call_release.specs.declared.Cut.{Cut}
 use Rattle.call_release.specs.Shorter.{CutPlans, Shortens, shorter}
+use Rattle.opening.proofs.Calls.{AsksSet}
 
-pub releases : (name : List ℕ) (ttr : ℕ) → Names (release name ttr) name (λ v. releaseSet v name ttr)
+pub releases : (t a name : List ℕ) (ttr : ℕ) (ok : Bool) → ok ≡ (eqb (length a) 24 && eqb (length name) 44) → AsksSet (lent t a []) (release name ttr) ok (goodName name) name (λ v. releaseSet v name ttr)
 unfolding rule
-releases name ttr = record { lengths = refl; rules = λ v. refl }
+releases t a name ttr ok e = record { lengths = e; rules = λ v. refl }
 
 -- what a good TTR says
 pub ttr-fits : (ttr all : ℕ) → goodTtr ttr all ≡ true → (ttr < 16777216) × (ttr / 256 + 1 ≤ all)

@@ -9,25 +9,6 @@ ghost use Rattle.rules.specs.Layout.{format1};
 ghost use Rattle.rules.specs.Slots.{withName};
 ghost use Rattle.fields.specs.Records.{putRecord, slotBytes};
 ghost use Rattle.labels.specs.Labels.{Format1};
-ghost use Rattle.call_rename.specs.Refusal.{earlyNumber};
-
-// The refusals that need no lookup: lengths, the table, either name; 0 for none.
-fn early(table: &[u8], old: &[u8], new: &[u8], answer: usize) -> u32
-    ensures { λ r. ⌜ r ≡ earlyNumber (now (table .entry)) (now (old .entry)) (now (new .entry)) answer ⌝ }
-{
-    let lengths = opening::and_another(answer, old.len(), new.len(), 44);
-    let r = opening::open_to_read(table, lengths);
-    if r != 0 {
-        return r;
-    }
-    if fields::name_ok(old) {} else {
-        return 4;
-    }
-    if fields::name_ok(new) {} else {
-        return 4;
-    }
-    0
-}
 
 // Puts a name into the format 1 in slot k.
 fn put_name(table: &mut [u8], k: usize, name: &[u8])
@@ -43,16 +24,17 @@ fn put_name(table: &mut [u8], k: usize, name: &[u8])
 pub fn rename(table: &mut [u8], old: &[u8], new: &[u8], answer: &mut [u8]) -> u32
     ensures { λ r. ⌜ Renames (now (table .entry)) (now (old .entry)) (now (new .entry)) (now (answer .entry)) r (now (table .exit)) (now (answer .exit)) ⌝ }
 {
-    let r = early(table, old, new, answer.len());
-    if r != 0 {
-        return r;
+    let lengths = opening::and_another(answer.len(), old.len(), new.len(), 44);
+    let named = opening::and_named(opening::open_to_read(table, lengths), old);
+    let opened = opening::and_named(named, new);
+    if opened.refusal != 0 {
+        return opened.refusal;
     }
-    let g = opening::geometry(table);
-    let n = (g.vtoc_tracks * g.records) as usize;
-    let Found::Slot(k) = names::find(table, n, old) else {
+    let g = opened.geometry;
+    let Found::Slot(k) = opening::look_up(table, g, old) else {
         return 5;
     };
-    if opening::on_volume(table, n, new) {
+    if opening::on_volume(table, g, new) {
         return 6;
     }
     put_name(table, k, new);

@@ -1,13 +1,16 @@
 -- Scratch: what is left, and the call. Assumes nothing.
 use mathlib.Core.Path.{_≡_, refl, sym, ap, ap₂, _∙_, subst}
-use mathlib.Core.Bool.{true, false}
+use mathlib.Core.Bool.{true, false, Bool, _&&_}
 use mathlib.Core.Option.{Option, some}
 use mathlib.Core.List.{List, [], _∷_, _++_, append-assoc}
 use Prim.Native.Nat.{ℕ, _≤_}
+use lib.Dec.{eqb}
+use lib.ListN.{length}
 use Rattle.model.specs.Model.{Extent, Geometry, Label, Volume, held, oneSlot, overs, runsOf, slots, slotsOf, tally, times, total, tracks, used}
 use Rattle.rules.specs.Calls.{accept, answer, givenBack, removeSet, rule, scratch, settled}
 use Rattle.rules.specs.Entries.{lent, result, written}
 use Rattle.rules.specs.Slots.{settle, without}
+use Rattle.rules.specs.Table.{goodName}
 use Rattle.rules.specs.Ledger.{removes}
 use Rattle.rules.proofs.Changes.{remove-keeps}
 use Rattle.rules.proofs.Kept.{Keeps}
@@ -20,14 +23,14 @@ use Rattle.commit.specs.Commit.{Drops, Leaves, Left, remains}
 use Rattle.commit.proofs.Drop.{drop-full}
 use Rattle.commit.proofs.Replies.{is-given-back, not-fitting}
 use Rattle.commit.proofs.Sets.{held-apart, others-stay, shows-below, slots-inside, slots-once, slots-shown, used-apart}
-use Rattle.giving.specs.Giving.{At, Measures, measuredExtents}
-use Rattle.giving.proofs.Calls.{Names}
+use Rattle.giving.specs.Giving.{At, Measures, measuredExtents, FreedSlot}
 use Rattle.call_scratch.specs.declared.Leaving.{Leaving}
 use Rattle.call_scratch.specs.Going.{GoingPlans}
+use Rattle.opening.proofs.Calls.{AsksSet}
 
-pub scratches : (name : List ℕ) → Names (scratch name) name (λ v. removeSet v name)
+pub scratches : (t a name : List ℕ) (ok : Bool) → ok ≡ (eqb (length a) 24 && eqb (length name) 44) → AsksSet (lent t a []) (scratch name) ok (goodName name) name (λ v. removeSet v name)
 unfolding rule
-scratches name = record { lengths = refl; rules = λ v. refl }
+scratches t a name ok e = record { lengths = e; rules = λ v. refl }
 
 module _ {g : Geometry} {t m s : List ℕ} {k : ℕ} (d : At g t m s k) where
   abbrev v : Volume

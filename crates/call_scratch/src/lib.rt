@@ -72,24 +72,21 @@ pub fn scratch_set(
 }
 
 // The call with a map to work in.
-fn scratch_in(table: &mut [u8], name: &[u8], answer: &mut [u8], map: &mut [u64]) -> u32
-    requires { ⌜ Roomy (now table) (now map) ⌝ }
+fn scratch_in(table: &mut [u8], name: &[u8], answer: &mut [u8], free_tracks: &mut [u64]) -> u32
+    requires { ⌜ Roomy (now table) (now «free_tracks») ⌝ }
     ensures { λ r. ⌜ Scratches (now (table .entry)) (now (name .entry)) (now (answer .entry)) r (now (table .exit)) (now (answer .exit)) ⌝ }
 {
-    let mut empty = [0u64; 8];
+    let mut free_slots = [0u64; 8];
     let lengths = opening::answer_and_name(answer.len(), name.len());
-    let r = opening::open(table, lengths, map, &mut empty);
-    if r != 0 {
-        return r;
+    let opened = opening::open_named(table, name, lengths, free_tracks, &mut free_slots);
+    if opened.refusal != 0 {
+        return opened.refusal;
     }
-    if fields::name_ok(name) {} else {
-        return 4;
-    }
-    let g = opening::geometry(table);
-    let Found::Slot(k) = names::find(table, (g.vtoc_tracks * g.records) as usize, name) else {
+    let g = opened.geometry;
+    let Found::Slot(k) = opening::look_up(table, g, name) else {
         return 5;
     };
-    scratch_set(table, g, map, &mut empty, k, answer)
+    scratch_set(table, g, free_tracks, &mut free_slots, k, answer)
 }
 
 // The call. A small volume has a small map: to fill the large one would be much of the call's time.

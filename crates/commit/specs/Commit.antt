@@ -15,8 +15,8 @@ use Rattle.rules.proofs.Valid.{Valid}
 use Rattle.tracks.specs.Map.{Shows, freeFrom}
 use Rattle.label_check.specs.Marks.{units}
 use Rattle.labels.specs.Labels.{Format1, Format3}
-use Rattle.opening.proofs.Laws.{Ready}
 use Rattle.settling.specs.Settling.{Chained, Settles}
+use Rattle.opening.specs.Opening.{Ready}
 use Rattle.change.proofs.Begin.{Alike}
 use Rattle.writing.specs.Writing.{Reached}
 

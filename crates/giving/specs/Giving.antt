@@ -9,9 +9,8 @@ use Rattle.tracks.specs.Map.{Shows}
 use Rattle.fields.specs.Records.{slotBytes}
 use Rattle.label_check.specs.Marks.{units}
 use Rattle.table_check.specs.Check.{Shown}
-use Rattle.opening.proofs.Laws.{Ready}
-use Rattle.opening.proofs.Lookup.{FoundAt}
 use Rattle.set_change.specs.Change.{Spreads, extentsIn}
+use Rattle.opening.specs.Opening.{FoundAt, Ready}
 use Rattle.set_at.proofs.Laws.{Stored}
 
 -- slot k of the table t has the data set of this name; the maps m and s show what the volume holds

@@ -16,7 +16,7 @@ use Rattle.request.proofs.Laws.{Good}
 use Rattle.set_change.specs.Change.{InRecords, NoneBelow, TookPieces}
 use Rattle.set_change.specs.Change.{granted as more}
 use Rattle.table_check.specs.Check.{Shown}
-use Rattle.opening.proofs.Laws.{Ready}
+use Rattle.opening.specs.Opening.{Ready}
 use Rattle.change.proofs.Begin.{Alike}
 use Rattle.commit.specs.declared.Plan.{Plan}
 use Rattle.commit.specs.Commit.{Plans}

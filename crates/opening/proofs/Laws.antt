@@ -2,20 +2,20 @@
 use mathlib.Core.Path.{_≡_, refl, sym, ap, _∙_, subst}
 use mathlib.Core.Option.{some}
 use mathlib.Core.List.{List}
-use Prim.Native.Nat.{ℕ, zero, suc, _*_, _≤_, _<_}
+use Prim.Native.Nat.{ℕ, zero, suc, _*_, _<_}
 use native.Mathlib.Omega.{arith}
 use lib.Dec.{T}
 use lib.ListN.{length}
 use Rattle.model.specs.Model.{Geometry, Label, Volume, slots}
 use Rattle.model.proofs.Lists.{find-All, same→eq, true-is}
-use Rattle.rules.specs.Layout.{encode, format1, format3, link}
-use Rattle.rules.specs.Reading.{chop, read, readGeometry}
+use Rattle.rules.specs.Layout.{link}
+use Rattle.rules.specs.Reading.{chop, read}
 use Rattle.rules.specs.Slots.{found}
 use Rattle.rules.specs.Table.{named, taken}
 use Rattle.rules.proofs.Keyed.{find-pass}
 use Rattle.rules.proofs.LabelBack.{length-1}
 use Rattle.rules.proofs.Taken.{taken-is}
-use Rattle.rules.proofs.Valid.{GoodLabel, Limits, Valid}
+use Rattle.rules.proofs.Valid.{Limits}
 use Rattle.sound.specs.Sound.{LabelOk, Sound}
 use Rattle.sound.proofs.Meaning.{taken-sound}
 use Rattle.fields.specs.Records.{slotBytes}
@@ -27,15 +27,7 @@ use Rattle.label_check.specs.Label.{namedThird}
 use Rattle.table_check.proofs.Pieces.{in-table, third-below}
 use Rattle.table_check.proofs.Read.{records-are}
 use Rattle.table_check.proofs.Whole.{geometry-read, taken-long}
-
--- the table t is taken, as the volume v
-pub record Ready (t : List ℕ) (v : Volume) : Type 0 where
-  pub valid : Valid v
-  pub bytes : t ≡ encode v
-  pub sound : Sound (chop (slots (v .geometry)) t) v
-  pub limits : Limits (v .geometry)
-  pub long : length t ≡ 140 * slots (v .geometry)
-  pub slot0 : readGeometry (slotBytes t 0) ≡ v .geometry
+use Rattle.opening.specs.Opening.{LabelIn, Ready}
 
 pub ready : (t : List ℕ) → T (taken t) → Ready t (read t)
 ready t x =
@@ -54,15 +46,6 @@ ready t x =
     }
 
 -- ---- a data set that is found
-
--- its label l, in the table t of geometry g
-pub record LabelIn (t : List ℕ) (g : Geometry) (n : List ℕ) (l : Label) : Type 0 where
-  pub good : GoodLabel g l
-  pub name : l .name ≡ n
-  pub inside : l .slot < slots g
-  pub inside3 : l .slot3 < slots g
-  pub one : slotBytes t (l .slot) ≡ format1 g l
-  pub three : 1 ≤ l .slot3 → slotBytes t (l .slot3) ≡ format3 g l
 
 pub found-label : (t : List ℕ) (v : Volume) → Ready t v → (name : List ℕ) (l : Label) → found v name ≡ some l → LabelIn t (v .geometry) name l
 found-label t v h name l e =

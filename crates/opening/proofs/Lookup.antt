@@ -18,8 +18,8 @@ use Rattle.rules.proofs.Valid.{Limits}
 use Rattle.fields.specs.Records.{slotBytes}
 use Rattle.fields.proofs.Slots.{chop-slot, length-chop}
 use Rattle.names.specs.Find.{Answer, findSlot, firstNamed, inSlot, isLabel, isNamed, isNothing, nameOf, notFound}
-use Rattle.opening.specs.Opening.{foundSlot}
-use Rattle.opening.proofs.Laws.{LabelIn, found-label, ready}
+use Rattle.opening.specs.Opening.{FoundAt, foundSlot}
+use Rattle.opening.proofs.Laws.{found-label, ready}
 
 module _ (g : Geometry) (R : List (List ℕ)) (name : List ℕ) where
   -- a record that is no label, one that has another name, and one that has this
@@ -64,13 +64,6 @@ found-none v name e = go (found v name) e
 
 -- ---- as a call has it: the geometry read from the table, and the answer of the lookup
 
--- the data set found in slot k, with its records in the table t of the volume v
-pub record FoundAt (t : List ℕ) (v : Volume) (name : List ℕ) (k : ℕ) : Type 0 where
-  pub label : Label
-  pub same : found v name ≡ some label
-  pub slot : label .slot ≡ k
-  pub records : LabelIn t (v .geometry) name label
-
 module _ (t : List ℕ) (x : T (taken t)) (g : Geometry) (e : g ≡ read t .geometry) where
   pub limits-of : Limits g
   limits-of = subst Limits (sym e) (ready t x .limits)
@@ -96,6 +89,9 @@ module _ (t : List ℕ) (x : T (taken t)) (g : Geometry) (e : g ≡ read t .geom
   there-inside name k n = let y = there name k n in let s = slots-of in let a = y .slot in let b = y .records .inside in omega arith
 
 -- whether a name is on the volume
-pub any-is : (n : List ℕ) (ls : List Label) → any (named n) ls ≡ not (isNothing (foundSlot (find (named n) ls)))
+any-is : (n : List ℕ) (ls : List Label) → any (named n) ls ≡ not (isNothing (foundSlot (find (named n) ls)))
 any-is n [] = refl
 any-is n (m ∷ ms) = by (named n m) (λ h. rw h) (λ h. rw h (any-is n ms))
+
+pub on-volume-is : (t : List ℕ) → T (taken t) → (g : Geometry) → g ≡ read t .geometry → (name : List ℕ) (b : Bool) → b ≡ not (isNothing (findSlot t name (slots g))) → any (named name) (read t .labels) ≡ b
+on-volume-is t x g e name b h = any-is name (read t .labels) ∙ ap (λ (a : Answer). not (isNothing a)) (sym (looked-up t x g e name)) ∙ sym h

@@ -13,7 +13,8 @@ pub extern "C" fn vtoc_probe_check(table: &[u8]) -> u32
     }
     let mut map = [u64::MAX; 1024];
     let mut empty = [0u64; 8];
-    if table_check::check(table, &mut map, &mut empty) {
+    let verdict = table_check::check(table, &mut map, &mut empty);
+    if verdict.taken {
         return 0;
     }
     3

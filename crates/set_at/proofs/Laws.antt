@@ -15,8 +15,8 @@ use Rattle.labels.specs.Labels.{Format3}
 use Rattle.labels.proofs.Following.{good-is}
 use Rattle.set_change.specs.Change.{InRecords, SetIn, extentsIn}
 use Rattle.set_change.proofs.Laws.{count-is, extents-are, set-in}
-use Rattle.opening.proofs.Laws.{Ready, third-is}
-use Rattle.opening.proofs.Lookup.{FoundAt}
+use Rattle.opening.specs.Opening.{FoundAt, Ready}
+use Rattle.opening.proofs.Laws.{third-is}
 use Rattle.set_at.specs.Held.{SetAt, ThirdIn}
 
 -- ---- the record of a format 3

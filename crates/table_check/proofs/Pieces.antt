@@ -9,7 +9,7 @@ use native.Mathlib.Omega.{arith}
 use borrow.Author.Tests.{eq-eqb, ne-eqb}
 use lib.ListN.{List·getD-eq-default, length}
 use Rattle.model.specs.Basics.{bit, flat}
-use Rattle.model.specs.Model.{Geometry, Label, Run, covers, free, held, oneSlot, run, runsOf, slots, slotsOf, tally, times, tracks, unused, used}
+use Rattle.model.specs.Model.{Geometry, Label, Run, covers, format0s, free, held, oneSlot, run, runsOf, slots, slotsOf, tally, times, tracks, unused, used}
 use Rattle.model.proofs.Lists.{All, All-append, clash, sum-append}
 use Rattle.rules.specs.Layout.{format4}
 use Rattle.rules.specs.Reading.{chop, recordAt}
@@ -20,12 +20,14 @@ use Rattle.sound.specs.Sound.{LabelOk, Sound}
 use Rattle.tracks.specs.Map.{Shows, freeFrom}
 use Rattle.tracks.proofs.Held.{free-gaps, shows-once, shows-same}
 use Rattle.fields.proofs.Slots.{chop-slot, length-chop}
+use Rattle.forms.specs.Forms.{geometryOf}
 use Rattle.label_check.specs.Marks.{units}
 use Rattle.table.specs.Labels.{GoneBelow, LabelsTaken, labelsBelow}
 use Rattle.table.proofs.Scan.{unit-tally}
 use Rattle.chain.specs.Chain.{ChainGone, chainFrom}
 use Rattle.chain.proofs.Laws.{chain-head, chain-length}
-use Rattle.table_check.specs.Check.{Contents, MapsBegun, Rest, RestTold, volumeAt}
+use Rattle.table_check.specs.declared.Verdict.{Verdict}
+use Rattle.table_check.specs.Check.{Contents, MapsBegun, Rest, RestTold, Tells, volumeAt}
 use Rattle.table_check.proofs.Read.{all-long, differ-names, highest-is, names-differ}
 
 -- ---- slots in the table
@@ -115,14 +117,15 @@ module _ (g : Geometry) (limit : Limits g) (t : List ℕ) (len : length t ≡ 14
   module _ (m m₁ m₂ s s₁ s₂ : List ℕ) (begun : MapsBegun g m m₁ s s₁) where
     -- ---- a label is wrong, or two overlap or have one name
 
-    pub labels-wrong : (r : Bool) → r ≡ false → LabelsTaken g t N m₁ m₂ s₁ s₂ r → Contents g t m m₂ s s₂ false
-    labels-wrong r e x =
+    pub labels-wrong : (r : Bool) → r ≡ false → LabelsTaken g t N m₁ m₂ s₁ s₂ r → (v : Verdict) → v .taken ≡ false → Contents g t m m₂ s s₂ v
+    labels-wrong r e x v f =
         record {
           longMap = x .longMap ∙ begun .longMap;
           longSlots = x .longSlots ∙ begun .longSlots;
-          yes = λ q. clash {b = false} q refl;
-          shown = λ q. clash {b = false} q refl;
-          no = λ q y.
+          yes = λ q. clash q f;
+          shown = λ q. clash q f;
+          tells = λ q. clash q f;
+          no = λ _ y.
               x .gone (differ-names g t (y .differ)) .no e (held g []) (units (0 ∷ [])) (begun .freeTracks) (begun .freeSlots) (y .labels)
               (λ j u. let a = y .once j u in let b = held-same j in omega arith)
               (λ j u.
@@ -158,20 +161,21 @@ module _ (g : Geometry) (limit : Limits g) (t : List ℕ) (len : length t ≡ 14
 
         -- ---- the chain is wrong
 
-        pub chain-wrong : w ≡ false → Contents g t m m₂ s s₃ false
-        chain-wrong v =
+        pub chain-wrong : w ≡ false → (o : Verdict) → o .taken ≡ false → Contents g t m m₂ s s₃ o
+        chain-wrong v o f =
             record {
               longMap = long-map;
               longSlots = gone .long ∙ long-slots;
-              yes = λ q. clash {b = false} q refl;
-              shown = λ q. clash {b = false} q refl;
+              yes = λ q. clash q f;
+              shown = λ q. clash q f;
+              tells = λ q. clash q f;
               no = λ _ y.
                   gone .no v before slots-shown (y .fives)
                   (none-below N ks (λ k u. let a = y .slotIn k u in let f = used-tally ls ks k in omega arith))
                   (λ j u. let a = y .slotOnce j in let c = used-same j in omega arith);
             }
 
-        module _ (v : w ≡ true) (o : Bool) (last : RestTold g t s₃ o) where
+        module _ (v : w ≡ true) (o : Verdict) (last : RestTold g t s₃ o) where
           all-slots : Shows s₃ N (units (used ls ks))
           all-slots =
               shows-same s₃ N (units ks ++ before) (units (used ls ks)) (λ j u. used-same j ∙ sym (unit-tally j (used ls ks)))
@@ -222,6 +226,15 @@ module _ (g : Geometry) (limit : Limits g) (t : List ℕ) (len : length t ≡ 14
                 four = ap (λ (k : ℕ). format4 g k (length (unused N (used ls ks)))) (sym (highest-is g t N)) ∙ y .four ∙ chop-slot N t 0 zero-in;
               }
 
+          numbers : o .taken ≡ true → Tells (volumeAt g t) (geometryOf (o .geometry)) (o .format0s) (o .highest)
+          unfolding format0s
+          numbers p = record {
+            geometryIs = last .geometryIs p;
+            countIs = last .countIs p (used ls ks) all-slots;
+            countMost = last .countMost p;
+            highestIs = last .highestIs p ∙ sym (highest-is g t N);
+          }
+
           -- ---- all is well so far: the rest decides
 
           pub rest-decides : Contents g t m m₂ s s₃ o
@@ -231,5 +244,6 @@ module _ (g : Geometry) (limit : Limits g) (t : List ℕ) (len : length t ≡ 14
                 longSlots = gone .long ∙ long-slots;
                 yes = λ p. all-sound (last .yes p (used ls ks) all-slots);
                 shown = λ p. record { freeTracks = tracks-shown; freeSlots = all-slots };
+                tells = numbers;
                 no = λ p y. last .no p (used ls ks) all-slots (rest-of y);
               }

@@ -20,11 +20,13 @@ use Rattle.tracks.specs.Map.{AllFree, Opened, Shows, Taken}
 use Rattle.tracks.proofs.Held.{shows-opened, shows-take, taken-true}
 use Rattle.fields.specs.Records.{slotBytes}
 use Rattle.fields.proofs.Slots.{chop-slot}
+use Rattle.forms.specs.Forms.{geometryOf}
 use Rattle.label_check.specs.Marks.{units}
 use Rattle.table.proofs.Scan.{unit-tally}
 use Rattle.spare.specs.Spare.{Spared, highestSlot}
 use Rattle.spare.proofs.Laws.{count-unused}
-use Rattle.table_check.specs.Check.{Checked, Contents, MapsBegun, RestTold, Shown, volumeAt}
+use Rattle.table_check.specs.declared.Verdict.{Verdict}
+use Rattle.table_check.specs.Check.{Checked, Contents, MapsBegun, RestTold, Shown, Tells, volumeAt}
 use Rattle.table_check.proofs.Read.{records-are, volume-is}
 
 -- ---- the maps
@@ -68,24 +70,33 @@ module _ (g : Geometry) (limit : Limits g) (m m₁ m₂ : List ℕ) (r₁ r₂ :
 -- ---- the rest
 
 module _ (g : Geometry) (t s : List ℕ) (clear : Bool) (count : ℕ) (x : Spared t (slots g) s clear count) where
-  pub rest-unclear : clear ≡ false → RestTold g t s false
-  rest-unclear e =
+  pub rest-unclear : clear ≡ false → (v : Verdict) → v .taken ≡ false → RestTold g t s v
+  rest-unclear e v f =
       record {
-        yes = λ q. clash {b = false} q refl;
-        no = λ q us h y. x .wrong e (λ k u f. y .zero k u (let a = h k u in let c = unit-tally k us in omega arith));
+        yes = λ q. clash q f;
+        geometryIs = λ q. clash q f;
+        countIs = λ q. clash q f;
+        countMost = λ q. clash q f;
+        highestIs = λ q. clash q f;
+        no = λ _ us h y. x .wrong e (λ k u i. y .zero k u (let a = h k u in let c = unit-tally k us in omega arith));
       }
 
-  module _ (e : clear ≡ true) (made rec : List ℕ) (h : ℕ) (r : Bool) (high : h ≡ highestSlot t (slots g)) (four : made ≡ format4 g h count) (first : rec ≡ slotBytes t 0) (o : r ≡ same made rec) where
-    made-is : (us : List ℕ) → Shows s (slots g) (units us) → made ≡ format4 g (highestSlot t (slots g)) (length (unused (slots g) us))
-    made-is us w =
-        let n : count ≡ length (unused (slots g) us) =
-        x .many e ∙ count-unused s (slots g) us (λ k u. let a = w k u in let c = unit-tally k us in omega arith)
-        in
-        four ∙ ap (λ (k : ℕ). format4 g k count) high ∙ ap (format4 g (highestSlot t (slots g))) n
+  -- the verdict v, whose numbers are those that the format 4 is made of
+  module _ (e : clear ≡ true) (made rec : List ℕ) (v : Verdict) (is : geometryOf (v .geometry) ≡ g) (many : v .format0s ≡ count) (high : v .highest ≡ highestSlot t (slots g))
+      (four : made ≡ format4 g (v .highest) count) (first : rec ≡ slotBytes t 0) (o : v .taken ≡ same made rec) where
+    count-is : (us : List ℕ) → Shows s (slots g) (units us) → count ≡ length (unused (slots g) us)
+    count-is us w = x .many e ∙ count-unused s (slots g) us (λ k u. let a = w k u in let c = unit-tally k us in omega arith)
 
-    pub rest-told : RestTold g t s r
+    made-is : (us : List ℕ) → Shows s (slots g) (units us) → made ≡ format4 g (highestSlot t (slots g)) (length (unused (slots g) us))
+    made-is us w = four ∙ ap (λ (k : ℕ). format4 g k count) high ∙ ap (format4 g (highestSlot t (slots g))) (count-is us w)
+
+    pub rest-told : RestTold g t s v
     rest-told =
         record {
+          geometryIs = λ _. is;
+          countIs = λ _ us w. many ∙ count-is us w;
+          countMost = λ _. let a = x .most in omega arith;
+          highestIs = λ _. high;
           yes = λ q us w.
               record {
                 zero = λ k u z. x .zero e k u (let a = w k u in let c = unit-tally k us in omega arith);
@@ -101,8 +112,10 @@ module _ (g : Geometry) (t s : List ℕ) (clear : Bool) (count : ℕ) (x : Spare
 refused : (t : List ℕ) → (T (taken t) → ⊥) → false ≡ taken t
 refused t f = by (taken t) (λ e. absurd (f (true-is e))) (λ e. sym e)
 
-no-maps : (t m s : List ℕ) → (T (taken t) → ⊥) → Checked t m m s s false
-no-maps t m s f = record { longMap = refl; longSlots = refl; told = refused t f; shown = λ q. clash {b = false} q refl }
+-- nothing was marked in the maps, and the verdict v says so
+module _ (t m s : List ℕ) (v : Verdict) (out : v .taken ≡ false) where
+  no-maps : (T (taken t) → ⊥) → Checked t m m s s v
+  no-maps f = record { longMap = refl; longSlots = refl; told = out ∙ refused t f; shown = λ q. clash q out; tells = λ q. clash q out }
 
 pub taken-long : (t : List ℕ) → T (taken t) → length t ≡ slots (read t .geometry) * 140
 taken-long t x = let p = taken-is t x in ap length (sym (p .1)) ∙ length-encode (read t) (p .0)
@@ -115,31 +128,34 @@ four-id : (g : Geometry) (a b : ℕ) → getD (format4 g a b) 44 0 ≡ 0xF4
 unfolding format4
 four-id g a b = refl
 
-pub too-short : (t m s : List ℕ) → length t < 140 → Checked t m m s s false
-too-short t m s u = no-maps t m s (λ x. let l = taken-long t x in let n = taken-sound t x .limits .least in omega arith)
+module _ (t m s : List ℕ) (v : Verdict) (out : v .taken ≡ false) where
+  pub too-short : length t < 140 → Checked t m m s s v
+  too-short u = no-maps t m s v out (λ x. let l = taken-long t x in let n = taken-sound t x .limits .least in omega arith)
 
-pub no-four : (t m s rec : List ℕ) → 140 ≤ length t → rec ≡ slotBytes t 0 → (getD rec 44 0 ≡ 0xF4 → ⊥) → Checked t m m s s false
-no-four t m s rec u e f =
-    no-maps t m s (λ x.
-    let y = taken-sound t x in
-    f (ap (λ (r : List ℕ). getD r 44 0) (e ∙ sym (chop-slot (length t / 140) t 0 (omega arith)) ∙ sym (y .four)) ∙ four-id (read t .geometry) _ _))
+  module _ (u : 140 ≤ length t) where
+    pub no-four : (rec : List ℕ) → rec ≡ slotBytes t 0 → (getD rec 44 0 ≡ 0xF4 → ⊥) → Checked t m m s s v
+    no-four rec e f =
+        no-maps t m s v out (λ x.
+        let y = taken-sound t x in
+        f (ap (λ (r : List ℕ). getD r 44 0) (e ∙ sym (chop-slot (length t / 140) t 0 (omega arith)) ∙ sym (y .four)) ∙ four-id (read t .geometry) _ _))
 
-pub out-of-limits : (t m s : List ℕ) (g : Geometry) → 140 ≤ length t → g ≡ readGeometry (slotBytes t 0) → limits g ≡ false → Checked t m m s s false
-out-of-limits t m s g u e f =
-    no-maps t m s (λ x.
-    let q : read t .geometry ≡ g = geometry-read t u ∙ sym e in
-    clash (is-true (taken-is t x .0 .limit)) (ap limits q ∙ f))
+    module _ (g : Geometry) (e : g ≡ readGeometry (slotBytes t 0)) where
+      pub out-of-limits : limits g ≡ false → Checked t m m s s v
+      out-of-limits f =
+          no-maps t m s v out (λ x.
+          let q : read t .geometry ≡ g = geometry-read t u ∙ sym e in
+          clash (is-true (taken-is t x .0 .limit)) (ap limits q ∙ f))
 
-pub wrong-length : (t m s : List ℕ) (g : Geometry) → 140 ≤ length t → g ≡ readGeometry (slotBytes t 0) → (length t ≡ 140 * slots g → ⊥) → Checked t m m s s false
-wrong-length t m s g u e f =
-    no-maps t m s (λ x.
-    let q : slots (read t .geometry) ≡ slots g = ap slots (geometry-read t u ∙ sym e) in
-    let l = taken-long t x in
-    f (omega arith))
+      pub wrong-length : (length t ≡ 140 * slots g → ⊥) → Checked t m m s s v
+      wrong-length f =
+          no-maps t m s v out (λ x.
+          let q : slots (read t .geometry) ≡ slots g = ap slots (geometry-read t u ∙ sym e) in
+          let l = taken-long t x in
+          f (omega arith))
 
 -- ---- the contents decide
 
-pub contents-decide : (t m m′ s s′ : List ℕ) (g : Geometry) (r : Bool) → Limits g → g ≡ readGeometry (slotBytes t 0) → length t ≡ 140 * slots g → Contents g t m m′ s s′ r
+pub contents-decide : (t m m′ s s′ : List ℕ) (g : Geometry) (r : Verdict) → Limits g → g ≡ readGeometry (slotBytes t 0) → length t ≡ 140 * slots g → Contents g t m m′ s s′ r
     → Checked t m m′ s s′ r
 contents-decide t m m′ s s′ g r limit e len x =
     let n = limit .least in
@@ -149,10 +165,11 @@ contents-decide t m m′ s s′ g r limit e len x =
       longMap = x .longMap;
       longSlots = x .longSlots;
       told =
-          by r
+          by (r .taken)
           (λ q. q ∙ sym (is-true (sound-taken t (let z : length t % 140 ≡ 0 = omega arith in z) (rw (v, c) (x .yes q)))))
           (λ q. q ∙ refused t (λ y. x .no q (let z = taken-sound t y in rw (v, c) at z)));
       shown = λ q. subst (λ (w : Volume). Shown w m′ s′) (sym v) (x .shown q);
+      tells = λ q. subst (λ (w : Volume). Tells w (geometryOf (r .geometry)) (r .format0s) (r .highest)) (sym v) (x .tells q);
     }
 
 pub no-label : (t rec : List ℕ) → rec ≡ slotBytes t 0 → getD rec 44 0 ≡ 0xF4 → Rattle.names.specs.Find.isLabel (slotBytes t 0) ≡ false

@@ -5,18 +5,20 @@ use mathlib.Core.Bool.{Bool, true, false}
 use mathlib.Core.List.{List, [], _∷_}
 use lib.ListN.{length, replicate}
 use Rattle.model.specs.Basics.{zeros}
-use Rattle.model.specs.Model.{Geometry, Volume, free, held, slots, tally, tracks, unused, used}
-use Rattle.rules.specs.Layout.{format4}
+use Rattle.model.specs.Model.{Geometry, Volume, format0s, free, held, slots, tally, tracks, unused, used}
+use Rattle.rules.specs.Layout.{format4, highest}
 use Rattle.rules.specs.Reading.{chop, read, readGeometry}
 use Rattle.rules.specs.Table.{taken}
 use Rattle.rules.proofs.Valid.{Limits}
 use Rattle.sound.specs.Sound.{Sound}
 use Rattle.tracks.specs.Map.{AllFree, Shows}
 use Rattle.fields.specs.Records.{slotBytes}
+use Rattle.forms.specs.Forms.{geometryOf}
 use Rattle.label_check.specs.Marks.{units}
 use Rattle.table.specs.Labels.{labelsBelow}
 use Rattle.chain.specs.Chain.{chainFrom}
 use Rattle.spare.specs.Spare.{highestSlot}
+use Rattle.table_check.specs.declared.Verdict.{Verdict}
 
 -- the volume that a table of this geometry is read as
 abbrev pub volumeAt : Geometry → List ℕ → Volume
@@ -45,26 +47,39 @@ pub record Rest (g : Geometry) (t us : List ℕ) : Type 0 where
   pub zero : (k : ℕ) → k < slots g → tally k us ≡ 0 → slotBytes t k ≡ zeros 140
   pub four : format4 g (highestSlot t (slots g)) (length (unused (slots g) us)) ≡ slotBytes t 0
 
-pub record RestTold (g : Geometry) (t s : List ℕ) (r : Bool) : Type 0 where
-  pub yes : r ≡ true → (us : List ℕ) → Shows s (slots g) (units us) → Rest g t us
-  pub no : r ≡ false → (us : List ℕ) → Shows s (slots g) (units us) → Rest g t us → ⊥
+pub record RestTold (g : Geometry) (t s : List ℕ) (r : Verdict) : Type 0 where
+  pub yes : r .taken ≡ true → (us : List ℕ) → Shows s (slots g) (units us) → Rest g t us
+  pub no : r .taken ≡ false → (us : List ℕ) → Shows s (slots g) (units us) → Rest g t us → ⊥
+  pub geometryIs : r .taken ≡ true → geometryOf (r .geometry) ≡ g
+  pub countIs : r .taken ≡ true → (us : List ℕ) → Shows s (slots g) (units us) → r .format0s ≡ length (unused (slots g) us)
+  pub countMost : r .taken ≡ true → r .format0s ≤ slots g
+  pub highestIs : r .taken ≡ true → r .highest ≡ highestSlot t (slots g)
 
 -- the maps show what the volume holds
 pub record Shown (v : Volume) (m s : List ℕ) : Type 0 where
   pub freeTracks : Shows m (tracks (v .geometry)) (held (v .geometry) (v .labels))
   pub freeSlots : Shows s (slots (v .geometry)) (units (used (v .labels) (v .chain)))
 
--- a table of this geometry is sound, and the maps show what it holds; or it is not
-pub record Contents (g : Geometry) (t m m′ s s′ : List ℕ) (r : Bool) : Type 0 where
-  pub longMap : length m′ ≡ length m
-  pub longSlots : length s′ ≡ length s
-  pub yes : r ≡ true → Sound (chop (slots g) t) (volumeAt g t)
-  pub shown : r ≡ true → Shown (volumeAt g t) m′ s′
-  pub no : r ≡ false → Sound (chop (slots g) t) (volumeAt g t) → ⊥
+-- the numbers are the volume's: its geometry, how many format 0s it has, and the highest slot of a format 1, 0 for none
+pub record Tells (v : Volume) (g : Geometry) (count top : ℕ) : Type 0 where
+  pub geometryIs : g ≡ v .geometry
+  pub countIs : count ≡ length (format0s v)
+  pub countMost : count ≤ slots (v .geometry)
+  pub highestIs : top ≡ highest (v .labels)
 
--- THE CHECK: whether the table is taken, and what is free then
-pub record Checked (t m m′ s s′ : List ℕ) (r : Bool) : Type 0 where
+-- a table of this geometry is sound, and the maps show what it holds; or it is not
+pub record Contents (g : Geometry) (t m m′ s s′ : List ℕ) (r : Verdict) : Type 0 where
   pub longMap : length m′ ≡ length m
   pub longSlots : length s′ ≡ length s
-  pub told : r ≡ taken t
-  pub shown : r ≡ true → Shown (read t) m′ s′
+  pub yes : r .taken ≡ true → Sound (chop (slots g) t) (volumeAt g t)
+  pub shown : r .taken ≡ true → Shown (volumeAt g t) m′ s′
+  pub tells : r .taken ≡ true → Tells (volumeAt g t) (geometryOf (r .geometry)) (r .format0s) (r .highest)
+  pub no : r .taken ≡ false → Sound (chop (slots g) t) (volumeAt g t) → ⊥
+
+-- THE CHECK: whether the table is taken, and then what is free and what its numbers are
+pub record Checked (t m m′ s s′ : List ℕ) (r : Verdict) : Type 0 where
+  pub longMap : length m′ ≡ length m
+  pub longSlots : length s′ ≡ length s
+  pub told : r .taken ≡ taken t
+  pub shown : r .taken ≡ true → Shown (read t) m′ s′
+  pub tells : r .taken ≡ true → Tells (read t) (geometryOf (r .geometry)) (r .format0s) (r .highest)

@@ -1,36 +1,34 @@
 -- A taken table is ready to be listed, and its parts make the listing. Assumes nothing.
 use mathlib.Core.Path.{_≡_, sym, ap, _∙_, subst}
-use mathlib.Core.Bool.{Bool, true, false}
+use mathlib.Core.Bool.{true, false}
 use mathlib.Core.List.{List, [], _∷_}
 use Prim.Native.Nat.{ℕ, _*_, _≤_}
 use native.Mathlib.Omega.{arith}
 use lib.Dec.{T}
 use lib.ListN.{length}
 use Rattle.model.specs.Basics.{flat}
-use Rattle.model.specs.Model.{Geometry, Volume, format0s, free, runsOf, slots, total, tracks, used}
-use Rattle.model.proofs.Lists.{All, by}
+use Rattle.model.specs.Model.{Geometry, Volume, format0s, free, runsOf, slots, total, tracks}
+use Rattle.model.proofs.Lists.{All}
+use Rattle.rules.specs.Demand3.{sound}
 use Rattle.rules.specs.Listing.{dataLine, freeLine, listing, listingOf, refusalLine, slotLine, volumeLine}
-use Rattle.rules.specs.Reading.{read, readGeometry, recordAt}
-use Rattle.rules.specs.Table.{goodLength, taken}
-use Rattle.rules.proofs.Taken.{length-encode, taken-is}
+use Rattle.rules.specs.Reading.{read}
+use Rattle.rules.specs.Table.{goodLength, taken, valid}
+use Rattle.rules.proofs.Keyed.{count}
+use Rattle.rules.proofs.Taken.{taken-is}
 use Rattle.rules.proofs.Valid.{Valid}
 use Rattle.sound.specs.Sound.{LabelOk, Sound}
 use Rattle.sound.proofs.Meaning.{recordsOf, taken-sound}
 use Rattle.tracks.specs.Map.{freeFrom}
-use Rattle.fields.specs.Records.{slotBytes}
-use Rattle.fields.proofs.Slots.{chop-slot}
 use Rattle.table.specs.Labels.{labelsBelow}
-use Rattle.table.proofs.Scan.{unit-tally}
 use Rattle.listing.specs.Text.{Written, volumeText}
 use Rattle.listing.proofs.Decimals.{then}
 use Rattle.listing.proofs.Extents.{good-proper, tracks-most}
 use Rattle.listing.proofs.Volumes.{volume-text}
-use Rattle.spare.specs.Spare.{Spared, ZeroBelow}
-use Rattle.table_check.specs.Check.{Shown, volumeAt}
-use Rattle.table_check.proofs.Free.{empty-shown, free-shown}
+use Rattle.table_check.specs.Check.{Shown, Tells, volumeAt}
+use Rattle.table_check.proofs.Free.{free-shown}
 use Rattle.table_check.proofs.Pieces.{third-below}
-use Rattle.table_check.proofs.Read.{records-are, volume-is}
-use Rattle.table_check.proofs.Whole.{geometry-read}
+use Rattle.table_check.proofs.Read.{volume-is}
+use Rattle.table_check.proofs.Whole.{geometry-read, taken-long}
 use Rattle.table_list.specs.Whole.{Listable, Ready}
 use Rattle.table_list.proofs.Laws.{reads, widen}
 
@@ -40,10 +38,10 @@ all-two : {A : Type 0} (P Q R : A → Type 0) → ((x : A) → P x → Q x → R
 all-two P Q R f [] a b = tt
 all-two P Q R f (x ∷ xs) a b = (f x (a .0) (b .0), all-two P Q R f xs (a .1) (b .1))
 
-module _ (g : Geometry) (t m s : List ℕ) (len : length t ≡ 140 * slots g) (v : read t ≡ volumeAt g t) (valid : Valid (volumeAt g t)) (sound : Sound (recordsOf t) (volumeAt g t)) (shown : Shown (volumeAt g t) m s) where
-  pub ready-so : Ready g t m s
+module _ (g : Geometry) (t m s : List ℕ) (len : length t ≡ 140 * slots g) (v : read t ≡ volumeAt g t) (valid : Valid (volumeAt g t)) (sound : Sound (recordsOf t) (volumeAt g t)) (shown : Shown (volumeAt g t) m s)
+    (count top : ℕ) (tells : Tells (volumeAt g t) g count top) where
+  ready-so : Ready g count t m
   ready-so =
-      let us = used (volumeAt g t .labels) (volumeAt g t .chain) in
       let rs = recordsOf t in
       record {
         limits = sound .limits;
@@ -60,44 +58,37 @@ module _ (g : Geometry) (t m s : List ℕ) (len : length t ≡ 140 * slots g) (v
             })
             (labelsBelow g t (slots g)) (sound .labels) (tracks-most (volumeAt g t) valid);
         freeTracks = free-shown (volumeAt g t) m s shown;
-        zero = λ k u f.
-            let a = shown .freeSlots k u in
-            let c = unit-tally k us in
-            sym (chop-slot (slots g) t k u) ∙ ap (λ (x : List (List ℕ)). recordAt x k) (sym (records-are g t len)) ∙ sound .rest k u (omega arith);
-        freeSlots = empty-shown (volumeAt g t) m s shown;
+        countIs = tells .countIs;
+        countMost = tells .countMost;
       }
 
-pub ready : (t m s : List ℕ) (g : Geometry) → T (taken t) → Shown (read t) m s → g ≡ readGeometry (slotBytes t 0) → Ready g t m s
-ready t m s g x w e =
+pub ready : (t m s : List ℕ) (g : Geometry) (count top : ℕ) → T (taken t) → Shown (read t) m s → Tells (read t) g count top → Ready g count t m
+ready t m s g count top x w tells =
     let p = taken-is t x in
     let y = taken-sound t x in
-    let l : length t ≡ slots (read t .geometry) * 140 = ap length (sym (p .1)) ∙ length-encode (read t) (p .0) in
+    let l = taken-long t x in
     let n = y .limits .least in
-    let q : read t .geometry ≡ g = geometry-read t (omega arith) ∙ sym e in
-    let z : slots (read t .geometry) ≡ slots g = ap slots q in
+    let q : g ≡ read t .geometry = tells .geometryIs in
+    let z : slots g ≡ slots (read t .geometry) = ap slots q in
     let len : length t ≡ 140 * slots g = omega arith in
-    let v : read t ≡ volumeAt g t = volume-is g t len (omega arith) e in
-    ready-so g t m s len v (subst Valid v (p .0)) (subst (Sound (recordsOf t)) v y) (subst (λ (u : Volume). Shown u m s) v w)
+    let v : read t ≡ volumeAt g t = volume-is g t len (omega arith) (q ∙ geometry-read t (omega arith)) in
+    ready-so g t m s len v (subst Valid v (p .0)) (subst (Sound (recordsOf t)) v y) (subst (λ (u : Volume). Shown u m s) v w) count top
+    (subst (λ (u : Volume). Tells u g count top) v tells)
 
 -- ---- its listing
 
-clear-so : (t : List ℕ) (n : ℕ) (s : List ℕ) (b : Bool) (count : ℕ) → Spared t n s b count → ZeroBelow t n s → count ≡ total (freeFrom s n 0)
-clear-so t n s b count x z = by b (λ e. x .many e) (λ e. absurd (x .wrong e z))
-
-module _ (g : Geometry) (t m s : List ℕ) (h : Ready g t m s) where
-  pub whole-written : {a b d r count : ℕ} {o o₁ o₂ o₃ o₄ : List ℕ} (clear : Bool)
+module _ (g : Geometry) (count : ℕ) (t m : List ℕ) (h : Ready g count t m) where
+  pub whole-written : {a b d r : ℕ} {o o₁ o₂ o₃ o₄ : List ℕ}
       → Written 0 (volumeText (g .cylinders) (g .heads)) 64 o o₁ a
       → Written a (flat dataLine (labelsBelow g t (slots g))) 29952 o₁ o₂ b
       → Written b (flat freeLine (freeFrom m (tracks g) 0)) (14 * tracks g) o₂ o₃ d
-      → Spared t (slots g) s clear count
       → Written d (slotLine count) 64 o₃ o₄ r → Written 0 (listingOf (read t)) 1000000 o o₄ r
-  whole-written clear v w x c y =
-      let n = clear-so t (slots g) s clear _ c (h .zero) ∙ h .freeSlots in
+  whole-written v w x y =
       let top = h .limits .tracksMost in
       reads (listingOf (read t)) (ap listingOf (sym (h .volume)))
       (widen 1000000 (omega arith)
       (then (then (then (reads (volumeLine g) (volume-text g) v) w) (reads (flat freeLine (free g (labelsBelow g t (slots g)))) (ap (flat freeLine) (h .freeTracks)) x))
-      (reads (slotLine (length (format0s (volumeAt g t)))) (ap slotLine n) y)))
+      (reads (slotLine (length (format0s (volumeAt g t)))) (ap slotLine (h .countIs)) y)))
 
 -- ---- refused or not
 

@@ -9,11 +9,11 @@ use Rattle.model.specs.Model.{Geometry, Label, format0s, free, run, runsOf, slo
 use Rattle.model.proofs.Lists.{All}
 use Rattle.rules.specs.Listing.{freeLine}
 use Rattle.rules.specs.Reading.{read}
+use Rattle.rules.proofs.Keyed.{count}
 use Rattle.rules.proofs.Valid.{Limits}
 use Rattle.tracks.specs.Map.{freeFrom}
-use Rattle.listing.specs.Text.{Proper}
 use Rattle.table.specs.Labels.{labelsBelow}
-use Rattle.spare.specs.Spare.{ZeroBelow}
+use Rattle.listing.specs.Text.{Proper}
 use Rattle.table_check.specs.Check.{volumeAt}
 
 -- the line of the free tracks from a up to b, none where there are none
@@ -27,12 +27,12 @@ pub record Listable (g : Geometry) (l : Label) : Type 0 where
   pub tracks : total (runsOf l) ≤ 65535
   pub third : l .slot3 < slots g
 
--- a taken table of this geometry, and the maps of its free tracks and slots
-pub record Ready (g : Geometry) (t m s : List ℕ) : Type 0 where
+-- a taken table of this geometry and with so many format 0s, and the map of its free tracks
+pub record Ready (g : Geometry) (count : ℕ) (t m : List ℕ) : Type 0 where
   pub limits : Limits g
   pub long : length t ≡ 140 * slots g
   pub volume : read t ≡ volumeAt g t
   pub labels : All (Listable g) (labelsBelow g t (slots g))
   pub freeTracks : freeFrom m (tracks g) 0 ≡ free g (labelsBelow g t (slots g))
-  pub zero : ZeroBelow t (slots g) s
-  pub freeSlots : total (freeFrom s (slots g) 0) ≡ length (format0s (volumeAt g t))
+  pub countIs : count ≡ length (format0s (volumeAt g t))
+  pub countMost : count ≤ slots g

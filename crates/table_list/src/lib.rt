@@ -130,30 +130,35 @@ fn put_slots(out: &mut [u8], at: usize, n: usize) -> usize
     at + r
 }
 
-// Writes the listing of a taken table.
-fn list_taken(table: &[u8], g: Geometry, map: &[u64], empty: &[u64], out: &mut [u8]) -> usize
-    requires { ⌜ Ready (geometryOf g) (now table) (now map) (now empty) × (length (now map) ≡ 1024) × (length (now empty) ≡ 8) × (1000000 ≤ length (now out)) ⌝ }
+// Writes the listing of a taken table, which has `format0s` format 0s.
+fn list_taken(
+    table: &[u8],
+    g: Geometry,
+    format0s: usize,
+    free_tracks: &[u64],
+    out: &mut [u8],
+) -> usize
+    requires { ⌜ Ready (geometryOf g) format0s (now table) (now «free_tracks») × (length (now «free_tracks») ≡ 1024) × (1000000 ≤ length (now out)) ⌝ }
     ensures { λ r. ⌜ Written 0 (listingOf (read (now (table .entry)))) 1000000 (now (out .entry)) (now (out .exit)) r ⌝ }
 {
     let a = listing::volume_line(out, g.cylinders, g.heads);
     let b = data_lines(table, g, out, a);
-    let c = free_lines(map, (g.cylinders * g.heads) as usize, out, b);
-    let spares = spare::spare(table, (g.vtoc_tracks * g.records) as usize, empty);
-    put_slots(out, c, spares.count)
+    let c = free_lines(free_tracks, (g.cylinders * g.heads) as usize, out, b);
+    put_slots(out, c, format0s)
 }
 
 // Writes the listing of any table, taken or not, and gives back its length. The maps are room to work in; every track is free in
 // that of tracks.
-pub fn list(table: &[u8], map: &mut [u64], empty: &mut [u64], out: &mut [u8]) -> usize
-    requires { ⌜ (now map ≡ ones 1024) × (length (now empty) ≡ 8) × (1000000 ≤ length (now out)) ⌝ }
+pub fn list(table: &[u8], free_tracks: &mut [u64], free_slots: &mut [u64], out: &mut [u8]) -> usize
+    requires { ⌜ (now «free_tracks» ≡ ones 1024) × (length (now «free_slots») ≡ 8) × (1000000 ≤ length (now out)) ⌝ }
     ensures { λ r. ⌜ (length (now (out .exit)) ≡ length (now (out .entry))) × (take r (now (out .exit)) ≡ listing (now (table .entry))) × (r ≤ 1000000) ⌝ }
 {
     if table_check::good_length(table) {} else {
         return listing::refusal_line(out, 2);
     }
-    if table_check::check(table, map, empty) {} else {
+    let verdict = table_check::check(table, free_tracks, free_slots);
+    if verdict.taken {} else {
         return listing::refusal_line(out, 3);
     }
-    let g = forms::geometry_of(fields::record_at(table, 0));
-    list_taken(table, g, map, empty, out)
+    list_taken(table, verdict.geometry, verdict.format0s, free_tracks, out)
 }

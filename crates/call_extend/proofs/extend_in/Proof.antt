@@ -1,21 +1,26 @@
-use mathlib.Core.Path.{sym, _∙_, ap}
-use native.Mathlib.Omega.{arith}
-use Rattle.forms.specs.Forms.{geometryOf}
-use Rattle.opening.proofs.Lookup.{limits-of, table-long}
-use Rattle.call_extend.proofs.Laws.{bad-name, is-taken, lengthened, longer, not-begun, not-found}
+use mathlib.Core.Path.{refl, sym, _∙_, ap}
+use Rattle.opening.proofs.Calls.{asks, not-found, refused}
+use Rattle.opening.proofs.Numbers.{known, known-maps}
+use Rattle.call_extend.proofs.Laws.{extends, lengthened, longer}
 use Rattle.names.specs.Find.{answerOf}
 use borrow.Author.Needs.{needs}
 use Rattle.call_extend.proofs.extend_in.Statement.{statement}
 use Rattle.call_extend.proofs.extend_in.Tie as tie
+use Rattle.call_extend.proofs.extend_in.Reads as reads
+use Rattle.call_extend.proofs.extend_in.Lts as lts
+use Rattle.call_extend.proofs.lengthen.Reads as lengthen-reads
+use Rattle.opening.proofs.answer_and_name.Reads as answer-and-name-reads
+use Rattle.opening.proofs.look_up.Reads as look-up-reads
+use Rattle.opening.proofs.open_named.Reads as open-named-reads
 
 answer-and-name-requires : tie.Need-answer-and-name-requires
 answer-and-name-requires c κs = search needs
 
-slice-aggregate-open : tie.Need-slice-aggregate-open
-slice-aggregate-open c = search needs
+slice-aggregate-open-named : tie.Need-slice-aggregate-open-named
+slice-aggregate-open-named c = search needs
 
-open-requires : tie.Need-open-requires
-open-requires c κs = search needs
+open-named-requires : tie.Need-open-named-requires
+open-named-requires c κs = search needs
 
 same-length : tie.Need-same-length
 same-length c = search needs
@@ -25,13 +30,22 @@ same-length-2 c = search needs
 
 returns : tie.Need-returns
 returns c =
-    let at-open = c .before .before .before .before in
-    let at-answer-and-name = at-open .before .before .before .before in
+    let at-open-named = c .before .before .before .before .before in
+    let at-answer-and-name = at-open-named .before .before .before .before in
     let top = at-answer-and-name .before .before .before .before .before in
-    not-begun (top .args .table .now) (top .args .name .now) (top .args .answer .now) _ _ (at-answer-and-name .answer-and-name .ensures) (at-open .«open» .ensures .number) (c .if1 .taken)
+    refused (asks (extends (top .args .table .now) (top .args .name .now) (top .args .answer .now) _ (at-answer-and-name .answer-and-name .ensures))) (at-open-named .open-named .ensures .0) (c .if1 .taken)
 
-name-ok-requires : tie.Need-name-ok-requires
-name-ok-requires c κs = search needs
+look-up-requires : tie.Need-look-up-requires
+look-up-requires c κs =
+    let at-open-named = c .before .before .before .before .before .before .before in
+    let w = known (at-open-named .open-named .ensures .0) (c .before .before .if1 .left) in
+    (w .limits, w .long)
+
+enum-known-k : tie.Need-enum-known-k
+enum-known-k c = search needs
+
+enum-told : tie.Need-enum-told
+enum-told c = search needs
 
 same-length-3 : tie.Need-same-length-3
 same-length-3 c = search needs
@@ -41,33 +55,26 @@ same-length-4 c = search needs
 
 returns-2 : tie.Need-returns-2
 returns-2 c =
-    let at-open = c .before .before .before .before .before .before in
-    let at-answer-and-name = at-open .before .before .before .before in
+    let at-if1 = c .before .before .before .before .before in
+    let at-open-named = at-if1 .before .before .before .before .before in
+    let at-answer-and-name = at-open-named .before .before .before .before in
     let top = at-answer-and-name .before .before .before .before .before in
-    bad-name (top .args .table .now) (top .args .name .now) (top .args .answer .now) _ _ (at-answer-and-name .answer-and-name .ensures) (at-open .«open» .ensures .number) (c .before .before .if1 .left) (sym (c .before .name-ok .ensures) ∙ c .if2 .left)
+    not-found (extends (top .args .table .now) (top .args .name .now) (top .args .answer .now) _ (at-answer-and-name .answer-and-name .ensures)) (at-open-named .open-named .ensures .0) (at-if1 .if1 .left) (ap answerOf (sym (c .enum-told .given .1)) ∙ c .before .before .look-up .ensures)
 
-geometry-requires : tie.Need-geometry-requires
-geometry-requires c κs =
-    let at-if1 = c .before .before .before in
-    let at-open = at-if1 .before .before .before .before in
-    let at-answer-and-name = at-open .before .before .before .before in
+slice-aggregate-lengthen : tie.Need-slice-aggregate-lengthen
+slice-aggregate-lengthen c = search needs
+
+lengthen-requires : tie.Need-lengthen-requires
+lengthen-requires c κs =
+    let at-k = c .before .before .before .before .before in
+    let at-look-up = at-k .before .before in
+    let at-if1 = at-look-up .before .before .before in
+    let at-open-named = at-if1 .before .before .before .before .before in
+    let at-answer-and-name = at-open-named .before .before .before .before in
     let top = at-answer-and-name .before .before .before .before .before in
-    is-taken (top .args .table .now) (top .args .name .now) (top .args .answer .now) _ _ (at-answer-and-name .answer-and-name .ensures) (at-open .«open» .ensures .number) (at-if1 .if1 .left)
-
-mul-n : tie.Need-mul-n
-mul-n c = omega (arith, limits-of (c .before .before .before .before .before .before .before .before .before .before .before .before .before .before .before .before .before .before .args .table .now) (is-taken (c .before .before .before .before .before .before .before .before .before .before .before .before .before .before .before .before .before .before .args .table .now) (c .before .before .before .before .before .before .before .before .before .before .before .before .before .before .before .before .before .before .args .name .now) (c .before .before .before .before .before .before .before .before .before .before .before .before .before .before .before .before .before .before .args .answer .now) _ _ (c .before .before .before .before .before .before .before .before .before .before .before .before .before .answer-and-name .ensures) (c .before .before .before .before .before .before .before .before .before .«open» .ensures .number) (c .before .before .before .before .before .if1 .left)) (geometryOf (c .before .geometry .result)) (c .before .geometry .ensures) .most)
-
-cast-n : tie.Need-cast-n
-cast-n c = omega (arith, limits-of (c .before .before .before .before .before .before .before .before .before .before .before .before .before .before .before .before .before .before .args .table .now) (is-taken (c .before .before .before .before .before .before .before .before .before .before .before .before .before .before .before .before .before .before .args .table .now) (c .before .before .before .before .before .before .before .before .before .before .before .before .before .before .before .before .before .before .args .name .now) (c .before .before .before .before .before .before .before .before .before .before .before .before .before .before .before .before .before .before .args .answer .now) _ _ (c .before .before .before .before .before .before .before .before .before .before .before .before .before .answer-and-name .ensures) (c .before .before .before .before .before .before .before .before .before .«open» .ensures .number) (c .before .before .before .before .before .if1 .left)) (geometryOf (c .before .geometry .result)) (c .before .geometry .ensures) .most)
-
-find-requires : tie.Need-find-requires
-find-requires c κs = omega (arith, table-long (c .before .before .before .before .before .before .before .before .before .before .before .before .before .before .before .before .before .before .before .args .table .now) (is-taken (c .before .before .before .before .before .before .before .before .before .before .before .before .before .before .before .before .before .before .before .args .table .now) (c .before .before .before .before .before .before .before .before .before .before .before .before .before .before .before .before .before .before .before .args .name .now) (c .before .before .before .before .before .before .before .before .before .before .before .before .before .before .before .before .before .before .before .args .answer .now) _ _ (c .before .before .before .before .before .before .before .before .before .before .before .before .before .before .answer-and-name .ensures) (c .before .before .before .before .before .before .before .before .before .before .«open» .ensures .number) (c .before .before .before .before .before .before .if1 .left)) (geometryOf (c .before .before .geometry .result)) (c .before .before .geometry .ensures))
-
-enum-known-k : tie.Need-enum-known-k
-enum-known-k c = search needs
-
-enum-told : tie.Need-enum-told
-enum-told c = search needs
+    let x = at-open-named .open-named .ensures .0 in
+    let u = known-maps x (at-if1 .if1 .left) (at-open-named .open-named .ensures .1) (top .pre) refl in
+    longer (top .args .table .now) (top .args .name .now) (top .args .answer .now) _ (at-answer-and-name .answer-and-name .ensures) x (at-if1 .if1 .left) u _ (ap answerOf (sym (at-k .k .given .1)) ∙ at-look-up .look-up .ensures)
 
 same-length-5 : tie.Need-same-length-5
 same-length-5 c = search needs
@@ -75,61 +82,43 @@ same-length-5 c = search needs
 same-length-6 : tie.Need-same-length-6
 same-length-6 c = search needs
 
-returns-3 : tie.Need-returns-3
-returns-3 c =
-    let at-geometry = c .before .before .before .before .before in
-    let at-if2 = at-geometry .before .before in
-    let at-name-ok = at-if2 .before in
-    let at-if1 = at-name-ok .before in
-    let at-open = at-if1 .before .before .before .before in
-    let at-answer-and-name = at-open .before .before .before .before in
-    let top = at-answer-and-name .before .before .before .before .before in
-    not-found (top .args .table .now) (top .args .name .now) (top .args .answer .now) _ _ (at-answer-and-name .answer-and-name .ensures) (at-open .«open» .ensures .number) (at-if1 .if1 .left) (sym (at-name-ok .name-ok .ensures) ∙ at-if2 .if2 .taken) (geometryOf (at-geometry .geometry .result)) (at-geometry .geometry .ensures) (ap answerOf (sym (c .enum-told .given .1)) ∙ c .before .before .find .ensures)
-
-slice-aggregate-lengthen : tie.Need-slice-aggregate-lengthen
-slice-aggregate-lengthen c = search needs
-
-lengthen-requires : tie.Need-lengthen-requires
-lengthen-requires c κs = longer (c .before .before .before .before .before .before .before .before .before .before .before .before .before .before .before .before .before .before .before .before .before .before .before .before .before .before .before .args .table .now) (c .before .before .before .before .before .before .before .before .before .before .before .before .before .before .before .before .before .before .before .before .before .before .before .before .before .before .before .args .name .now) (c .before .before .before .before .before .before .before .before .before .before .before .before .before .before .before .before .before .before .before .before .before .before .before .before .before .before .before .args .answer .now) _ _ (c .before .before .before .before .before .before .before .before .before .before .before .before .before .before .before .before .before .before .before .before .before .before .answer-and-name .ensures) (c .before .before .before .before .before .before .before .before .before .before .before .before .before .before .before .before .before .before .«open» .ensures .number) (c .before .before .before .before .before .before .before .before .before .before .before .before .before .before .if1 .left) (sym (c .before .before .before .before .before .before .before .before .before .before .before .before .before .name-ok .ensures) ∙ c .before .before .before .before .before .before .before .before .before .before .before .before .if2 .taken) (geometryOf (c .before .before .before .before .before .before .before .before .before .before .geometry .result)) (c .before .before .before .before .before .before .before .before .before .before .geometry .ensures) _ (ap answerOf (sym (c .before .before .before .before .before .k .given .1)) ∙ c .before .before .before .before .before .before .before .find .ensures) (c .before .before .before .before .before .before .before .before .before .before .before .before .before .before .before .before .before .before .before .before .before .before .before .before .before .before .before .args .map .now) _ _ (c .before .before .before .before .before .before .before .before .before .before .before .before .before .before .before .before .before .before .«open» .ensures .shown (c .before .before .before .before .before .before .before .before .before .before .before .before .before .before .if1 .left)) (c .before .before .before .before .before .before .before .before .before .before .before .before .before .before .before .before .before .before .before .before .before .before .before .before .before .before .before .pre) (c .before .before .before .before .before .before .before .before .before .before .before .before .before .before .before .before .before .before .«open» .ensures .longMap) (c .before .before .before .before .before .before .before .before .before .before .before .before .before .before .before .before .before .before .«open» .ensures .longSlots ∙ search needs)
-
 same-length-7 : tie.Need-same-length-7
 same-length-7 c = search needs
 
-same-length-8 : tie.Need-same-length-8
-same-length-8 c = search needs
-
-same-length-9 : tie.Need-same-length-9
-same-length-9 c = search needs
-
-returns-4 : tie.Need-returns-4
-returns-4 c = lengthened (c .before .before .before .before .before .before .before .before .before .before .before .before .before .before .before .before .before .before .before .before .before .before .before .before .before .before .before .before .before .before .before .before .before .before .before .args .table .now) (c .before .before .before .before .before .before .before .before .before .before .before .before .before .before .before .before .before .before .before .before .before .before .before .before .before .before .before .before .before .before .before .before .before .before .before .args .name .now) (c .before .before .before .before .before .before .before .before .before .before .before .before .before .before .before .before .before .before .before .before .before .before .before .before .before .before .before .before .before .before .before .before .before .before .before .args .answer .now) _ _ (c .before .before .before .before .before .before .before .before .before .before .before .before .before .before .before .before .before .before .before .before .before .before .before .before .before .before .before .before .before .before .answer-and-name .ensures) (c .before .before .before .before .before .before .before .before .before .before .before .before .before .before .before .before .before .before .before .before .before .before .before .before .before .before .«open» .ensures .number) (c .before .before .before .before .before .before .before .before .before .before .before .before .before .before .before .before .before .before .before .before .before .before .if1 .left) (sym (c .before .before .before .before .before .before .before .before .before .before .before .before .before .before .before .before .before .before .before .before .before .name-ok .ensures) ∙ c .before .before .before .before .before .before .before .before .before .before .before .before .before .before .before .before .before .before .before .before .if2 .taken) (geometryOf (c .before .before .before .before .before .before .before .before .before .before .before .before .before .before .before .before .before .before .geometry .result)) (c .before .before .before .before .before .before .before .before .before .before .before .before .before .before .before .before .before .before .geometry .ensures) _ (ap answerOf (sym (c .before .before .before .before .before .before .before .before .before .before .before .before .before .k .given .1)) ∙ c .before .before .before .before .before .before .before .before .before .before .before .before .before .before .before .find .ensures) (c .before .before .before .before .before .before .before .before .before .before .before .before .before .before .before .before .before .before .before .before .before .before .before .before .before .before .before .before .before .before .before .before .before .before .before .args .map .now) _ _ (c .before .before .before .before .before .before .before .before .before .before .before .before .before .before .before .before .before .before .before .before .before .before .before .before .before .before .«open» .ensures .shown (c .before .before .before .before .before .before .before .before .before .before .before .before .before .before .before .before .before .before .before .before .before .before .if1 .left)) (c .before .before .before .before .before .before .before .before .before .before .before .before .before .before .before .before .before .before .before .before .before .before .before .before .before .before .before .before .before .before .before .before .before .before .before .pre) (c .before .before .before .before .before .before .before .before .before .before .before .before .before .before .before .before .before .before .before .before .before .before .before .before .before .before .«open» .ensures .longMap) (c .before .before .before .before .before .before .before .before .before .before .before .before .before .before .before .before .before .before .before .before .before .before .before .before .before .before .«open» .ensures .longSlots ∙ search needs) _ _ _ (c .before .before .before .before .before .before .before .lengthen .ensures (longer (c .before .before .before .before .before .before .before .before .before .before .before .before .before .before .before .before .before .before .before .before .before .before .before .before .before .before .before .before .before .before .before .before .before .before .before .args .table .now) (c .before .before .before .before .before .before .before .before .before .before .before .before .before .before .before .before .before .before .before .before .before .before .before .before .before .before .before .before .before .before .before .before .before .before .before .args .name .now) (c .before .before .before .before .before .before .before .before .before .before .before .before .before .before .before .before .before .before .before .before .before .before .before .before .before .before .before .before .before .before .before .before .before .before .before .args .answer .now) _ _ (c .before .before .before .before .before .before .before .before .before .before .before .before .before .before .before .before .before .before .before .before .before .before .before .before .before .before .before .before .before .before .answer-and-name .ensures) (c .before .before .before .before .before .before .before .before .before .before .before .before .before .before .before .before .before .before .before .before .before .before .before .before .before .before .«open» .ensures .number) (c .before .before .before .before .before .before .before .before .before .before .before .before .before .before .before .before .before .before .before .before .before .before .if1 .left) (sym (c .before .before .before .before .before .before .before .before .before .before .before .before .before .before .before .before .before .before .before .before .before .name-ok .ensures) ∙ c .before .before .before .before .before .before .before .before .before .before .before .before .before .before .before .before .before .before .before .before .if2 .taken) (geometryOf (c .before .before .before .before .before .before .before .before .before .before .before .before .before .before .before .before .before .before .geometry .result)) (c .before .before .before .before .before .before .before .before .before .before .before .before .before .before .before .before .before .before .geometry .ensures) _ (ap answerOf (sym (c .before .before .before .before .before .before .before .before .before .before .before .before .before .k .given .1)) ∙ c .before .before .before .before .before .before .before .before .before .before .before .before .before .before .before .find .ensures) (c .before .before .before .before .before .before .before .before .before .before .before .before .before .before .before .before .before .before .before .before .before .before .before .before .before .before .before .before .before .before .before .before .before .before .before .args .map .now) _ _ (c .before .before .before .before .before .before .before .before .before .before .before .before .before .before .before .before .before .before .before .before .before .before .before .before .before .before .«open» .ensures .shown (c .before .before .before .before .before .before .before .before .before .before .before .before .before .before .before .before .before .before .before .before .before .before .if1 .left)) (c .before .before .before .before .before .before .before .before .before .before .before .before .before .before .before .before .before .before .before .before .before .before .before .before .before .before .before .before .before .before .before .before .before .before .before .pre) (c .before .before .before .before .before .before .before .before .before .before .before .before .before .before .before .before .before .before .before .before .before .before .before .before .before .before .«open» .ensures .longMap) (c .before .before .before .before .before .before .before .before .before .before .before .before .before .before .before .before .before .before .before .before .before .before .before .before .before .before .«open» .ensures .longSlots ∙ search needs)))
+returns-3 : tie.Need-returns-3
+returns-3 c =
+    let at-lengthen = c .before .before .before .before .before .before .before in
+    let at-k = at-lengthen .before .before .before .before .before .before in
+    let at-look-up = at-k .before .before in
+    let at-if1 = at-look-up .before .before .before in
+    let at-open-named = at-if1 .before .before .before .before .before in
+    let at-answer-and-name = at-open-named .before .before .before .before in
+    let top = at-answer-and-name .before .before .before .before .before in
+    let x = at-open-named .open-named .ensures .0 in
+    let u = known-maps x (at-if1 .if1 .left) (at-open-named .open-named .ensures .1) (top .pre) refl in
+    let e = ap answerOf (sym (at-k .k .given .1)) ∙ at-look-up .look-up .ensures in
+    lengthened (top .args .table .now) (top .args .name .now) (top .args .answer .now) _ (at-answer-and-name .answer-and-name .ensures) x (at-if1 .if1 .left) u _ e _ _ _
+    (at-lengthen .lengthen .ensures (longer (top .args .table .now) (top .args .name .now) (top .args .answer .now) _ (at-answer-and-name .answer-and-name .ensures) x (at-if1 .if1 .left) u _ e))
 
 pub extend-in-spec : {M : Type 1} → statement M
 extend-in-spec =
     tie.close
     (tie.spec
     answer-and-name-requires
-    slice-aggregate-open
-    open-requires
+    slice-aggregate-open-named
+    open-named-requires
     same-length
     same-length-2
     returns
-    name-ok-requires
+    look-up-requires
+    enum-known-k
+    enum-told
     same-length-3
     same-length-4
     returns-2
-    geometry-requires
-    mul-n
-    cast-n
-    find-requires
-    enum-known-k
-    enum-told
-    same-length-5
-    same-length-6
-    returns-3
     slice-aggregate-lengthen
     lengthen-requires
+    same-length-5
+    same-length-6
     same-length-7
-    same-length-8
-    same-length-9
-    returns-4)
+    returns-3)

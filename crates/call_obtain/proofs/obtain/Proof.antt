@@ -1,13 +1,20 @@
-use Rattle.call_obtain.proofs.Laws.{answer-long, bad-name, labels-long, not-found, not-opened, obtained}
-use Rattle.opening.proofs.Lookup.{limits-of, table-long, there-inside}
-use Rattle.opening.proofs.Numbers.{opened-taken}
-use Rattle.forms.specs.Forms.{geometryOf}
-use native.Mathlib.Omega.{arith}
+use Rattle.call_obtain.proofs.Laws.{labels-long, obtained, obtains}
+use Rattle.opening.proofs.Calls.{answer-long, asks, found-at, not-found, refused}
+use Rattle.opening.proofs.Lookup.{there-inside}
+use Rattle.opening.proofs.Numbers.{and-named, known}
 use mathlib.Core.Path.{sym, _∙_, ap}
 use Rattle.names.specs.Find.{answerOf}
 use borrow.Author.Needs.{needs}
 use Rattle.call_obtain.proofs.obtain.Statement.{statement}
 use Rattle.call_obtain.proofs.obtain.Tie as tie
+use Rattle.call_obtain.proofs.obtain.Reads as reads
+use Rattle.call_obtain.proofs.obtain.Lts as lts
+use Rattle.answers.proofs.put_nothing.Reads as put-nothing-reads
+use Rattle.call_obtain.proofs.put_labels.Reads as put-labels-reads
+use Rattle.opening.proofs.and_another.Reads as and-another-reads
+use Rattle.opening.proofs.and_named.Reads as and-named-reads
+use Rattle.opening.proofs.look_up.Reads as look-up-reads
+use Rattle.opening.proofs.open_to_read.Reads as open-to-read-reads
 
 and-another-requires : tie.Need-and-another-requires
 and-another-requires c κs = search needs
@@ -15,35 +22,22 @@ and-another-requires c κs = search needs
 open-to-read-requires : tie.Need-open-to-read-requires
 open-to-read-requires c κs = search needs
 
+and-named-requires : tie.Need-and-named-requires
+and-named-requires c κs = search needs
+
 returns : tie.Need-returns
 returns c =
-    let top = c .before .before .before .before .before .before .before in
-    not-opened (top .args .table .now) (top .args .name .now) (top .args .labels .now) (top .args .answer .now) _ _ (c .before .before .and-another .ensures) (c .before .open-to-read .ensures) (c .if1 .taken)
-
-name-ok-requires : tie.Need-name-ok-requires
-name-ok-requires c κs = search needs
-
-returns-2 : tie.Need-returns-2
-returns-2 c =
     let at-open-to-read = c .before .before .before in
     let at-and-another = at-open-to-read .before in
     let top = at-and-another .before .before .before .before .before in
-    bad-name (top .args .table .now) (top .args .name .now) (top .args .labels .now) (top .args .answer .now) _ _ (at-and-another .and-another .ensures) (at-open-to-read .open-to-read .ensures) (c .before .before .if1 .left) (sym (c .before .name-ok .ensures) ∙ c .if2 .left)
+    refused (asks (obtains (top .args .table .now) (top .args .name .now) (top .args .labels .now) (top .args .answer .now) _ (at-and-another .and-another .ensures))) (and-named (at-open-to-read .open-to-read .ensures) (c .before .before .and-named .ensures)) (c .if1 .taken)
 
-geometry-requires : tie.Need-geometry-requires
-geometry-requires c κs =
-    let at-open-to-read = c .before .before .before in
-    let top = at-open-to-read .before .before .before .before .before .before in
-    opened-taken (top .args .table .now) _ (sym (c .before .before .if1 .left) ∙ at-open-to-read .open-to-read .ensures)
-
-mul-find : tie.Need-mul-find
-mul-find c = omega (arith, limits-of (c .before .before .before .before .before .before .before .before .before .before .before .args .table .now) (opened-taken (c .before .before .before .before .before .before .before .before .before .before .before .args .table .now) _ (sym (c .before .before .before .before .if1 .left) ∙ c .before .before .before .before .before .open-to-read .ensures)) (geometryOf (c .before .geometry .result)) (c .before .geometry .ensures) .most)
-
-cast-find : tie.Need-cast-find
-cast-find c = omega (arith, limits-of (c .before .before .before .before .before .before .before .before .before .before .before .args .table .now) (opened-taken (c .before .before .before .before .before .before .before .before .before .before .before .args .table .now) _ (sym (c .before .before .before .before .if1 .left) ∙ c .before .before .before .before .before .open-to-read .ensures)) (geometryOf (c .before .geometry .result)) (c .before .geometry .ensures) .most)
-
-find-requires : tie.Need-find-requires
-find-requires c κs = omega (arith, table-long (c .before .before .before .before .before .before .before .before .before .before .before .args .table .now) (opened-taken (c .before .before .before .before .before .before .before .before .before .before .before .args .table .now) _ (sym (c .before .before .before .before .if1 .left) ∙ c .before .before .before .before .before .open-to-read .ensures)) (geometryOf (c .before .geometry .result)) (c .before .geometry .ensures))
+look-up-requires : tie.Need-look-up-requires
+look-up-requires c κs =
+    let at-and-named = c .before .before .before in
+    let at-open-to-read = at-and-named .before in
+    let w = known (and-named (at-open-to-read .open-to-read .ensures) (at-and-named .and-named .ensures)) (c .before .if1 .left) in
+    (w .limits, w .long)
 
 enum-known-k : tie.Need-enum-known-k
 enum-known-k c = search needs
@@ -51,35 +45,39 @@ enum-known-k c = search needs
 enum-told : tie.Need-enum-told
 enum-told c = search needs
 
-returns-3 : tie.Need-returns-3
-returns-3 c =
-    let at-geometry = c .before .before .before .before in
-    let at-if2 = at-geometry .before in
-    let at-name-ok = at-if2 .before in
-    let at-if1 = at-name-ok .before in
-    let at-open-to-read = at-if1 .before in
+returns-2 : tie.Need-returns-2
+returns-2 c =
+    let at-if1 = c .before .before .before .before in
+    let at-and-named = at-if1 .before .before in
+    let at-open-to-read = at-and-named .before in
     let at-and-another = at-open-to-read .before in
     let top = at-and-another .before .before .before .before .before in
-    not-found (top .args .table .now) (top .args .name .now) (top .args .labels .now) (top .args .answer .now) _ _ (at-and-another .and-another .ensures) (at-open-to-read .open-to-read .ensures) (at-if1 .if1 .left) (sym (at-name-ok .name-ok .ensures) ∙ at-if2 .if2 .taken) (geometryOf (at-geometry .geometry .result)) (at-geometry .geometry .ensures) (ap answerOf (sym (c .enum-told .given .1)) ∙ c .before .before .find .ensures)
+    not-found (obtains (top .args .table .now) (top .args .name .now) (top .args .labels .now) (top .args .answer .now) _ (at-and-another .and-another .ensures)) (and-named (at-open-to-read .open-to-read .ensures) (at-and-named .and-named .ensures)) (at-if1 .if1 .left) (ap answerOf (sym (c .enum-told .given .1)) ∙ c .before .before .look-up .ensures)
 
 put-labels-requires : tie.Need-put-labels-requires
 put-labels-requires c κs =
-    let at-find = c .before .before .before .before in
-    let at-geometry = at-find .before .before in
-    let at-if1 = at-geometry .before .before .before in
-    let at-open-to-read = at-if1 .before in
+    let at-look-up = c .before .before .before .before in
+    let at-if1 = at-look-up .before .before in
+    let at-and-named = at-if1 .before .before in
+    let at-open-to-read = at-and-named .before in
     let at-and-another = at-open-to-read .before in
     let top = at-and-another .before .before .before .before .before in
-    let x = opened-taken (top .args .table .now) _ (sym (at-if1 .if1 .left) ∙ at-open-to-read .open-to-read .ensures) in
-    (limits-of (top .args .table .now) x (geometryOf (at-geometry .geometry .result)) (at-geometry .geometry .ensures), table-long (top .args .table .now) x (geometryOf (at-geometry .geometry .result)) (at-geometry .geometry .ensures), there-inside (top .args .table .now) x (geometryOf (at-geometry .geometry .result)) (at-geometry .geometry .ensures) (top .args .name .now) _ (ap answerOf (sym (c .before .before .k .given .1)) ∙ at-find .find .ensures), labels-long (top .args .table .now) (top .args .name .now) (top .args .labels .now) (top .args .answer .now) _ _ (at-and-another .and-another .ensures) (at-open-to-read .open-to-read .ensures) (at-if1 .if1 .left))
+    let x = and-named (at-open-to-read .open-to-read .ensures) (at-and-named .and-named .ensures) in
+    let w = known x (at-if1 .if1 .left) in (
+      w .limits,
+      w .long,
+      there-inside (top .args .table .now) (w .isTaken) _ (w .geometryIs) (top .args .name .now) _ (ap answerOf (sym (c .before .before .k .given .1)) ∙ at-look-up .look-up .ensures),
+      labels-long (top .args .table .now) (top .args .name .now) (top .args .labels .now) (top .args .answer .now) _ (at-and-another .and-another .ensures) x (at-if1 .if1 .left),
+    )
 
 put-nothing-requires : tie.Need-put-nothing-requires
 put-nothing-requires c κs =
-    let at-if1 = c .before .before .before .before .before .before .before .before .before .before .before .before .before in
-    let at-open-to-read = at-if1 .before in
+    let at-if1 = c .before .before .before .before .before .before .before .before .before .before in
+    let at-and-named = at-if1 .before .before in
+    let at-open-to-read = at-and-named .before in
     let at-and-another = at-open-to-read .before in
     let top = at-and-another .before .before .before .before .before in
-    answer-long (top .args .table .now) (top .args .name .now) (top .args .labels .now) (top .args .answer .now) _ _ (at-and-another .and-another .ensures) (at-open-to-read .open-to-read .ensures) (at-if1 .if1 .left)
+    answer-long (asks (obtains (top .args .table .now) (top .args .name .now) (top .args .labels .now) (top .args .answer .now) _ (at-and-another .and-another .ensures))) (and-named (at-open-to-read .open-to-read .ensures) (at-and-named .and-named .ensures)) (at-if1 .if1 .left)
 
 same-length : tie.Need-same-length
 same-length c = search needs
@@ -87,19 +85,17 @@ same-length c = search needs
 same-length-2 : tie.Need-same-length-2
 same-length-2 c = search needs
 
-returns-4 : tie.Need-returns-4
-returns-4 c =
+returns-3 : tie.Need-returns-3
+returns-3 c =
     let at-put-labels = c .before .before .before .before .before .before in
     let at-k = at-put-labels .before .before .before in
-    let at-find = at-k .before .before in
-    let at-geometry = at-find .before .before in
-    let at-if2 = at-geometry .before in
-    let at-name-ok = at-if2 .before in
-    let at-if1 = at-name-ok .before in
-    let at-open-to-read = at-if1 .before in
+    let at-look-up = at-k .before .before in
+    let at-if1 = at-look-up .before .before in
+    let at-and-named = at-if1 .before .before in
+    let at-open-to-read = at-and-named .before in
     let at-and-another = at-open-to-read .before in
     let top = at-and-another .before .before .before .before .before in
-    obtained (top .args .table .now) (top .args .name .now) (top .args .labels .now) (top .args .answer .now) _ _ (at-and-another .and-another .ensures) (at-open-to-read .open-to-read .ensures) (at-if1 .if1 .left) (sym (at-name-ok .name-ok .ensures) ∙ at-if2 .if2 .taken) (geometryOf (at-geometry .geometry .result)) (at-geometry .geometry .ensures) _ _ _ (ap answerOf (sym (at-k .k .given .1)) ∙ at-find .find .ensures) (at-put-labels .put-labels .ensures) (c .before .before .put-nothing .ensures)
+    obtained (top .args .table .now) (top .args .name .now) (top .args .labels .now) (top .args .answer .now) _ (at-and-another .and-another .ensures) (and-named (at-open-to-read .open-to-read .ensures) (at-and-named .and-named .ensures)) (at-if1 .if1 .left) _ (ap answerOf (sym (at-k .k .given .1)) ∙ at-look-up .look-up .ensures) _ _ (at-put-labels .put-labels .ensures) (c .before .before .put-nothing .ensures)
 
 pub obtain-spec : {M : Type 1} → statement M
 obtain-spec =
@@ -107,18 +103,14 @@ obtain-spec =
     (tie.spec
     and-another-requires
     open-to-read-requires
+    and-named-requires
     returns
-    name-ok-requires
-    returns-2
-    geometry-requires
-    mul-find
-    cast-find
-    find-requires
+    look-up-requires
     enum-known-k
     enum-told
-    returns-3
+    returns-2
     put-labels-requires
     put-nothing-requires
     same-length
     same-length-2
-    returns-4)
+    returns-3)

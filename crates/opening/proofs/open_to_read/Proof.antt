@@ -3,6 +3,10 @@ use mathlib.Core.Path.{refl}
 use borrow.Author.Needs.{needs}
 use Rattle.opening.proofs.open_to_read.Statement.{statement}
 use Rattle.opening.proofs.open_to_read.Tie as tie
+use Rattle.opening.proofs.open_to_read.Reads as reads
+use Rattle.opening.proofs.open_to_read.Lts as lts
+use Rattle.opening.proofs.few_tracks.Reads as few-tracks-reads
+use Rattle.opening.proofs.open.Reads as open-reads
 
 few-tracks-requires : tie.Need-few-tracks-requires
 few-tracks-requires c κs = search needs
@@ -20,7 +24,7 @@ open-requires c κs =
     (roomy-small (top .args .table .now) _ (at-few-tracks .few-tracks .ensures (c .before .before .if1 .taken)) refl, refl)
 
 returns : tie.Need-returns
-returns c = c .before .before .«open» .ensures .number
+returns c = search needs
 
 slice-aggregate-open-3 : tie.Need-slice-aggregate-open-3
 slice-aggregate-open-3 c = search needs
@@ -34,7 +38,7 @@ open-requires-2 c κs =
     (roomy-large (top .args .table .now) _ refl, refl)
 
 returns-2 : tie.Need-returns-2
-returns-2 c = c .before .before .open2 .ensures .number
+returns-2 c = search needs
 
 pub open-to-read-spec : {M : Type 1} → statement M
 open-to-read-spec =

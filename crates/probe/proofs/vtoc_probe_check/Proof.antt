@@ -5,6 +5,10 @@ use mathlib.Core.Path.{refl, sym, _∙_}
 use borrow.Author.Needs.{needs}
 use Rattle.probe.proofs.vtoc_probe_check.Statement.{statement}
 use Rattle.probe.proofs.vtoc_probe_check.Tie as tie
+use Rattle.probe.proofs.vtoc_probe_check.Reads as reads
+use Rattle.probe.proofs.vtoc_probe_check.Lts as lts
+use Rattle.table_check.proofs.check.Reads as check-reads
+use Rattle.table_check.proofs.good_length.Reads as good-length-reads
 
 good-length-requires : tie.Need-good-length-requires
 good-length-requires c κs = search needs

@@ -8,6 +8,7 @@ use Rattle.table_check.proofs.contents_ok.Lts as lts
 use Rattle.chain.proofs.take_chain.Reads as take-chain-reads
 use Rattle.table.proofs.take_labels.Reads as take-labels-reads
 use Rattle.table_check.proofs.begin_maps.Reads as begin-maps-reads
+use Rattle.table_check.proofs.not_taken.Reads as not-taken-reads
 use Rattle.table_check.proofs.rest_ok.Reads as rest-ok-reads
 
 begin-maps-requires : tie.Need-begin-maps-requires
@@ -15,6 +16,9 @@ begin-maps-requires c κs = search needs
 
 take-labels-requires : tie.Need-take-labels-requires
 take-labels-requires c κs = search needs
+
+not-taken-requires : tie.Need-not-taken-requires
+not-taken-requires c κs = search needs
 
 same-length : tie.Need-same-length
 same-length c = search needs
@@ -24,15 +28,16 @@ same-length-2 c = search needs
 
 returns : tie.Need-returns
 returns c =
-    let at-take-labels = c .before .before .before .before .before in
+    let at-take-labels = c .before .before .before .before .before .before in
     let at-begin-maps = at-take-labels .before .before .before .before .before .before .before in
     let top = at-begin-maps .before .before .before .before .before .before in
-    let a = top in
-    let l = at-take-labels .take-labels in
-    labels-wrong (geometryOf (a .args .g)) (a .pre .0) (a .args .table .now) (a .pre .1) (a .args .map .now) _ _ (a .args .empty .now) _ _ (at-begin-maps .begin-maps .ensures) (l .result) (c .if1 .left) (l .ensures)
+    labels-wrong (geometryOf (top .args .g)) (top .pre .0) (top .args .table .now) (top .pre .1) (top .args .free-tracks .now) _ _ (top .args .free-slots .now) _ _ (at-begin-maps .begin-maps .ensures) (at-take-labels .take-labels .result) (c .before .if1 .left) (at-take-labels .take-labels .ensures) _ (c .not-taken .ensures)
 
 take-chain-requires : tie.Need-take-chain-requires
 take-chain-requires c κs = search needs
+
+not-taken-requires-2 : tie.Need-not-taken-requires-2
+not-taken-requires-2 c κs = search needs
 
 same-length-3 : tie.Need-same-length-3
 same-length-3 c = search needs
@@ -42,15 +47,12 @@ same-length-4 c = search needs
 
 returns-2 : tie.Need-returns-2
 returns-2 c =
-    let at-take-chain = c .before .before .before in
+    let at-take-chain = c .before .before .before .before in
     let at-if1 = at-take-chain .before .before .before in
     let at-take-labels = at-if1 .before .before .before .before .before in
     let at-begin-maps = at-take-labels .before .before .before .before .before .before .before in
     let top = at-begin-maps .before .before .before .before .before .before in
-    let a = top in
-    let l = at-take-labels .take-labels in
-    let z = at-take-chain .take-chain in
-    chain-wrong (geometryOf (a .args .g)) (a .pre .0) (a .args .table .now) (a .pre .1) (a .args .map .now) _ _ (a .args .empty .now) _ _ (at-begin-maps .begin-maps .ensures) (l .result) (at-if1 .if1 .taken) (l .ensures) _ (z .result) (z .ensures) (c .if2 .left)
+    chain-wrong (geometryOf (top .args .g)) (top .pre .0) (top .args .table .now) (top .pre .1) (top .args .free-tracks .now) _ _ (top .args .free-slots .now) _ _ (at-begin-maps .begin-maps .ensures) (at-take-labels .take-labels .result) (at-if1 .if1 .taken) (at-take-labels .take-labels .ensures) _ (at-take-chain .take-chain .result) (at-take-chain .take-chain .ensures) (c .before .if2 .left) _ (c .not-taken2 .ensures)
 
 rest-ok-requires : tie.Need-rest-ok-requires
 rest-ok-requires c κs = search needs
@@ -68,10 +70,7 @@ returns-3 c =
     let at-take-labels = at-if1 .before .before .before .before .before in
     let at-begin-maps = at-take-labels .before .before .before .before .before .before .before in
     let top = at-begin-maps .before .before .before .before .before .before in
-    let a = top in
-    let l = at-take-labels .take-labels in
-    let z = at-take-chain .take-chain in
-    rest-decides (geometryOf (a .args .g)) (a .pre .0) (a .args .table .now) (a .pre .1) (a .args .map .now) _ _ (a .args .empty .now) _ _ (at-begin-maps .begin-maps .ensures) (l .result) (at-if1 .if1 .taken) (l .ensures) _ (z .result) (z .ensures) (c .before .before .if2 .taken) (c .rest-ok .result) (c .rest-ok .ensures)
+    rest-decides (geometryOf (top .args .g)) (top .pre .0) (top .args .table .now) (top .pre .1) (top .args .free-tracks .now) _ _ (top .args .free-slots .now) _ _ (at-begin-maps .begin-maps .ensures) (at-take-labels .take-labels .result) (at-if1 .if1 .taken) (at-take-labels .take-labels .ensures) _ (at-take-chain .take-chain .result) (at-take-chain .take-chain .ensures) (c .before .before .if2 .taken) (c .rest-ok .result) (c .rest-ok .ensures)
 
 pub contents-ok-spec : {M : Type 1} → statement M
 contents-ok-spec =
@@ -79,10 +78,12 @@ contents-ok-spec =
     (tie.spec
     begin-maps-requires
     take-labels-requires
+    not-taken-requires
     same-length
     same-length-2
     returns
     take-chain-requires
+    not-taken-requires-2
     same-length-3
     same-length-4
     returns-2

@@ -3,7 +3,7 @@ use Rattle.spare.proofs.Laws.{highest-below}
 use Rattle.forms.specs.Forms.{geometryOf}
 use Rattle.model.specs.Model.{slots}
 use native.Mathlib.Omega.{arith}
-use mathlib.Core.Path.{_≡_, refl, sym, ap, _∙_, subst}
+use mathlib.Core.Path.{refl, sym, subst}
 use Prim.Native.Nat.{ℕ, _<_}
 use borrow.Author.Needs.{needs}
 use Rattle.table_check.proofs.rest_ok.Statement.{statement}
@@ -15,6 +15,7 @@ use Rattle.fields.proofs.same.Reads as same-reads
 use Rattle.records.proofs.four.Reads as four-reads
 use Rattle.spare.proofs.highest.Reads as highest-reads
 use Rattle.spare.proofs.spare.Reads as spare-reads
+use Rattle.table_check.proofs.not_taken.Reads as not-taken-reads
 
 mul-n : tie.Need-mul-n
 mul-n c = search needs
@@ -25,10 +26,13 @@ cast-n c = search needs
 spare-requires : tie.Need-spare-requires
 spare-requires c κs = search needs
 
+not-taken-requires : tie.Need-not-taken-requires
+not-taken-requires c κs = search needs
+
 returns : tie.Need-returns
 returns c =
-    let top = c .before .before .before .before .before in
-    rest-unclear (geometryOf (top .args .g)) (top .args .table .now) (top .args .empty .now) (c .before .spare .result .clear) (c .before .spare .result .count) (c .before .spare .ensures) (c .if1 .left)
+    let top = c .before .before .before .before .before .before in
+    rest-unclear (geometryOf (top .args .g)) (top .args .table .now) (top .args .free-slots .now) (c .before .before .spare .result .clear) (c .before .before .spare .result .count) (c .before .before .spare .ensures) (c .before .if1 .left) _ (c .not-taken .ensures)
 
 highest-requires : tie.Need-highest-requires
 highest-requires c κs = search needs
@@ -56,8 +60,8 @@ returns-2 c =
     let at-if1 = at-highest .before in
     let at-spare = at-if1 .before in
     let top = at-spare .before .before .before .before in
-    rest-told (geometryOf (top .args .g)) (top .args .table .now) (top .args .empty .now) (at-spare .spare .result .clear) (at-spare .spare .result .count) (at-spare .spare .ensures) (at-if1 .if1 .taken)
-    (at-four .four .result) (c .before .record-at .result .now) (at-highest .highest .result) (c .same .result) (at-highest .highest .ensures) (at-four .four .ensures) (c .before .record-at .ensures .0) (c .same .ensures)
+    rest-told (geometryOf (top .args .g)) (top .args .table .now) (top .args .free-slots .now) (at-spare .spare .result .clear) (at-spare .spare .result .count) (at-spare .spare .ensures) (at-if1 .if1 .taken)
+    (at-four .four .result) (c .before .record-at .result .now) _ refl refl (at-highest .highest .ensures) (at-four .four .ensures) (c .before .record-at .ensures .0) (c .same .ensures)
 
 pub rest-ok-spec : {M : Type 1} → statement M
 rest-ok-spec =
@@ -66,6 +70,7 @@ rest-ok-spec =
     mul-n
     cast-n
     spare-requires
+    not-taken-requires
     returns
     highest-requires
     four-requires

@@ -1,19 +1,15 @@
-use mathlib.Core.Path.{_≡_, refl, sym, ap, _∙_}
+use mathlib.Core.Path.{sym, ap, _∙_}
 use native.Mathlib.Omega.{arith}
 use lib.ListN.{length}
 use Rattle.forms.specs.Forms.{geometryOf}
 use Rattle.model.proofs.Lists.{true-is}
-use Rattle.rules.specs.Reading.{readGeometry}
 use Rattle.table_list.proofs.Prepared.{is-taken, not-taken, ready, wrong-length}
-use Rattle.table_check.proofs.Lengths.{good-long}
 use Rattle.table_check.proofs.Room.{roomy-large}
 use borrow.Author.Needs.{needs}
 use Rattle.table_list.proofs.list.Statement.{statement}
 use Rattle.table_list.proofs.list.Tie as tie
 use Rattle.table_list.proofs.list.Reads as reads
 use Rattle.table_list.proofs.list.Lts as lts
-use Rattle.fields.proofs.record_at.Reads as record-at-reads
-use Rattle.forms.proofs.geometry_of.Reads as geometry-of-reads
 use Rattle.listing.proofs.refusal_line.Reads as refusal-line-reads
 use Rattle.table_check.proofs.check.Reads as check-reads
 use Rattle.table_check.proofs.good_length.Reads as good-length-reads
@@ -51,20 +47,11 @@ same-length-4 c = search needs
 returns-2 : tie.Need-returns-2
 returns-2 c = (c .before .before .refusal-line2 .ensures .long, c .before .before .refusal-line2 .ensures .text ∙ not-taken (c .before .before .before .before .before .before .before .before .before .before .before .before .before .before .before .before .before .before .args .table .now) (sym (c .before .before .before .before .before .before .before .before .before .before .before .before .before .good-length .ensures) ∙ c .before .before .before .before .before .before .before .before .before .before .before .before .if1 .taken) (sym (c .before .before .before .before .before .before .before .before .before .check .ensures .told) ∙ c .before .before .before .before .if2 .left), omega (arith, c .before .before .refusal-line2 .ensures .end))
 
-record-at-requires : tie.Need-record-at-requires
-record-at-requires c κs = omega (arith, good-long (c .before .before .before .before .before .before .before .before .before .before .before .before .before .before .args .table .now) (sym (c .before .before .before .before .before .before .before .before .before .good-length .ensures) ∙ c .before .before .before .before .before .before .before .before .if1 .taken))
-
-geometry-of-requires : tie.Need-geometry-of-requires
-geometry-of-requires c κs = search needs
-
 list-taken-requires : tie.Need-list-taken-requires
 list-taken-requires c κs =
-    let at-geometry-of = c .before .before .before in
-    let at-record-at = at-geometry-of .before in
-    let at-if2 = at-record-at .before in
-    let at-check = at-if2 .before .before .before .before .before in
+    let at-check = c .before .before .before .before .before .before .before in
     let top = at-check .before .before .before .before .before .before .before .before .before in
-    (ready (top .args .table .now) _ _ (geometryOf (at-geometry-of .geometry-of .result)) (true-is (sym (at-check .check .ensures .told) ∙ at-if2 .if2 .taken)) (at-check .check .ensures .shown (at-if2 .if2 .taken)) (at-geometry-of .geometry-of .ensures ∙ ap readGeometry (at-record-at .record-at .ensures .0)), at-check .check .ensures .longMap ∙ ap length (top .pre .0), at-check .check .ensures .longSlots ∙ top .pre .1, top .pre .2)
+    (ready (top .args .table .now) _ _ (geometryOf (at-check .check .result .geometry)) _ _ (true-is (sym (at-check .check .ensures .told) ∙ c .before .before .if2 .taken)) (at-check .check .ensures .shown (c .before .before .if2 .taken)) (at-check .check .ensures .tells (c .before .before .if2 .taken)), at-check .check .ensures .longMap ∙ ap length (top .pre .0), top .pre .2)
 
 same-length-5 : tie.Need-same-length-5
 same-length-5 c = search needs
@@ -76,7 +63,7 @@ same-length-7 : tie.Need-same-length-7
 same-length-7 c = search needs
 
 returns-3 : tie.Need-returns-3
-returns-3 c = (c .before .before .list-taken .ensures .long, c .before .before .list-taken .ensures .text ∙ is-taken (c .before .before .before .before .before .before .before .before .before .before .before .before .before .before .before .before .before .before .before .before .before .before .args .table .now) (sym (c .before .before .before .before .before .before .before .before .before .before .before .before .before .before .before .before .before .good-length .ensures) ∙ c .before .before .before .before .before .before .before .before .before .before .before .before .before .before .before .before .if1 .taken) (sym (c .before .before .before .before .before .before .before .before .before .before .before .before .before .check .ensures .told) ∙ c .before .before .before .before .before .before .before .before .if2 .taken), omega (arith, c .before .before .list-taken .ensures .end))
+returns-3 c = (c .before .before .list-taken .ensures .long, c .before .before .list-taken .ensures .text ∙ is-taken (c .before .before .before .before .before .before .before .before .before .before .before .before .before .before .before .before .before .before .before .args .table .now) (sym (c .before .before .before .before .before .before .before .before .before .before .before .before .before .before .good-length .ensures) ∙ c .before .before .before .before .before .before .before .before .before .before .before .before .before .if1 .taken) (sym (c .before .before .before .before .before .before .before .before .before .before .check .ensures .told) ∙ c .before .before .before .before .before .if2 .taken), omega (arith, c .before .before .list-taken .ensures .end))
 
 pub list-spec : {M : Type 1} → statement M
 list-spec =
@@ -92,8 +79,6 @@ list-spec =
     same-length-3
     same-length-4
     returns-2
-    record-at-requires
-    geometry-of-requires
     list-taken-requires
     same-length-5
     same-length-6

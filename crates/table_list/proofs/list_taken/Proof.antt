@@ -9,13 +9,12 @@ use Rattle.table_list.proofs.list_taken.Tie as tie
 use Rattle.table_list.proofs.list_taken.Reads as reads
 use Rattle.table_list.proofs.list_taken.Lts as lts
 use Rattle.listing.proofs.volume_line.Reads as volume-line-reads
-use Rattle.spare.proofs.spare.Reads as spare-reads
 use Rattle.table_list.proofs.data_lines.Reads as data-lines-reads
 use Rattle.table_list.proofs.free_lines.Reads as free-lines-reads
 use Rattle.table_list.proofs.put_slots.Reads as put-slots-reads
 
 volume-line-requires : tie.Need-volume-line-requires
-volume-line-requires c κs = let s = small-volume (geometryOf (c .before .before .before .before .before .args .g)) (c .before .before .before .before .before .pre .0 .limits) in (omega (arith, c .before .before .before .before .before .pre .3), s .cylinders, s .heads, s .tracks)
+volume-line-requires c κs = let s = small-volume (geometryOf (c .before .before .before .before .args .g)) (c .before .before .before .before .pre .0 .limits) in (omega (arith, c .before .before .before .before .pre .2), s .cylinders, s .heads, s .tracks)
 
 data-lines-requires : tie.Need-data-lines-requires
 data-lines-requires c κs = search needs
@@ -29,29 +28,19 @@ cast-free-lines c = search needs
 free-lines-requires : tie.Need-free-lines-requires
 free-lines-requires c κs = search needs
 
-mul-spare : tie.Need-mul-spare
-mul-spare c = search needs
-
-cast-spare : tie.Need-cast-spare
-cast-spare c = search needs
-
-spare-requires : tie.Need-spare-requires
-spare-requires c κs = search needs
-
 put-slots-requires : tie.Need-put-slots-requires
-put-slots-requires c κs = (omega (arith, c .before .before .before .before .before .before .before .before .before .before .before .before .before .before .volume-line .ensures .end, c .before .before .before .before .before .before .before .before .before .before .before .before .before .before .volume-line .ensures .long, c .before .before .before .before .before .before .before .before .before .before .data-lines .ensures .end, c .before .before .before .before .before .before .before .before .before .before .data-lines .ensures .long, c .before .before .before .before .before .free-lines .ensures .end, c .before .before .before .before .before .free-lines .ensures .long, c .before .before .before .before .before .before .before .before .before .before .before .before .before .before .before .before .before .before .before .before .pre .3, c .before .before .before .before .before .before .before .before .before .before .before .before .before .before .before .before .before .before .before .before .pre .0 .limits .tracksMost), omega (arith, c .before .spare .ensures .most, c .before .before .before .before .before .before .before .before .before .before .before .before .before .before .before .before .before .before .before .before .pre .0 .limits .most))
+put-slots-requires c κs = search needs
 
 same-length : tie.Need-same-length
 same-length c = search needs
 
 returns : tie.Need-returns
 returns c =
-    let at-spare = c .before .before .before .before in
-    let at-free-lines = at-spare .before .before .before .before in
+    let at-free-lines = c .before .before .before .before .before .before in
     let at-data-lines = at-free-lines .before .before .before .before .before in
     let at-volume-line = at-data-lines .before .before .before .before in
-    let top = at-volume-line .before .before .before .before .before .before in
-    whole-written (geometryOf (top .args .g)) (top .args .table .now) (top .args .map .now) (top .args .empty .now) (top .pre .0) (at-spare .spare .result .clear) (first-line (at-volume-line .volume-line .ensures)) (at-data-lines .data-lines .ensures) (at-free-lines .free-lines .ensures) (at-spare .spare .ensures) (c .before .before .put-slots .ensures)
+    let top = at-volume-line .before .before .before .before .before in
+    whole-written (geometryOf (top .args .g)) (top .args .format0s) (top .args .table .now) (top .args .free-tracks .now) (top .pre .0) (first-line (at-volume-line .volume-line .ensures)) (at-data-lines .data-lines .ensures) (at-free-lines .free-lines .ensures) (c .before .before .put-slots .ensures)
 
 pub list-taken-spec : {M : Type 1} → statement M
 list-taken-spec =
@@ -62,9 +51,6 @@ list-taken-spec =
     mul-free-lines
     cast-free-lines
     free-lines-requires
-    mul-spare
-    cast-spare
-    spare-requires
     put-slots-requires
     same-length
     returns)
