@@ -20,9 +20,10 @@ use Rattle.opening.specs.Opening.{Ready}
 use Rattle.change.proofs.Begin.{Alike}
 use Rattle.writing.specs.Writing.{Reached}
 
--- The plan p for a change of the volume that table t holds: the map m shows the tracks that are free then and differs from the
--- volume from track lo on, s the slots that are free but for those of the chain. The label asks for `asked` slots. The chain is
--- read from the table; c has it as it is to be, s′ what is free then.
+-- The plan p for a change of the volume that table t holds. The map m shows the tracks that are free then, those below lo as
+-- before, and s the slots that are free while the chain is as it was; the label asks for `asked` of them. Where the plan fits, c
+-- begins with the chain that is to be, and s′ shows the slots that are free then. `blank` and `none` are what stood in the buffers
+-- before, `read` has the chain of the table.
 pub record Plans (g : Geometry) (t m s s′ c : List ℕ) (lo asked : ℕ) (p : Plan) : Type 0 where
   pub blank : List ℕ
   pub read : List ℕ
@@ -60,7 +61,7 @@ pub record Draft (g : Geometry) (t m s : List ℕ) (lo slot slot3 : ℕ) (few : 
   pub slotIn : (k : ℕ) → slots g ≤ k → tally k (used (label ∷ others) (volume .chain)) ≡ 0
   pub valid : (w : Volume) → settleWith volume others label ≡ some w → Valid w
 
--- what the label of that name becomes
+-- the volume with it
 abbrev pub drafted : {g : Geometry} {t m s : List ℕ} {lo slot slot3 : ℕ} {few : Bool} → Draft g t m s lo slot slot3 few → Option Volume
 drafted d = settleWith (d .volume) (d .others) (d .label)
 
@@ -98,7 +99,7 @@ pub record Left (g : Geometry) (t m s : List ℕ) (lo slot slot3 : ℕ) : Type 0
   pub slotIn : (k : ℕ) → slots g ≤ k → tally k (used (label ∷ others) (volume .chain)) ≡ 0
   pub valid : (w : Volume) → settle g (volume .chain) others 0 (λ ks. others) ≡ some w → Valid w
 
--- what is left without it
+-- the volume without it
 abbrev pub remains : {g : Geometry} {t m s : List ℕ} {lo slot slot3 : ℕ} → Left g t m s lo slot slot3 → Option Volume
 remains {g = g} d = settle g (d .volume .chain) (d .others) 0 (λ ks. d .others)
 

@@ -91,8 +91,8 @@ pub struct Plan {
     pub given: [u16; 2],
 }
 
-// Plans a change: `free_tracks` shows the tracks that are free then, and those below `lo` are as they were; `free_slots` the slots
-// that are free but for those of the chain; the label asks for `asked`. The chain that is to be is left in `chain`.
+// Plans a change. `free_tracks` shows the tracks that are free then, those below `lo` as before, and `free_slots` the slots that are
+// free while the chain is as it was; the label asks for `asked` of them. `chain` has the chain that is to be, afterwards.
 pub fn plan_slots(
     table: &[u8],
     g: Geometry,
