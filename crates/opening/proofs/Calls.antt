@@ -4,7 +4,7 @@ use mathlib.Core.Path.{_≡_, refl, sym, ap, ap₂, _∙_}
 use mathlib.Core.Bool.{Bool, true, false, cond, _&&_}
 use mathlib.Core.Option.{Option}
 use mathlib.Core.List.{List}
-use Prim.Native.Nat.{ℕ, zero, suc}
+use Prim.Native.Nat.{ℕ, zero, suc, _+_, _*_, _≤_, _<_}
 use native.Mathlib.Omega.{arith}
 use lib.Dec.{T, eqb, eqb→eq}
 use lib.ListN.{length}
@@ -19,7 +19,7 @@ use Rattle.rules.specs.Table.{goodLength, tableRefusal}
 use Rattle.names.specs.Find.{findSlot, inSlot, notFound}
 use Rattle.forms.specs.Forms.{geometryOf}
 use Rattle.opening.specs.Opening.{FoundAt, Opened, firstRefusal, nameRefusal}
-use Rattle.opening.proofs.Lookup.{not-there, there}
+use Rattle.opening.proofs.Lookup.{not-there, there, there-inside}
 use Rattle.opening.proofs.Numbers.{known}
 
 -- the call c on the buffers b: `ok` are its other lengths, `good` its names, and `own` is its rule behind those
@@ -95,6 +95,12 @@ module _ {b : Lent} {c : Call} {ok good : Bool} {name : List ℕ} {own : Volume 
 
     pub found-at : (k : ℕ) → inSlot k ≡ findSlot (b .table) name (slots (geometryOf (o .geometry))) → FoundAt (b .table) (read (b .table)) name k
     found-at k e = let w = known x z in there (b .table) (w .isTaken) _ (w .geometryIs) name k e
+
+    pub slot-inside : (k : ℕ) → inSlot k ≡ findSlot (b .table) name (slots (geometryOf (o .geometry))) → k < slots (geometryOf (o .geometry))
+    slot-inside k e = let w = known x z in there-inside (b .table) (w .isTaken) _ (w .geometryIs) name k e
+
+    pub record-inside : (k : ℕ) → inSlot k ≡ findSlot (b .table) name (slots (geometryOf (o .geometry))) → 140 * k + 140 ≤ length (b .table)
+    record-inside k e = let n = known x z .long in let i = slot-inside k e in omega arith
 
     pub done : {k : ℕ} (f : FoundAt (b .table) (read (b .table)) name k) (n : ℕ) (b′ : Lent) → result n b′ ≡ written b (own (read (b .table)) (f .label)) → result n b′ ≡ perform b c
     done f n b′ q = passed asks x z n b′ (q ∙ sym (ap (λ (u : Option Label). written b (given u 5 (own (read (b .table))))) (f .same)))

@@ -1,5 +1,4 @@
 use mathlib.Core.Path.{refl, sym, _∙_}
-use native.Mathlib.Omega.{arith}
 use Rattle.request.specs.Request.{toAmount}
 use Rattle.opening.proofs.Calls.{refused}
 use Rattle.opening.proofs.Numbers.{known, known-maps}
@@ -45,7 +44,11 @@ same-length-4 : tie.Need-same-length-4
 same-length-4 c = search needs
 
 returns-2 : tie.Need-returns-2
-returns-2 c = unknown (c .before .before .before .before .before .before .before .before .before .before .before .before .before .before .before .before .args .table .now) (c .before .before .before .before .before .before .before .before .before .before .before .before .before .before .before .before .args .name .now) (c .before .before .before .before .before .before .before .before .before .before .before .before .before .before .before .before .args .attributes .now) (c .before .before .before .before .before .before .before .before .before .before .before .before .before .before .before .before .args .kind) (c .before .before .before .before .before .before .before .before .before .before .before .before .before .before .before .before .args .start) (c .before .before .before .before .before .before .before .before .before .before .before .before .before .before .before .before .args .amount) (c .before .before .before .before .before .before .before .before .before .before .before .before .before .before .before .before .args .secondary) (c .before .before .before .before .before .before .before .before .before .before .before .before .before .before .before .before .args .answer .now) _ (c .before .before .before .before .before .before .before .before .before .before .and-another .ensures) (c .before .before .before .before .before .before .open-named .ensures .0) (c .before .if1 .left) (omega (arith, c .if2 .taken))
+returns-2 c =
+    let at-open-named = c .before .before .before .before .before .before in
+    let at-and-another = at-open-named .before .before .before .before in
+    let top = at-and-another .before .before .before .before .before .before in
+    unknown (top .args .table .now) (top .args .name .now) (top .args .attributes .now) (top .args .kind) (top .args .start) (top .args .amount) (top .args .secondary) (top .args .answer .now) _ (at-and-another .and-another .ensures) (at-open-named .open-named .ensures .0) (c .before .if1 .left) (c .if2 .taken)
 
 read-request-requires : tie.Need-read-request-requires
 read-request-requires c κs = search needs

@@ -1,6 +1,5 @@
 use Rattle.call_obtain.proofs.Laws.{labels-long, obtained, obtains}
-use Rattle.opening.proofs.Calls.{answer-long, asks, found-at, not-found, refused}
-use Rattle.opening.proofs.Lookup.{there-inside}
+use Rattle.opening.proofs.Calls.{answer-long, asks, not-found, refused, slot-inside}
 use Rattle.opening.proofs.Numbers.{and-named, known}
 use mathlib.Core.Path.{sym, _∙_, ap}
 use Rattle.names.specs.Find.{answerOf}
@@ -66,7 +65,7 @@ put-labels-requires c κs =
     let w = known x (at-if1 .if1 .left) in (
       w .limits,
       w .long,
-      there-inside (top .args .table .now) (w .isTaken) _ (w .geometryIs) (top .args .name .now) _ (ap answerOf (sym (c .before .before .k .given .1)) ∙ at-look-up .look-up .ensures),
+      slot-inside (obtains (top .args .table .now) (top .args .name .now) (top .args .labels .now) (top .args .answer .now) _ (at-and-another .and-another .ensures)) x (at-if1 .if1 .left) _ (ap answerOf (sym (c .before .before .k .given .1)) ∙ at-look-up .look-up .ensures),
       labels-long (top .args .table .now) (top .args .name .now) (top .args .labels .now) (top .args .answer .now) _ (at-and-another .and-another .ensures) x (at-if1 .if1 .left),
     )
 

@@ -1,8 +1,6 @@
 use Rattle.call_rename.proofs.Laws.{duplicate, name-put, new-long, renames}
-use Rattle.opening.proofs.Calls.{answer-long, asks, not-found, refused}
-use Rattle.opening.proofs.Lookup.{there-inside}
+use Rattle.opening.proofs.Calls.{answer-long, asks, not-found, record-inside, refused}
 use Rattle.opening.proofs.Numbers.{and-named, known}
-use native.Mathlib.Omega.{arith}
 use mathlib.Core.Path.{sym, ap, _∙_}
 use Rattle.names.specs.Find.{answerOf}
 use borrow.Author.Needs.{needs}
@@ -94,10 +92,17 @@ returns-3 c =
 
 put-name-requires : tie.Need-put-name-requires
 put-name-requires c κs =
-    let x = and-named (and-named (c .before .before .before .before .before .before .before .before .before .before .before .before .before .before .open-to-read .ensures) (c .before .before .before .before .before .before .before .before .before .before .before .before .before .and-named .ensures)) (c .before .before .before .before .before .before .before .before .before .before .before .before .and-named2 .ensures) in
-    let w = known x (c .before .before .before .before .before .before .before .before .before .before .if1 .left) in (
-      omega (arith, w .long, there-inside (c .before .before .before .before .before .before .before .before .before .before .before .before .before .before .before .before .before .before .before .before .before .args .table .now) (w .isTaken) _ (w .geometryIs) (c .before .before .before .before .before .before .before .before .before .before .before .before .before .before .before .before .before .before .before .before .before .args .old .now) _ (ap answerOf (sym (c .before .before .before .before .before .k .given .1)) ∙ c .before .before .before .before .before .before .before .look-up .ensures)),
-      new-long (c .before .before .before .before .before .before .before .before .before .before .before .before .before .before .before .before .before .before .before .before .before .args .table .now) (c .before .before .before .before .before .before .before .before .before .before .before .before .before .before .before .before .before .before .before .before .before .args .old .now) (c .before .before .before .before .before .before .before .before .before .before .before .before .before .before .before .before .before .before .before .before .before .args .new .now) (c .before .before .before .before .before .before .before .before .before .before .before .before .before .before .before .before .before .before .before .before .before .args .answer .now) _ (c .before .before .before .before .before .before .before .before .before .before .before .before .before .before .before .before .and-another .ensures) x (c .before .before .before .before .before .before .before .before .before .before .if1 .left),
+    let at-k = c .before .before .before .before .before in
+    let at-look-up = at-k .before .before in
+    let at-if1 = at-look-up .before .before .before in
+    let at-and-named2 = at-if1 .before .before in
+    let at-and-named = at-and-named2 .before in
+    let at-open-to-read = at-and-named .before in
+    let at-and-another = at-open-to-read .before .before in
+    let top = at-and-another .before .before .before .before .before in
+    let x = and-named (and-named (at-open-to-read .open-to-read .ensures) (at-and-named .and-named .ensures)) (at-and-named2 .and-named2 .ensures) in (
+      record-inside (renames (top .args .table .now) (top .args .old .now) (top .args .new .now) (top .args .answer .now) _ (at-and-another .and-another .ensures)) x (at-if1 .if1 .left) _ (ap answerOf (sym (at-k .k .given .1)) ∙ at-look-up .look-up .ensures),
+      new-long (top .args .table .now) (top .args .old .now) (top .args .new .now) (top .args .answer .now) _ (at-and-another .and-another .ensures) x (at-if1 .if1 .left),
     )
 
 put-nothing-requires : tie.Need-put-nothing-requires

@@ -35,7 +35,11 @@ not-taken-requires-2 : tie.Need-not-taken-requires-2
 not-taken-requires-2 c κs = search needs
 
 returns-2 : tie.Need-returns-2
-returns-2 c = no-four (c .before .before .before .before .before .before .before .before .args .table .now) (c .before .before .before .before .before .before .before .before .args .free-tracks .now) (c .before .before .before .before .before .before .before .before .args .free-slots .now) _ (c .not-taken2 .ensures) (omega (arith, c .before .before .before .before .if1 .left)) (c .before .before .before .record-at .result .now) (c .before .before .before .record-at .ensures .0) (c .before .if2 .taken)
+returns-2 c =
+    let at-record-at = c .before .before .before in
+    let at-if1 = at-record-at .before in
+    let top = at-if1 .before .before .before .before in
+    no-four (top .args .table .now) (top .args .free-tracks .now) (top .args .free-slots .now) _ (c .not-taken2 .ensures) (at-if1 .if1 .left) (at-record-at .record-at .result .now) (at-record-at .record-at .ensures .0) (c .before .if2 .taken)
 
 geometry-of-requires : tie.Need-geometry-of-requires
 geometry-of-requires c κs = search needs
@@ -47,7 +51,12 @@ not-taken-requires-3 : tie.Need-not-taken-requires-3
 not-taken-requires-3 c κs = search needs
 
 returns-3 : tie.Need-returns-3
-returns-3 c = out-of-limits (c .before .before .before .before .before .before .before .before .before .before .before .args .table .now) (c .before .before .before .before .before .before .before .before .before .before .before .args .free-tracks .now) (c .before .before .before .before .before .before .before .before .before .before .before .args .free-slots .now) _ (c .not-taken3 .ensures) (omega (arith, c .before .before .before .before .before .before .before .if1 .left)) (geometryOf (c .before .before .before .geometry-of .result)) (c .before .before .before .geometry-of .ensures ∙ ap readGeometry (c .before .before .before .before .before .before .record-at .ensures .0)) (sym (c .before .before .limits .ensures) ∙ c .before .if3 .left)
+returns-3 c =
+    let at-geometry-of = c .before .before .before in
+    let at-record-at = at-geometry-of .before .before .before in
+    let at-if1 = at-record-at .before in
+    let top = at-if1 .before .before .before .before in
+    out-of-limits (top .args .table .now) (top .args .free-tracks .now) (top .args .free-slots .now) _ (c .not-taken3 .ensures) (at-if1 .if1 .left) (geometryOf (at-geometry-of .geometry-of .result)) (at-geometry-of .geometry-of .ensures ∙ ap readGeometry (at-record-at .record-at .ensures .0)) (sym (c .before .before .limits .ensures) ∙ c .before .if3 .left)
 
 mul-if4 : tie.Need-mul-if4
 mul-if4 c = omega (arith, limits→ (geometryOf (c .before .before .before .geometry-of .result)) (true-is (sym (c .before .before .limits .ensures) ∙ c .before .if3 .taken)) .most)
@@ -62,7 +71,12 @@ not-taken-requires-4 : tie.Need-not-taken-requires-4
 not-taken-requires-4 c κs = search needs
 
 returns-4 : tie.Need-returns-4
-returns-4 c = wrong-length (c .before .before .before .before .before .before .before .before .before .before .before .before .before .args .table .now) (c .before .before .before .before .before .before .before .before .before .before .before .before .before .args .free-tracks .now) (c .before .before .before .before .before .before .before .before .before .before .before .before .before .args .free-slots .now) _ (c .not-taken4 .ensures) (omega (arith, c .before .before .before .before .before .before .before .before .before .if1 .left)) (geometryOf (c .before .before .before .before .before .geometry-of .result)) (c .before .before .before .before .before .geometry-of .ensures ∙ ap readGeometry (c .before .before .before .before .before .before .before .before .record-at .ensures .0)) (c .before .if4 .taken)
+returns-4 c =
+    let at-geometry-of = c .before .before .before .before .before in
+    let at-record-at = at-geometry-of .before .before .before in
+    let at-if1 = at-record-at .before in
+    let top = at-if1 .before .before .before .before in
+    wrong-length (top .args .table .now) (top .args .free-tracks .now) (top .args .free-slots .now) _ (c .not-taken4 .ensures) (at-if1 .if1 .left) (geometryOf (at-geometry-of .geometry-of .result)) (at-geometry-of .geometry-of .ensures ∙ ap readGeometry (at-record-at .record-at .ensures .0)) (c .before .if4 .taken)
 
 contents-ok-requires : tie.Need-contents-ok-requires
 contents-ok-requires c κs =
