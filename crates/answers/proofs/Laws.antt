@@ -10,9 +10,9 @@ use lib.Seq.{take-suc}
 use Rattle.model.specs.Basics.{be2, fill, flat, zeros}
 use Rattle.model.specs.Model.{Run, total}
 use Rattle.rules.specs.Calls.{answer, givenBack, granted, numbers}
-use Rattle.grant.specs.Grant.{row}
-use Rattle.records.specs.Put.{putAt}
-use Rattle.records.proofs.Filling.{put-fill}
+use Rattle.choose_pieces.specs.Grant.{row}
+use Rattle.dscb_write.specs.Put.{putAt}
+use Rattle.dscb_write.proofs.Filling.{put-fill}
 use Rattle.answers.specs.Bytes24.{pieceBytes}
 
 -- ---- one after the other

@@ -5,10 +5,10 @@ ghost use Prim.Native.Nat.{_+_, _≤_, _<_};
 ghost use lib.ListN.{length, take};
 ghost use Rattle.model.specs.Basics.{be2, zeros};
 ghost use Rattle.model.specs.Model.{Run, total};
-ghost use Rattle.model.proofs.Lists.{All};
+ghost use Rattle.model.specs.Predicates.{All};
 ghost use Rattle.rules.specs.Calls.{answer, givenBack, granted, numbers};
-ghost use Rattle.grant.specs.Grant.{row};
-ghost use Rattle.records.specs.Put.{putAt};
+ghost use Rattle.choose_pieces.specs.Grant.{row};
+ghost use Rattle.dscb_write.specs.Put.{putAt};
 ghost use Rattle.answers.specs.Bytes24.{pieceBytes};
 
 // Puts a number of two bytes.
@@ -27,8 +27,8 @@ fn put_piece(all: [u8; 24], at: usize, p: [u16; 2]) -> [u8; 24]
     requires { ⌜ at + 3 < 24 ⌝ }
     ensures { λ r. ⌜ r ≡ putAt all at (pieceBytes p) ⌝ }
 {
-    let begun = put_two(all, at, fields::wide16(p[0]));
-    put_two(begun, at + 2, fields::wide16(p[1]))
+    let begun = put_two(all, at, rows::wide16(p[0]));
+    put_two(begun, at + 2, rows::wide16(p[1]))
 }
 
 // The answer of a call that reports no number.

@@ -6,7 +6,7 @@ use mathlib.Core.List.{List, []}
 use Prim.Native.Nat.{ℕ, _≤_}
 use lib.Dec.{T, eqb, eqb→eq}
 use lib.ListN.{length}
-use Rattle.opening.specs.declared.Opening.{Opening}
+use Rattle.open_table.specs.declared.Opening.{Opening}
 use Rattle.model.specs.Basics.{any}
 use Rattle.model.specs.Model.{Geometry, Volume, slots}
 use Rattle.model.proofs.Lists.{and-l, and-r, true-is}
@@ -14,14 +14,14 @@ use Rattle.rules.specs.Calls.{Amount, Call, Outcome, Request, allocate, allocat
 use Rattle.rules.specs.Entries.{lent, perform, result, written}
 use Rattle.rules.specs.Reading.{read}
 use Rattle.rules.specs.Table.{goodName, named}
-use Rattle.forms.specs.Forms.{geometryOf}
+use Rattle.dscb.specs.Forms.{geometryOf}
 use Rattle.names.specs.Find.{findSlot, isNothing}
-use Rattle.opening.specs.Opening.{Known, KnownMaps, Opened}
-use Rattle.opening.proofs.Calls.{Asks, answer-long, arguments-long, passed}
-use Rattle.opening.proofs.Lookup.{on-volume-is}
-use Rattle.opening.proofs.Numbers.{known}
+use Rattle.open_table.specs.Opening.{Known, KnownMaps, Opened}
+use Rattle.open_table.proofs.Calls.{Asks, answer-long, arguments-long, passed}
+use Rattle.open_table.proofs.Lookup.{on-volume-is}
+use Rattle.open_table.proofs.Numbers.{known}
 use Rattle.request.proofs.Laws.{unknown-kind}
-use Rattle.call_allocate.specs.Asking.{Asking, Chooses}
+use Rattle.grant_space.specs.Asking.{Asking, Chooses}
 
 module _ (t name at : List ℕ) (kind start amount sec : ℕ) (a : List ℕ) (ok : Bool) (lengths : ok ≡ (eqb (length a) 24 && (eqb (length name) 44 && eqb (length at) 52))) where
   abbrev asked : Request

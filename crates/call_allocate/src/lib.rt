@@ -1,54 +1,6 @@
 // Allocate: space for a new data set.
-use forms::Geometry;
-use granting::Grantee;
-use granting::Holder;
-use request::Request;
 ghost use Rattle.rules.specs.Contracts.{Allocates};
-ghost use Rattle.forms.specs.Forms.{geometryOf};
-ghost use Rattle.request.specs.Request.{toAmount};
-ghost use Rattle.table_check.specs.Check.{Roomy};
-ghost use Rattle.call_allocate.specs.Asking.{Asking, Chooses};
-
-// Chooses the pieces of a request that is not refused so far, and grants them to a new data set: 0, 9 or 11.
-pub fn place(
-    table: &mut [u8],
-    g: Geometry,
-    free_tracks: &mut [u64],
-    free_slots: &mut [u64],
-    name: &[u8],
-    attributes: &[u8],
-    request: Request,
-    answer: &mut [u8],
-) -> u32
-    requires { ⌜ Asking (now table) (now «free_tracks») (now «free_slots») (now name) (now attributes) (now answer) (geometryOf g) (toAmount (request .amount)) (request .secondary) ⌝ }
-    ensures { λ r. ⌜ Chooses (now (table .entry)) (now (name .entry)) (now (attributes .entry)) (now (answer .entry)) (toAmount (request .amount)) (request .secondary) r (now (table .exit)) (now (answer .exit)) ⌝ }
-{
-    let amount = request.amount;
-    let pieces = request::fulfil(table, free_tracks, g, amount);
-    let got = grant::count_pieces(pieces);
-    if got.count == 0 {
-        return 9;
-    }
-    let set = Holder {
-        slot: 0,
-        slot3: 0,
-        extents: 0,
-        count: got.count,
-        type_byte: request::type_byte(amount),
-    };
-    let mut chain = [0u16; 468];
-    let plan = granting::plan_grant(table, g, free_tracks, free_slots, &mut chain, set, pieces);
-    if plan.fits {} else {
-        return 11;
-    }
-    let unit = request::unit_byte(amount);
-    let f1 = labels::new_label(name, attributes, unit, request.secondary);
-    let f3 = labels::empty_three();
-    let to = Grantee { set, f1, f3 };
-    granting::write_grant(table, g, free_tracks, &chain, plan, to, pieces);
-    answers::put_granted(answer, pieces, got.count, got.tracks);
-    0
-}
+ghost use Rattle.check_table.specs.Check.{Roomy};
 
 // The call with a map to work in.
 fn allocate_in(
@@ -66,8 +18,8 @@ fn allocate_in(
     ensures { λ r. ⌜ Allocates (now (table .entry)) (now (name .entry)) (now (attributes .entry)) kind start amount secondary (now (answer .entry)) r (now (table .exit)) (now (answer .exit)) ⌝ }
 {
     let mut free_slots = [0u64; 8];
-    let lengths = opening::and_another(answer.len(), name.len(), attributes.len(), 52);
-    let opened = opening::open_named(table, name, lengths, free_tracks, &mut free_slots);
+    let lengths = open_table::and_another(answer.len(), name.len(), attributes.len(), 52);
+    let opened = open_table::open_named(table, name, lengths, free_tracks, &mut free_slots);
     if opened.refusal != 0 {
         return opened.refusal;
     }
@@ -79,10 +31,10 @@ fn allocate_in(
     if request::in_range(request, g) {} else {
         return 7;
     }
-    if opening::on_volume(table, g, name) {
+    if open_table::on_volume(table, g, name) {
         return 6;
     }
-    place(
+    grant_space::place(
         table,
         g,
         free_tracks,
@@ -107,8 +59,8 @@ pub fn allocate(
 ) -> u32
     ensures { λ r. ⌜ Allocates (now (table .entry)) (now (name .entry)) (now (attributes .entry)) kind start amount secondary (now (answer .entry)) r (now (table .exit)) (now (answer .exit)) ⌝ }
 {
-    if opening::few_tracks(table) {
-        let mut map = [u64::MAX; 64];
+    if open_table::few_tracks(table) {
+        let mut free_tracks = [u64::MAX; 64];
         return allocate_in(
             table,
             name,
@@ -118,10 +70,10 @@ pub fn allocate(
             amount,
             secondary,
             answer,
-            &mut map,
+            &mut free_tracks,
         );
     }
-    let mut map = [u64::MAX; 1024];
+    let mut free_tracks = [u64::MAX; 1024];
     allocate_in(
         table,
         name,
@@ -131,6 +83,6 @@ pub fn allocate(
         amount,
         secondary,
         answer,
-        &mut map,
+        &mut free_tracks,
     )
 }

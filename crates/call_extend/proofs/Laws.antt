@@ -5,17 +5,17 @@ use mathlib.Core.List.{List, []}
 use Prim.Native.Nat.{ℕ}
 use lib.Dec.{eqb}
 use lib.ListN.{length}
-use Rattle.opening.specs.declared.Opening.{Opening}
+use Rattle.open_table.specs.declared.Opening.{Opening}
 use Rattle.model.specs.Model.{slots}
 use Rattle.rules.specs.Calls.{extend, extendSet, rule}
 use Rattle.rules.specs.Entries.{lent, perform, result}
 use Rattle.rules.specs.Table.{goodName}
 use Rattle.names.specs.Find.{findSlot, inSlot}
-use Rattle.forms.specs.Forms.{geometryOf}
-use Rattle.opening.specs.Opening.{KnownMaps, Opened}
-use Rattle.opening.proofs.Calls.{AsksSet, answer-long, asks, done, found-at}
-use Rattle.opening.proofs.Numbers.{known}
-use Rattle.call_extend.specs.Longer.{Extended, Longer}
+use Rattle.dscb.specs.Forms.{geometryOf}
+use Rattle.open_table.specs.Opening.{KnownMaps, Opened}
+use Rattle.open_table.proofs.Calls.{AsksSet, answer-long, asks, done, found-at}
+use Rattle.open_table.proofs.Numbers.{known}
+use Rattle.grant_space.specs.Longer.{Extended, Longer}
 
 module _ (t name a : List ℕ) (ok : Bool) (lengths : ok ≡ (eqb (length a) 24 && eqb (length name) 44)) where
   pub extends : AsksSet (lent t a []) (extend name) ok (goodName name) name (λ v. extendSet v name)

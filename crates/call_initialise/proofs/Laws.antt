@@ -15,17 +15,18 @@ use Rattle.rules.specs.Reading.{entryPlace}
 use Rattle.rules.specs.Entries.{fresh, initialise, lent, result}
 use Rattle.rules.specs.Layout.{encode, entry, format4, format5}
 use Rattle.rules.specs.Table.{limits}
-use Rattle.rules.proofs.Fresh.{fresh-free, fresh-valid, some-length, someRun}
-use Rattle.rules.proofs.Valid.{Limits, Valid, →limits}
-use Rattle.sound.proofs.Meaning.{is-sound}
-use Rattle.fields.specs.Records.{putRecord}
-use Rattle.forms.proofs.Cutting.{zeros-part}
-use Rattle.records.specs.Blank.{blank}
-use Rattle.records.specs.Put.{putAt}
-use Rattle.records.proofs.Format5.{five-long, five-more, five-none}
-use Rattle.records.proofs.Putting.{put-all}
-use Rattle.change.specs.Pending.{Pending, recordOf}
-use Rattle.change.proofs.Laws.{put-slot, zeros-of}
+use Rattle.rules.proofs.Fresh.{fresh-free, fresh-valid, some-length}
+use Rattle.rules.specs.Predicates.{someRun, Limits, Valid}
+use Rattle.rules.proofs.Valid.{→limits}
+use Rattle.rules.proofs.Meaning.{is-sound}
+use Rattle.dscb.specs.Records.{putRecord}
+use Rattle.dscb.proofs.Cutting.{zeros-part}
+use Rattle.dscb_write.specs.Blank.{blank}
+use Rattle.dscb_write.specs.Put.{putAt}
+use Rattle.dscb_write.proofs.Format5.{five-long, five-more, five-none}
+use Rattle.dscb_write.proofs.Putting.{fields-put}
+use Rattle.update.specs.Pending.{Pending, recordOf}
+use Rattle.update.proofs.Pending.{put-slot, zeros-of}
 use Rattle.call_initialise.specs.More.{More}
 
 -- ---- zeros everywhere
@@ -33,7 +34,7 @@ use Rattle.call_initialise.specs.More.{More}
 pub all-erased : (t : List ℕ) (i : ℕ) → i ≤ length t → length t ≤ i → putAt t 0 (zeros (i - 0)) ≡ zeros (length t)
 all-erased t i u w =
     let e : i - 0 ≡ length t = omega arith in
-    ap (λ (k : ℕ). putAt t 0 (zeros k)) e ∙ put-all t (zeros (length t)) (sym (length-replicate (length t) 0))
+    ap (λ (k : ℕ). putAt t 0 (zeros k)) e ∙ fields-put t (zeros (length t)) (sym (length-replicate (length t) 0))
 
 -- ---- the number of format 0s
 
@@ -74,11 +75,11 @@ module _ (g : Geometry) (r r′ : List ℕ) (j start count : ℕ) (is : r ≡ bl
   room = (ap length first ∙ five-long g (someRun start count) 0, let n = first-number in let a = some-length start count in omega arith)
 
 -- and the second
-pub both : (g : Geometry) → Limits g → (r r₁ r₂ : List ℕ) (j₁ j₂ all : ℕ) → r ≡ blank 4 0x05 0xF5
+pub both-runs : (g : Geometry) → Limits g → (r r₁ r₂ : List ℕ) (j₁ j₂ all : ℕ) → r ≡ blank 4 0x05 0xF5
     → More g (someRun 1 (g .vtocStart - 1)) r 0 r₁ j₁ → all ≡ tracks g
     → More g (someRun (g .vtocStart + g .vtocTracks) (all - (g .vtocStart + g .vtocTracks))) r₁ j₁ r₂ j₂
     → r₂ ≡ format5 g (free g []) 0
-both g lim r r₁ r₂ j₁ j₂ all is one e two =
+both-runs g lim r r₁ r₂ j₁ j₂ all is one e two =
     subst (λ (n : ℕ). More g (someRun (g .vtocStart + g .vtocTracks) (n - (g .vtocStart + g .vtocTracks))) r₁ j₁ r₂ j₂) e two
     .bytes (someRun 1 (g .vtocStart - 1)) (first-number g r r₁ j₁ 1 (g .vtocStart - 1) is one) (first g r r₁ j₁ 1 (g .vtocStart - 1) is one)
     ∙ ap (λ (f : List Run). format5 g f 0) (fresh-free g (→limits g lim))
@@ -115,7 +116,7 @@ module _ (g : Geometry) (lim : Limits g) where
       let b = put-slot (fresh g) (0 ∷ []) (zeros (length t)) 1 five a (omega arith) l5 (λ _. e5 ∙ five-is) in
       let q : four ≡ recordOf (fresh g) 0 = e4 ∙ ap (format4 g 0) (en ∙ sym (all-but-two (slots g) (omega arith))) ∙ is-sound (fresh g) valid .four in
       let d = put-slot (fresh g) [] (putRecord (zeros (length t)) 1 five) 0 four b (omega arith) l4 (λ _. q) in
-      e₃ ∙ ap (λ (y : List ℕ). putRecord y 0 four) (e₂ ∙ ap (λ (y : List ℕ). putRecord y 1 five) e₁) ∙ Rattle.change.proofs.Laws.put-all (fresh g) _ valid d
+      e₃ ∙ ap (λ (y : List ℕ). putRecord y 0 four) (e₂ ∙ ap (λ (y : List ℕ). putRecord y 1 five) e₁) ∙ Rattle.update.proofs.Pending.put-all (fresh g) _ valid d
 
 -- ---- the call
 

@@ -1,6 +1,6 @@
 // Initialise: a table with no data set.
-use fields::places::*;
-use forms::Geometry;
+use dscb::Geometry;
+use dscb::places::*;
 ghost use mathlib.Core.Path.{_≡_};
 ghost use mathlib.Core.List.{[]};
 ghost use Prim.Native.Nat.{_+_, _*_, _≤_, _<_};
@@ -10,9 +10,8 @@ ghost use Rattle.model.specs.Model.{free, slots};
 ghost use Rattle.rules.specs.Contracts.{Initialises};
 ghost use Rattle.rules.specs.Entries.{fresh};
 ghost use Rattle.rules.specs.Layout.{encode, format5};
-ghost use Rattle.rules.proofs.Fresh.{someRun};
-ghost use Rattle.rules.proofs.Valid.{Limits};
-ghost use Rattle.forms.specs.Forms.{geometryOf};
+ghost use Rattle.rules.specs.Predicates.{someRun, Limits};
+ghost use Rattle.dscb.specs.Forms.{geometryOf};
 ghost use Rattle.call_initialise.specs.More.{More};
 
 // Puts zeros everywhere.
@@ -34,7 +33,7 @@ fn put_some(rec: &mut [u8], j: usize, g: Geometry, start: u32, count: u32) -> us
     if count == 0 {
         return j;
     }
-    records::put_entry(rec, records::entry_place(j), g, start, count);
+    dscb_write::put_entry(rec, dscb_write::entry_place(j), g, start, count);
     j + 1
 }
 
@@ -43,10 +42,10 @@ fn fresh_five(g: Geometry) -> [u8; 140]
     requires { ⌜ Limits (geometryOf g) ⌝ }
     ensures { λ r. ⌜ r ≡ format5 (geometryOf g) (free (geometryOf g) []) 0 ⌝ }
 {
-    let mut rec = records::blank(DS5AVEXT, 0x05, FORMAT5);
+    let mut rec = dscb_write::blank(DS5AVEXT, 0x05, FORMAT5);
     let behind = g.vtoc_start + g.vtoc_tracks;
     let j = put_some(&mut rec, 0, g, 1, g.vtoc_start - 1);
-    put_some(&mut rec, j, g, behind, forms::tracks(g) - behind);
+    put_some(&mut rec, j, g, behind, dscb::tracks(g) - behind);
     rec
 }
 
@@ -57,9 +56,9 @@ fn write_fresh(table: &mut [u8], g: Geometry)
 {
     erase(table);
     let five = fresh_five(g);
-    fields::put_record(table, 1, &five);
-    let four = records::four(g, 0, forms::slots(g) - 2);
-    fields::put_record(table, 0, &four);
+    dscb::put_record(table, 1, &five);
+    let four = dscb_write::four(g, 0, dscb::slots(g) - 2);
+    dscb::put_record(table, 0, &four);
 }
 
 // The call: refusal 1 for the geometry, then 2 for a length, and nothing is written where it is refused.
@@ -81,10 +80,10 @@ pub fn initialise(
         vtoc_start: s,
         vtoc_tracks: v,
     };
-    if forms::limits(g) {} else {
+    if dscb::limits(g) {} else {
         return 1;
     }
-    if table.len() != 140 * forms::slots(g) {
+    if table.len() != 140 * dscb::slots(g) {
         return 2;
     }
     if answer.len() != 24 {

@@ -9,20 +9,20 @@ use native.Mathlib.Omega.{arith}
 use lib.Dec.{eqb}
 use lib.ListN.{drop, length, length-append, take, take-append-drop}
 use Rattle.call_lspace.specs.declared.Sums.{Sums}
-use Rattle.opening.specs.declared.Opening.{Opening}
+use Rattle.open_table.specs.declared.Opening.{Opening}
 use Rattle.model.specs.Basics.{sumOf}
 use Rattle.model.specs.Model.{Geometry, Run, Separate, format0s, free}
-use Rattle.model.proofs.Lists.{All}
+use Rattle.model.specs.Predicates.{All}
 use Rattle.rules.specs.Calls.{answer, inquire, longest, lspace, numbers, rule, spaceNumbers}
 use Rattle.rules.specs.Entries.{lent, perform, result}
 use Rattle.rules.specs.Reading.{read}
-use Rattle.tracks.proofs.Bits.{le-or-lt}
-use Rattle.forms.specs.Forms.{geometryOf}
-use Rattle.free_list.specs.FreeList.{Listed}
-use Rattle.free_list.proofs.Chain.{listed}
-use Rattle.opening.specs.Opening.{Opened}
-use Rattle.opening.proofs.Calls.{Asks, passed}
-use Rattle.opening.proofs.Numbers.{known}
+use Rattle.bitmap.proofs.Bits.{le-or-lt}
+use Rattle.dscb.specs.Forms.{geometryOf}
+use Rattle.free_extents.specs.FreeList.{Listed}
+use Rattle.free_extents.proofs.Chain.{runs-listed}
+use Rattle.open_table.specs.Opening.{Opened}
+use Rattle.open_table.proofs.Calls.{Asks, passed}
+use Rattle.open_table.proofs.Numbers.{known}
 use Rattle.call_lspace.specs.Totals.{Below, Summed, none}
 
 -- ---- the sums
@@ -76,8 +76,8 @@ summed-more h k f s u r x y =
     }
 
 -- what is known on the way through f: what the rest adds, all of f adds from the start
-abbrev pub Onwards : ℕ → List Run → Sums → List Run → Type 0
-Onwards h f s rest = (r : Sums) → Summed h rest s r → Summed h f none r
+abbrev pub SumsOnwards : ℕ → List Run → Sums → List Run → Type 0
+SumsOnwards h f s rest = (r : Sums) → Summed h rest s r → Summed h f none r
 
 -- ---- how large the sums get
 
@@ -90,9 +90,9 @@ below-more m n s h b = record {
 }
 
 -- one entry more, of c tracks
-pub below-next : (n j c h : ℕ) (s u : Sums) → c ≤ 16711680 → 16711680 ≤ n → u .cylinders ≡ s .cylinders + c / h → u .odd ≡ s .odd + c % h → u .many ≡ s .many + 1 → u .long ≡ max (s .long) c
+pub sums-below : (n j c h : ℕ) (s u : Sums) → c ≤ 16711680 → 16711680 ≤ n → u .cylinders ≡ s .cylinders + c / h → u .odd ≡ s .odd + c % h → u .many ≡ s .many + 1 → u .long ≡ max (s .long) c
     → Below (n + j * 16711680) s → Below (n + (j + 1) * 16711680) u
-below-next n j c h s u k l ec eo em el b =
+sums-below n j c h s u k l ec eo em el b =
     let q = div-le-self c h in
     let w = mod-le c h in
     record {
@@ -178,7 +178,7 @@ module _ (t a : List ℕ) (ok : Bool) (long : ok ≡ eqb (length a) 24) where
     pub lists : Listed (geometryOf (o .geometry)) t (free (read t .geometry) (read t .labels))
     lists =
         let w = known x z in
-        subst (λ (y : Geometry). Listed y t (free (read t .geometry) (read t .labels))) (sym (w .geometryIs)) (listed t (read t) (w .ready .sound))
+        subst (λ (y : Geometry). Listed y t (free (read t .geometry) (read t .labels))) (sym (w .geometryIs)) (runs-listed t (read t) (w .ready .sound))
 
     pub inquired : (six a′ : List ℕ) → ((f : List Run) → Listed (geometryOf (o .geometry)) t f → six ≡ spaceNumbers (geometryOf (o .geometry) .heads) f (o .format0s)) → a′ ≡ answer (numbers six)
         → result 0 (lent t a′ []) ≡ perform (lent t a []) lspace

@@ -7,7 +7,7 @@ use Rattle.call_lspace.specs.declared.Sums.{Sums}
 use Rattle.model.specs.Basics.{sumOf}
 use Rattle.model.specs.Model.{Run}
 use Rattle.rules.specs.Calls.{longest}
-use Rattle.free_list.specs.FreeList.{Entries}
+use Rattle.free_extents.specs.FreeList.{Entries}
 
 abbrev pub none : Sums
 none = record { cylinders = 0; odd = 0; many = 0; long = 0 }

@@ -1,18 +1,17 @@
 // LSPACE, the space inquiry: how many free cylinders, odd tracks, free extents and format 0s there are, and the longest
 // free extent. All but the format 0s is read in the entries of the format 5s.
-use fields::places::*;
-use forms::Geometry;
+use dscb::Geometry;
 ghost use mathlib.Core.Path.{_≡_};
 ghost use mathlib.Core.List.{List};
 ghost use Prim.Native.Nat.{_*_, _≤_, _<_, max};
 ghost use lib.ListN.{length};
 ghost use Rattle.model.specs.Model.{Run, slots};
-ghost use Rattle.model.proofs.Lists.{All};
+ghost use Rattle.model.specs.Predicates.{All};
 ghost use Rattle.rules.specs.Calls.{spaceNumbers};
 ghost use Rattle.rules.specs.Contracts.{Inquires};
-ghost use Rattle.rules.proofs.Valid.{Limits};
-ghost use Rattle.forms.specs.Forms.{geometryOf};
-ghost use Rattle.free_list.specs.FreeList.{Listed};
+ghost use Rattle.rules.specs.Predicates.{Limits};
+ghost use Rattle.dscb.specs.Forms.{geometryOf};
+ghost use Rattle.free_extents.specs.FreeList.{Listed};
 ghost use Rattle.call_lspace.specs.Totals.{Added, Below, Summed, none};
 
 // What free extents add up to: their cylinders and odd tracks, how many they are, and the tracks of the longest.
@@ -38,7 +37,7 @@ fn add_member(rec: &[u8], h: u32, sums: Sums) -> Sums
     let mut s = sums;
     let mut j: usize = 0;
     while j < 26 {
-        let hole = free_list::entry(rec, j, h);
+        let hole = free_extents::entry(rec, j, h);
         if hole.count == 0 {
             return s;
         }
@@ -63,22 +62,22 @@ fn add_all(table: &[u8], g: Geometry) -> Sums
         long: 0,
     };
     let mut k: usize = 1;
-    let mut left = forms::slots(g);
+    let mut left = dscb::slots(g);
     while 0 < left {
         if k == 0 {
             return s;
         }
-        s = add_member(fields::record_at(table, k), g.heads, s);
-        k = free_list::member_after(table, g, k);
+        s = add_member(dscb::record_at(table, k), g.heads, s);
+        k = free_extents::member_after(table, g, k);
         left -= 1;
     }
     s
 }
 
 // The six numbers; `empty` is the number of format 0s.
-fn space(table: &[u8], g: Geometry, empty: u32) -> [u32; 6]
-    requires { ⌜ Limits (geometryOf g) × (length (now table) ≡ 140 * slots (geometryOf g)) × (empty < 65536) × ((f : List Run) × Listed (geometryOf g) (now table) f) ⌝ }
-    ensures { λ r. ⌜ ((f : List Run) → Listed (geometryOf g) (now (table .entry)) f → r ≡ spaceNumbers (g .heads) f empty) × All (λ x. x < 65536) r ⌝ }
+fn space(table: &[u8], g: Geometry, format0s: u32) -> [u32; 6]
+    requires { ⌜ Limits (geometryOf g) × (length (now table) ≡ 140 * slots (geometryOf g)) × (format0s < 65536) × ((f : List Run) × Listed (geometryOf g) (now table) f) ⌝ }
+    ensures { λ r. ⌜ ((f : List Run) → Listed (geometryOf g) (now (table .entry)) f → r ≡ spaceNumbers (g .heads) f format0s) × All (λ x. x < 65536) r ⌝ }
 {
     let s = add_all(table, g);
     let h = g.heads as u64;
@@ -88,7 +87,7 @@ fn space(table: &[u8], g: Geometry, empty: u32) -> [u32; 6]
         s.many as u32,
         (s.long / h) as u32,
         (s.long % h) as u32,
-        empty,
+        format0s,
     ]
 }
 
@@ -97,7 +96,7 @@ pub fn lspace(table: &[u8], answer: &mut [u8]) -> u32
     ensures { λ r. ⌜ Inquires (now (table .entry)) (now (answer .entry)) r (now (answer .exit)) ⌝ }
 {
     let lengths = answer.len() == 24;
-    let opened = opening::open_to_read(table, lengths);
+    let opened = open_table::open_to_read(table, lengths);
     if opened.refusal != 0 {
         return opened.refusal;
     }

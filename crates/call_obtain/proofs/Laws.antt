@@ -8,7 +8,7 @@ use borrow.Author.Tests.{eq-eqb, ne-eqb}
 use lib.Dec.{eqb, eqb→eq}
 use lib.ListN.{drop, drop-of-length-le, length, length-append, length-drop}
 use lib.Seq.{take-at}
-use Rattle.opening.specs.declared.Opening.{Opening}
+use Rattle.open_table.specs.declared.Opening.{Opening}
 use Rattle.model.specs.Basics.{zeros}
 use Rattle.model.specs.Model.{Geometry, Label, slots}
 use Rattle.model.proofs.Lists.{and-r}
@@ -17,26 +17,26 @@ use Rattle.rules.specs.Entries.{lent, perform, result}
 use Rattle.rules.specs.Layout.{format1, format3}
 use Rattle.rules.specs.Reading.{read}
 use Rattle.rules.specs.Table.{goodName}
-use Rattle.rules.proofs.Valid.{Limits}
-use Rattle.fields.specs.Records.{putRecord, slotBytes}
+use Rattle.rules.specs.Predicates.{Limits}
+use Rattle.dscb.specs.Records.{putRecord, slotBytes}
 use Rattle.names.specs.Find.{findSlot, inSlot}
-use Rattle.forms.specs.Forms.{geometryOf}
-use Rattle.label_check.specs.Label.{namedThird}
-use Rattle.opening.specs.Opening.{LabelIn, Opened}
-use Rattle.opening.proofs.Calls.{AsksSet, arguments-long, asks, done, found-at}
-use Rattle.opening.proofs.Laws.{third-is}
-use Rattle.opening.proofs.Numbers.{known}
+use Rattle.dscb.specs.Forms.{geometryOf}
+use Rattle.check_label.specs.Label.{namedThird}
+use Rattle.open_table.specs.Opening.{LabelIn, Opened}
+use Rattle.open_table.proofs.Calls.{AsksSet, arguments-long, asks, done, found-at}
+use Rattle.open_table.proofs.Laws.{third-is}
+use Rattle.open_table.proofs.Numbers.{known}
 use Rattle.call_obtain.specs.Third.{orZeros}
 
 -- ---- the bytes
 
-pub no-third : (t : List ℕ) (q : ℕ) → q ≡ 0 → zeros 140 ≡ orZeros t q
+pub obtain-no-third : (t : List ℕ) (q : ℕ) → q ≡ 0 → zeros 140 ≡ orZeros t q
 unfolding orZeros
-no-third t q e = rw (eq-eqb q 0 e)
+obtain-no-third t q e = rw (eq-eqb q 0 e)
 
-pub some-third : (t : List ℕ) (q : ℕ) → (q ≡ 0 → ⊥) → slotBytes t q ≡ orZeros t q
+pub obtain-third : (t : List ℕ) (q : ℕ) → (q ≡ 0 → ⊥) → slotBytes t q ≡ orZeros t q
 unfolding orZeros
-some-third t q e = rw (ne-eqb q 0 e)
+obtain-third t q e = rw (ne-eqb q 0 e)
 
 -- two records fill 280 bytes
 pub two-records : (o a b : List ℕ) → length o ≡ 280 → length a ≡ 140 → length b ≡ 140 → putRecord (putRecord o 0 a) 1 b ≡ a ++ b

@@ -4,7 +4,7 @@ use mathlib.Core.Bool.{cond}
 use mathlib.Core.List.{List}
 use lib.Dec.{eqb}
 use Rattle.model.specs.Basics.{zeros}
-use Rattle.fields.specs.Records.{slotBytes}
+use Rattle.dscb.specs.Records.{slotBytes}
 
 -- the record in slot q, zeros for slot 0, which stands for none
 unfoldable pub orZeros : List ℕ → ℕ → List ℕ

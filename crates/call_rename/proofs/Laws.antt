@@ -5,7 +5,7 @@ use mathlib.Core.List.{List, []}
 use Prim.Native.Nat.{ℕ}
 use lib.Dec.{T, eqb, eqb→eq}
 use lib.ListN.{length}
-use Rattle.opening.specs.declared.Opening.{Opening}
+use Rattle.open_table.specs.declared.Opening.{Opening}
 use Rattle.model.specs.Basics.{any, zeros}
 use Rattle.model.specs.Model.{Geometry, Label, slots}
 use Rattle.model.proofs.Lists.{and-r, true-is}
@@ -15,16 +15,17 @@ use Rattle.rules.specs.Layout.{format1}
 use Rattle.rules.specs.Reading.{read}
 use Rattle.rules.specs.Slots.{replaced, withName}
 use Rattle.rules.specs.Table.{goodName, named}
-use Rattle.rules.proofs.Labels.{Unlike, unlike-any}
-use Rattle.fields.specs.Records.{putRecord, slotBytes}
+use Rattle.rules.proofs.Labels.{unlike-any}
+use Rattle.rules.specs.Predicates.{Unlike}
+use Rattle.dscb.specs.Records.{putRecord, slotBytes}
 use Rattle.names.specs.Find.{findSlot, inSlot, isNothing}
-use Rattle.forms.specs.Forms.{geometryOf}
-use Rattle.labels.specs.Labels.{Format1}
-use Rattle.labels.proofs.Following.{good-is}
-use Rattle.opening.specs.Opening.{FoundAt, Opened}
-use Rattle.opening.proofs.Calls.{AsksSet, arguments-long, asks, done, found-at}
-use Rattle.opening.proofs.Lookup.{on-volume-is}
-use Rattle.opening.proofs.Numbers.{known}
+use Rattle.dscb.specs.Forms.{geometryOf}
+use Rattle.dscb_write.specs.Labels.{Format1}
+use Rattle.dscb_write.proofs.Following.{good-is}
+use Rattle.open_table.specs.Opening.{FoundAt, Opened}
+use Rattle.open_table.proofs.Calls.{AsksSet, arguments-long, asks, done, found-at}
+use Rattle.open_table.proofs.Lookup.{on-volume-is}
+use Rattle.open_table.proofs.Numbers.{known}
 use Rattle.call_rename.proofs.Renamed.{renamed}
 
 module _ (t old new a : List ℕ) (ok : Bool) (long : ok ≡ (eqb (length a) 24 && (eqb (length old) 44 && eqb (length new) 44))) where

@@ -17,18 +17,19 @@ use Rattle.rules.specs.Slots.{found, insertLabel, withName, without}
 use Rattle.rules.specs.Table.{goodName, named}
 use Rattle.rules.proofs.Changes.{rename-keeps}
 use Rattle.rules.proofs.LabelBack.{length-1}
-use Rattle.rules.proofs.Labels.{Unlike, insert-sum, without-sum}
+use Rattle.rules.proofs.Labels.{insert-sum, without-sum}
+use Rattle.rules.specs.Predicates.{Unlike, Valid}
 use Rattle.rules.proofs.Settle.{free-same, used-tally}
 use Rattle.rules.proofs.TableBack.{record-at}
 use Rattle.rules.proofs.Taken.{length-encode}
-use Rattle.rules.proofs.Valid.{Valid, held-times, slots-tally}
-use Rattle.sound.specs.Sound.{LabelOk}
-use Rattle.sound.proofs.Meaning.{is-sound}
-use Rattle.fields.specs.Records.{putRecord}
-use Rattle.labels.proofs.Following.{same-extents}
-use Rattle.change.specs.Pending.{Pending, recordOf}
-use Rattle.change.proofs.Begin.{Alike, alike-both, alike-come, alike-gone}
-use Rattle.change.proofs.Laws.{label-of, put-all, put-slot, slot-of}
+use Rattle.rules.proofs.Valid.{held-times, slots-tally}
+use Rattle.rules.specs.Sound.{LabelOk}
+use Rattle.rules.proofs.Meaning.{is-sound}
+use Rattle.dscb.specs.Records.{putRecord}
+use Rattle.dscb_write.proofs.Following.{same-extents}
+use Rattle.update.specs.Pending.{Pending, recordOf, Alike}
+use Rattle.update.proofs.Started.{alike-both, alike-come, alike-gone}
+use Rattle.update.proofs.Pending.{label-of, put-all, put-slot, slot-of}
 
 -- ---- lists of labels with the same slots
 

@@ -8,11 +8,13 @@ use native.Mathlib.Numerals.{add-one}
 use lib.ListN.{length}
 use Rattle.model.specs.Basics.{sumOf, upFrom}
 use Rattle.model.specs.Model.{Extent, Geometry, Label, Volume, overs, runsOf, total}
-use Rattle.model.proofs.Lists.{All, All-map, All-range}
+use Rattle.model.proofs.Lists.{All-map, All-range}
+use Rattle.model.specs.Predicates.{All}
 use Rattle.rules.specs.Layout.{extentPart}
 use Rattle.rules.specs.Reading.{readExtent, readExtents}
-use Rattle.rules.proofs.Valid.{GoodExtent, GoodLabel, Limits, Valid, free-balance, held-total, limits→}
-use Rattle.fields.proofs.Tens.{extent-length}
+use Rattle.rules.proofs.Valid.{free-balance, held-total, limits→}
+use Rattle.rules.specs.Predicates.{GoodExtent, GoodLabel, Limits, Valid}
+use Rattle.dscb.proofs.Tens.{extent-length}
 use Rattle.listing.specs.Text.{Proper}
 
 -- ---- one extent more

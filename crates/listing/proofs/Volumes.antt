@@ -2,18 +2,18 @@
 -- functions ask. Assumes nothing.
 use mathlib.Core.Path.{_≡_, refl, _∙_}
 use mathlib.Core.List.{List, [], _∷_}
-use mathlib.Core.Bool.{Bool}
 use Prim.Native.Nat.{ℕ, suc, _+_, _≤_, _<_}
 use native.Mathlib.Omega.{arith}
 use native.Mathlib.Nat.{le-mul-of-pos-right}
 use lib.ListN.{length, length-map}
-use Rattle.model.specs.Basics.{filter, upFrom}
+use Rattle.model.specs.Basics.{upFrom}
 use Rattle.model.specs.Model.{Geometry, Label, Run, Separate, runsOf, total, tracks}
-use Rattle.model.proofs.Lists.{All, by, length-upFrom}
+use Rattle.model.proofs.Lists.{length-upFrom}
+use Rattle.model.specs.Predicates.{All}
 use Rattle.rules.specs.Layout.{extentPart}
 use Rattle.rules.specs.Listing.{dataLine, volumeLine}
 use Rattle.rules.specs.Reading.{readExtent, readExtents}
-use Rattle.rules.proofs.Valid.{Limits}
+use Rattle.rules.specs.Predicates.{Limits}
 use Rattle.listing.specs.Text.{dataText, nameText, volumeText}
 
 -- ---- lines
@@ -50,7 +50,3 @@ separate-small : (lo hi : ℕ) (rs : List Run) → hi ≤ 65535 → Separate lo 
 separate-small lo hi [] h s = tt
 separate-small lo hi (r ∷ rs) h s =
     let e = s .2 in ((omega arith, omega arith), separate-small (suc (r .start + r .count)) hi rs h (s .3))
-
-filter-most : (p : ℕ → Bool) (xs : List ℕ) → length (filter p xs) ≤ length xs
-filter-most p [] = omega arith
-filter-most p (x ∷ xs) = let i = filter-most p xs in by (p x) (λ e. rw e (omega arith)) (λ e. rw e (omega arith))

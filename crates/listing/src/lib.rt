@@ -1,13 +1,22 @@
-// The lines of a listing, each written into a lent buffer.
+// The listing of a table: its lines, and the whole, taken or not.
+use dscb::Geometry;
 ghost use mathlib.Core.Path.{_≡_};
-ghost use Prim.Native.Nat.{_+_, _*_, _%_, _≤_, _<_};
+ghost use Prim.Native.Nat.{_+_, _*_, _≤_, _<_, _-_};
 ghost use mathlib.Core.List.{[], _∷_};
-ghost use lib.ListN.{length};
-ghost use Rattle.model.specs.Model.{overs, run, total};
-ghost use Rattle.model.proofs.Lists.{All};
-ghost use Rattle.rules.specs.Listing.{decimal, line, freeLine, refusalLine, slotLine};
-ghost use Rattle.rules.specs.Reading.{readExtent, readExtents};
+ghost use lib.ListN.{length, take};
+ghost use Rattle.model.specs.Model.{overs, run, total, slots};
+ghost use Rattle.model.specs.Predicates.{All};
+ghost use Rattle.rules.specs.Listing.{decimal, line, freeLine, refusalLine, slotLine, dataLine, listing, listingOf};
+ghost use Rattle.rules.specs.Reading.{readExtent, readExtents, read, slotAt};
 ghost use Rattle.listing.specs.Text.{Line, Proper, Written, dataText, digit, nameText, volumeText};
+ghost use Rattle.model.specs.Basics.{flat};
+ghost use Rattle.rules.specs.Predicates.{Limits};
+ghost use Rattle.bitmap.specs.Map.{freeFrom};
+ghost use Rattle.dscb.specs.Forms.{geometryOf};
+ghost use Rattle.check_label.specs.Marks.{labelAt};
+ghost use Rattle.check_table.specs.Labels.{atSlot, labelsBelow};
+ghost use Rattle.check_table.specs.Check.{ones};
+ghost use Rattle.listing.specs.Whole.{Listable, ReadyToList, spanLine};
 
 // ---- fields; each function gives back the place behind what it wrote
 
@@ -60,7 +69,7 @@ fn put_printed(out: &mut [u8], at: usize, b: u8) -> usize
     if b == 0x40 {
         return at;
     }
-    let c = fields::listing::printable(b);
+    let c = ebcdic::listing::printable(b);
     put_byte(out, at, c)
 }
 
@@ -149,8 +158,8 @@ fn tracks_in(x: &[u8], heads: u32) -> u32
     requires { ⌜ (length (now x) ≡ 10) × (heads < 65536) × Proper (readExtent heads (now x)) ⌝ }
     ensures { λ r. ⌜ (r ≡ readExtent heads (now (x .entry)) .over .count) × (r ≤ 65535) ⌝ }
 {
-    let first = fields::track_at(x, 2, heads);
-    let last = fields::track_at(x, 6, heads);
+    let first = dscb::track_at(x, 2, heads);
+    let last = dscb::track_at(x, 6, heads);
     last + 1 - first
 }
 
@@ -164,8 +173,154 @@ pub fn tracks_of<'a>(f1: &'a [u8], f3: &'a [u8], n: usize, heads: u32) -> u32
     let mut sum: u32 = 0;
     let mut e: usize = 0;
     while e < n {
-        sum += tracks_in(fields::extent_part(f1, f3, e), heads);
+        sum += tracks_in(dscb::extent_part(f1, f3, e), heads);
         e += 1;
     }
     sum
+}
+
+// ---- free extents
+
+// Writes the line of the free tracks from `from` up to `to`, if there are any.
+fn put_free(out: &mut [u8], at: usize, from: usize, to: usize) -> usize
+    requires { ⌜ (at + 64 ≤ length (now out)) × (from ≤ to) × (to ≤ 65535) ⌝ }
+    ensures { λ r. ⌜ Written at (spanLine from to) 14 (now (out .entry)) (now (out .exit)) r ⌝ }
+{
+    if from >= to {
+        return at;
+    }
+    let n = free_line(&mut out[at..], from as u32, (to - from) as u32);
+    at + n
+}
+
+// Writes the lines of the free extents among the n tracks of the map.
+fn free_lines(free_tracks: &[u64], n: usize, out: &mut [u8], at: usize) -> usize
+    requires { ⌜ (n ≤ 65535) × (n ≤ 64 * length (now «free_tracks»)) × (at + 14 * n + 64 ≤ length (now out)) ⌝ }
+    ensures { λ r. ⌜ Written at (flat freeLine (freeFrom (now («free_tracks» .entry)) n 0)) (14 * n) (now (out .entry)) (now (out .exit)) r ⌝ }
+{
+    let mut p = at;
+    let mut t: usize = 0;
+    while t < n {
+        let free = bitmap::next_run(free_tracks, t, n);
+        p = put_free(out, p, free.from, free.to);
+        t = free.to;
+    }
+    p
+}
+
+// ---- data sets
+
+// a - b, 0 where b is more.
+fn less(a: u32, b: u32) -> u32
+    ensures { λ r. ⌜ (r ≡ a - b) × (r ≤ a) ⌝ }
+{
+    if a < b {
+        return 0;
+    }
+    a - b
+}
+
+// The slot of the format 3 of a format 1; 0 where it has none.
+fn third(f1: &[u8], g: Geometry) -> usize
+    requires { ⌜ (length (now f1) ≡ 140) × Limits (geometryOf g) ⌝ }
+    ensures { λ r. ⌜ r ≡ slotAt (geometryOf g) (now (f1 .entry)) 135 ⌝ }
+{
+    let t = dscb::track_at(f1, 135, g.heads);
+    let d = less(t, g.vtoc_start);
+    let r = rows::wide(f1[139]);
+    less(d * g.records + r, 1) as usize
+}
+
+// Writes the line of a data set by its format 1, its number of tracks and its number of extents.
+fn put_data(f1: &[u8], many: u32, n: u32, out: &mut [u8], at: usize) -> usize
+    requires { ⌜ (length (now f1) ≡ 140) × (many < 100000) × (n < 100000) × (at + 64 ≤ length (now out)) ⌝ }
+    ensures { λ r. ⌜ Written at (dataText (take 44 (now (f1 .entry))) many n) 64 (now (out .entry)) (now (out .exit)) r ⌝ }
+{
+    let name = &f1[..44];
+    let r = data_line(&mut out[at..], name, many, n);
+    at + r
+}
+
+// Writes the line of the data set in slot k.
+fn put_label(table: &[u8], k: usize, g: Geometry, out: &mut [u8], at: usize) -> usize
+    requires { ⌜ Limits (geometryOf g) × (length (now table) ≡ 140 * slots (geometryOf g)) × (k < slots (geometryOf g)) × Listable (geometryOf g) (labelAt (geometryOf g) (now table) k) × (at + 64 ≤ length (now out)) ⌝ }
+    ensures { λ r. ⌜ Written at (dataLine (labelAt (geometryOf g) (now (table .entry)) k)) 64 (now (out .entry)) (now (out .exit)) r ⌝ }
+{
+    let f1 = dscb::record_at(table, k);
+    let q = third(f1, g);
+    let f3 = dscb::record_at(table, q);
+    let n = rows::wide(f1[59]);
+    let many = tracks_of(f1, f3, n as usize, g.heads);
+    put_data(f1, many, n, out, at)
+}
+
+// Writes the line of slot k, if it has a label.
+fn put_slot(table: &[u8], k: usize, g: Geometry, out: &mut [u8], at: usize) -> usize
+    requires { ⌜ Limits (geometryOf g) × (length (now table) ≡ 140 * slots (geometryOf g)) × (k < slots (geometryOf g)) × All (Listable (geometryOf g)) (atSlot (geometryOf g) (now table) k) × (at + 64 ≤ length (now out)) ⌝ }
+    ensures { λ r. ⌜ Written at (flat dataLine (atSlot (geometryOf g) (now (table .entry)) k)) 64 (now (out .entry)) (now (out .exit)) r ⌝ }
+{
+    let rec = dscb::record_at(table, k);
+    if rec[44] != 0xF1 {
+        return at;
+    }
+    put_label(table, k, g, out, at)
+}
+
+// Writes the lines of the data sets, by slot.
+fn data_lines(table: &[u8], g: Geometry, out: &mut [u8], at: usize) -> usize
+    requires { ⌜ Limits (geometryOf g) × (length (now table) ≡ 140 * slots (geometryOf g)) × All (Listable (geometryOf g)) (labelsBelow (geometryOf g) (now table) (slots (geometryOf g))) × (at + 29952 ≤ length (now out)) ⌝ }
+    ensures { λ r. ⌜ Written at (flat dataLine (labelsBelow (geometryOf g) (now (table .entry)) (slots (geometryOf g)))) 29952 (now (out .entry)) (now (out .exit)) r ⌝ }
+{
+    let n = (g.vtoc_tracks * g.records) as usize;
+    let mut p = at;
+    let mut k: usize = 0;
+    while k < n {
+        p = put_slot(table, k, g, out, p);
+        k += 1;
+    }
+    p
+}
+
+// ---- the whole
+
+// Writes the line of the number of format 0s.
+fn put_slots(out: &mut [u8], at: usize, n: usize) -> usize
+    requires { ⌜ (at + 64 ≤ length (now out)) × (n ≤ 468) ⌝ }
+    ensures { λ r. ⌜ Written at (slotLine n) 64 (now (out .entry)) (now (out .exit)) r ⌝ }
+{
+    let r = slot_line(&mut out[at..], n as u32);
+    at + r
+}
+
+// Writes the listing of a taken table, which has `format0s` format 0s.
+fn list_taken(
+    table: &[u8],
+    g: Geometry,
+    format0s: usize,
+    free_tracks: &[u64],
+    out: &mut [u8],
+) -> usize
+    requires { ⌜ ReadyToList (geometryOf g) format0s (now table) (now «free_tracks») × (length (now «free_tracks») ≡ 1024) × (1000000 ≤ length (now out)) ⌝ }
+    ensures { λ r. ⌜ Written 0 (listingOf (read (now (table .entry)))) 1000000 (now (out .entry)) (now (out .exit)) r ⌝ }
+{
+    let a = volume_line(out, g.cylinders, g.heads);
+    let b = data_lines(table, g, out, a);
+    let c = free_lines(free_tracks, (g.cylinders * g.heads) as usize, out, b);
+    put_slots(out, c, format0s)
+}
+
+// Writes the listing of any table, taken or not, and gives back its length. The maps are room to work in; every track is free in
+// that of tracks.
+pub fn list(table: &[u8], free_tracks: &mut [u64], free_slots: &mut [u64], out: &mut [u8]) -> usize
+    requires { ⌜ (now «free_tracks» ≡ ones 1024) × (length (now «free_slots») ≡ 8) × (1000000 ≤ length (now out)) ⌝ }
+    ensures { λ r. ⌜ (length (now (out .exit)) ≡ length (now (out .entry))) × (take r (now (out .exit)) ≡ listing (now (table .entry))) × (r ≤ 1000000) ⌝ }
+{
+    if check_table::good_length(table) {} else {
+        return refusal_line(out, 2);
+    }
+    let verdict = check_table::check(table, free_tracks, free_slots);
+    if verdict.taken {} else {
+        return refusal_line(out, 3);
+    }
+    list_taken(table, verdict.geometry, verdict.format0s, free_tracks, out)
 }

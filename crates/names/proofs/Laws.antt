@@ -17,12 +17,12 @@ use lib.Seq.{getD-set-other, getD-take, getD-set-same, drop-cons}
 use borrow.Author.Tests.{eq-eqb, ne-eqb}
 use Rattle.model.specs.Basics.{same}
 use Rattle.model.proofs.Lists.{and-l, and-r, by, clash, is-true, same→eq, true-is}
-use Rattle.tracks.specs.Map.{Given, freeBit, isFree}
-use Rattle.tracks.proofs.Bits.{le-or-lt}
-use Rattle.tracks.proofs.Walk.{is-free}
-use Rattle.fields.specs.Records.{slotBytes}
-use Rattle.fields.specs.Tests.{word8}
-use Rattle.fields.proofs.Rows.{and-false, and-true}
+use Rattle.bitmap.specs.Map.{Given, freeBit, isFree}
+use Rattle.bitmap.proofs.Bits.{le-or-lt}
+use Rattle.bitmap.proofs.Walk.{is-free}
+use Rattle.dscb.specs.Records.{slotBytes}
+use Rattle.rows.specs.Words.{word8}
+use Rattle.rows.proofs.Rows.{and-false, and-true}
 use Rattle.names.specs.Find.{Answer, Entered, Seen, Tagged, answerOf, distinct, distinctFrom, findSlot, firstNamed, hasTag, isLabel, isNamed, inSlot, isNothing, keyed, mixed, nameOf, newAt, notFound, tagOf}
 
 -- ---- a record: its name first
@@ -48,9 +48,9 @@ module _ (t name : List ℕ) (k n : ℕ) (h : k < n) where
   pub miss : isNamed (slotBytes t k) name ≡ false → firstNamed t name k (n - k) ≡ firstNamed t name (k + 1) (n - (k + 1))
   miss e = rw (step, e)
 
-pub done : (t name : List ℕ) (k n : ℕ) → n ≤ k → firstNamed t name k (n - k) ≡ notFound
+pub entered-done : (t name : List ℕ) (k n : ℕ) → n ≤ k → firstNamed t name k (n - k) ≡ notFound
 unfolding firstNamed
-done t name k n h = let e : n - k ≡ 0 = omega arith in rw e
+entered-done t name k n h = let e : n - k ≡ 0 = omega arith in rw e
 
 none-there : {k : ℕ} → notFound ≡ inSlot k → ⊥
 none-there e = let z : _≡_ {A = ℕ} 5 0 = ap (λ (x : Answer). x .number) e in omega arith
@@ -179,9 +179,9 @@ pub label-at : (t : List ℕ) (k : ℕ) → isLabel (slotBytes t k) ≡ true →
 unfolding newAt
 label-at t k e = rw e
 
-pub no-label : (t : List ℕ) (k : ℕ) → isLabel (slotBytes t k) ≡ false → newAt t k ≡ true
+pub no-label-in : (t : List ℕ) (k : ℕ) → isLabel (slotBytes t k) ≡ false → newAt t k ≡ true
 unfolding newAt
-no-label t k e = rw e
+no-label-in t k e = rw e
 
 -- ---- the loops over tags and characters
 
@@ -276,7 +276,7 @@ module _ (t tags seen r : List ℕ) (k : ℕ) (e : r ≡ slotBytes t k) (g : Tag
   pub enter-skip : (getD r 44 0 ≡ 0xF1 → ⊥) → Entered t k tags tags seen seen true
   enter-skip n =
       let f : isLabel (slotBytes t k) ≡ false = subst (λ (x : List ℕ). isLabel x ≡ false) e (ne-eqb _ _ n) in
-      record { new = sym (no-label t k f); long = refl; wide = refl; tagged = λ q. tag-skip t tags k f g; marked = λ q. mark-skip t seen k f h }
+      record { new = sym (no-label-in t k f); long = refl; wide = refl; tagged = λ q. tag-skip t tags k f g; marked = λ q. mark-skip t seen k f h }
 
   module _ (m : getD r 44 0 ≡ 0xF1) where
     label : isLabel (slotBytes t k) ≡ true
@@ -303,7 +303,7 @@ module _ (t tags seen r : List ℕ) (k : ℕ) (e : r ≡ slotBytes t k) (g : Tag
 -- ---- a pass that enters name after name
 
 -- the names below slot k differ, their tags and marks are at hand, and the other slots decide
-pub record Entering (t tags seen : List ℕ) (k n : ℕ) : Type 0 where
+pub record NameEntering (t tags seen : List ℕ) (k n : ℕ) : Type 0 where
   pub rest : distinct t n ≡ distinctFrom t k (n - k)
   pub long : length tags ≡ 468
   pub wide : length seen ≡ 64
@@ -311,19 +311,19 @@ pub record Entering (t tags seen : List ℕ) (k n : ℕ) : Type 0 where
   pub marked : Seen t k seen
 
 -- it may begin behind slot 0, where that has no label
-pub entering-start : (t tags seen : List ℕ) (n : ℕ) → isLabel (slotBytes t 0) ≡ false → 0 < n → length tags ≡ 468 → length seen ≡ 64 → Entering t tags seen 1 n
+pub entering-start : (t tags seen : List ℕ) (n : ℕ) → isLabel (slotBytes t 0) ≡ false → 0 < n → length tags ≡ 468 → length seen ≡ 64 → NameEntering t tags seen 1 n
 unfolding distinct
 entering-start t tags seen n f h l w =
     record {
-      rest = ap (distinctFrom t 0) (sym (sub-zero n)) ∙ distinct-next t 0 n h (no-label t 0 f);
+      rest = ap (distinctFrom t 0) (sym (sub-zero n)) ∙ distinct-next t 0 n h (no-label-in t 0 f);
       long = l;
       wide = w;
       tagged = tag-skip t tags 0 f (λ j u e. absurd (omega arith));
       marked = mark-skip t seen 0 f (λ j u e. absurd (omega arith));
     }
 
-module _ (t tags tags′ seen seen′ : List ℕ) (k n : ℕ) (x : Entering t tags seen k n) (h : k < n) (r : Bool) (y : Entered t k tags tags′ seen seen′ r) where
-  pub entering-next : r ≡ true → Entering t tags′ seen′ (k + 1) n
+module _ (t tags tags′ seen seen′ : List ℕ) (k n : ℕ) (x : NameEntering t tags seen k n) (h : k < n) (r : Bool) (y : Entered t k tags tags′ seen seen′ r) where
+  pub entering-next : r ≡ true → NameEntering t tags′ seen′ (k + 1) n
   entering-next e =
       record {
         rest = x .rest ∙ distinct-next t k n h (sym (y .new) ∙ e);
@@ -336,5 +336,5 @@ module _ (t tags tags′ seen seen′ : List ℕ) (k n : ℕ) (x : Entering t ta
   pub entering-stop : r ≡ false → distinct t n ≡ false
   entering-stop e = x .rest ∙ distinct-stop t k n h (sym (y .new) ∙ e)
 
-pub entering-end : (t tags seen : List ℕ) (k n : ℕ) → Entering t tags seen k n → n ≤ k → distinct t n ≡ true
+pub entering-end : (t tags seen : List ℕ) (k n : ℕ) → NameEntering t tags seen k n → n ≤ k → distinct t n ≡ true
 entering-end t tags seen k n x h = x .rest ∙ distinct-end t k n h

@@ -14,10 +14,11 @@ use Rattle.model.specs.Basics.{same}
 use Rattle.model.specs.Model.{Geometry}
 use Rattle.model.proofs.Lists.{and-l, and-r, by, clash, is-true, true-is}
 use Rattle.rules.specs.Reading.{readLabel, readLabels}
-use Rattle.rules.proofs.Labels.{Differ, Unlike, same-sym}
-use Rattle.fields.specs.Records.{slotBytes}
+use Rattle.rules.proofs.Labels.{same-sym}
+use Rattle.rules.specs.Predicates.{Differ, Unlike}
+use Rattle.dscb.specs.Records.{slotBytes}
 use Rattle.names.specs.Find.{answerOf, distinct, distinctFrom, findSlot, isLabel, isNamed, isNothing, nameOf, newAt}
-use Rattle.names.proofs.Laws.{answered, found-at, label-at, no-label, nothing-at}
+use Rattle.names.proofs.Laws.{answered, found-at, label-at, no-label-in, nothing-at}
 
 -- ---- names by slot
 
@@ -55,10 +56,10 @@ differ→ g R k (r ∷ more) d zero (suc j) u w p q =
 differ→ g R k (r ∷ more) d (suc i) (suc j) u w p q =
     differ→ g R (suc k) more (by (isLabel r) (λ h. (rw h at d) .1) (λ h. rw h at d)) i j (omega arith) (omega arith) p q
 
-pub →differ : (g : Geometry) (R : List (List ℕ)) (k : ℕ) (more : List (List ℕ)) → Apart (λ i. getD more i []) (length more) → Differ (readLabels g R k more)
-→differ g R k [] a = tt
-→differ g R k (r ∷ more) a =
-    let i = →differ g R (suc k) more (λ i j u w p q. a (suc i) (suc j) (omega arith) (omega arith) p q) in
+pub entered→differ : (g : Geometry) (R : List (List ℕ)) (k : ℕ) (more : List (List ℕ)) → Apart (λ i. getD more i []) (length more) → Differ (readLabels g R k more)
+entered→differ g R k [] a = tt
+entered→differ g R k (r ∷ more) a =
+    let i = entered→differ g R (suc k) more (λ i j u w p q. a (suc i) (suc j) (omega arith) (omega arith) p q) in
     by (isLabel r)
     (λ h.
     rw h (
@@ -120,4 +121,4 @@ unfolding distinct
         clash (x .here) (named-false (slotBytes t j) (nameOf (slotBytes t k)) y (a j k (omega arith) w y l))
 
     new : (k : ℕ) → k < n → newAt t k ≡ true
-    new k w = by (isLabel (slotBytes t k)) (λ l. label-at t k l ∙ found k w l (answered t (nameOf (slotBytes t k)) k .0) (answered t (nameOf (slotBytes t k)) k .1)) (λ l. no-label t k l)
+    new k w = by (isLabel (slotBytes t k)) (λ l. label-at t k l ∙ found k w l (answered t (nameOf (slotBytes t k)) k .0) (answered t (nameOf (slotBytes t k)) k .1)) (λ l. no-label-in t k l)

@@ -9,9 +9,9 @@ use lib.Dec.{eqb}
 use Rattle.names.specs.declared.Found.{Found}
 use Rattle.names.specs.declared.Found.the-variants.{Slot, Nothing}
 use Rattle.model.specs.Basics.{any, part, same}
-use Rattle.tracks.specs.Map.{freeBit}
-use Rattle.fields.specs.Records.{slotBytes}
-use Rattle.fields.specs.Tests.{word8}
+use Rattle.bitmap.specs.Map.{freeBit}
+use Rattle.dscb.specs.Records.{slotBytes}
+use Rattle.rows.specs.Words.{word8}
 
 -- the record is a format 1
 abbrev pub isLabel : List ℕ → Bool

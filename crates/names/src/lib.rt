@@ -1,6 +1,7 @@
 // Names in a table: the lookup, and that no two data sets have the same one.
-use fields::places::*;
-use fields::*;
+use dscb::places::*;
+use dscb::*;
+use rows::*;
 ghost use mathlib.Core.Path.{_≡_};
 ghost use Prim.Native.Nat.{_+_, _*_, _≤_, _<_};
 ghost use lib.ListN.{length};
@@ -18,7 +19,7 @@ pub fn is_named(rec: &[u8], name: &[u8]) -> bool
     requires { ⌜ length (now rec) ≡ 140 ⌝ }
     ensures { λ r. ⌜ r ≡ isNamed (now (rec .entry)) (now (name .entry)) ⌝ }
 {
-    if fields::same(&rec[..DS1FMTID], name) {} else {
+    if rows::same(&rec[..DS1FMTID], name) {} else {
         return false;
     }
     rec[DS1FMTID] == FORMAT1
@@ -31,7 +32,7 @@ pub fn find(table: &[u8], n: usize, name: &[u8]) -> Found
 {
     let mut k: usize = 0;
     while k < n {
-        if is_named(fields::record_at(table, k), name) {
+        if is_named(dscb::record_at(table, k), name) {
             return Found::Slot(k);
         }
         k += 1;
@@ -44,7 +45,7 @@ fn keyed(name: &[u8], i: usize, key: u64) -> u64
     requires { ⌜ i + 7 < length (now name) ⌝ }
     ensures { λ r. ⌜ r ≡ keyed (now (name .entry)) i key ⌝ }
 {
-    let x = fields::word8(name, i) ^ key;
+    let x = rows::word8(name, i) ^ key;
     (x % 4294967296) * (x / 4294967296)
 }
 
@@ -94,7 +95,7 @@ fn is_other(table: &[u8], k: usize, tags: &[u16], t: u16, name: &[u8]) -> bool
     let mut j: usize = 0;
     while j < k {
         if tags[j] == t {
-            if is_named(fields::record_at(table, j), name) {
+            if is_named(dscb::record_at(table, j), name) {
                 return false;
             }
         }
@@ -110,7 +111,7 @@ fn is_new<'a>(table: &[u8], k: usize, tags: &'a [u16], seen: &'a [u64], t: u16, 
     ensures { λ r. ⌜ r ≡ isNothing (findSlot (now (table .entry)) (now (name .entry)) k) ⌝ }
 {
     let q = (t % 4096) as usize;
-    if tracks::is_free(seen, q) {} else {
+    if bitmap::is_free(seen, q) {} else {
         return true;
     }
     if has_tag(tags, t) {
@@ -124,7 +125,7 @@ pub fn enter(table: &[u8], k: usize, tags: &mut [u16], seen: &mut [u64]) -> bool
     requires { ⌜ (140 * k + 140 ≤ length (now table)) × (k < length (now tags)) × Tagged (now table) k (now tags) × (length (now seen) ≡ 64) × Seen (now table) k (now seen) ⌝ }
     ensures { λ r. ⌜ Entered (now (table .entry)) k (now (tags .entry)) (now (tags .exit)) (now (seen .entry)) (now (seen .exit)) r ⌝ }
 {
-    let rec = fields::record_at(table, k);
+    let rec = dscb::record_at(table, k);
     if rec[DS1FMTID] != FORMAT1 {
         return true;
     }
@@ -134,7 +135,7 @@ pub fn enter(table: &[u8], k: usize, tags: &mut [u16], seen: &mut [u64]) -> bool
         tags[k] = t;
         let at = (t % 4096) as usize;
         let end = at + 1;
-        tracks::give_range(seen, at, end);
+        bitmap::give_range(seen, at, end);
         return true;
     }
     false

@@ -9,17 +9,17 @@ use Rattle.rules.specs.Layout.{extentPart}
 use Rattle.rules.specs.Table.{goodLength, goodName, taken}
 use Rattle.probe.specs.Number.{checkNumber, extentByte, nameNumber}
 
-pub wrong-length : (t : List ℕ) → goodLength t ≡ false → 2 ≡ checkNumber t
+pub probe-wrong-length : (t : List ℕ) → goodLength t ≡ false → 2 ≡ checkNumber t
 unfolding checkNumber
-wrong-length t h = rw h
+probe-wrong-length t h = rw h
 
 pub sound : (t : List ℕ) → goodLength t ≡ true → taken t ≡ true → 0 ≡ checkNumber t
 unfolding checkNumber
 sound t h k = rw (h, k)
 
-pub unsound : (t : List ℕ) → goodLength t ≡ true → taken t ≡ false → 3 ≡ checkNumber t
+pub unsound-number : (t : List ℕ) → goodLength t ≡ true → taken t ≡ false → 3 ≡ checkNumber t
 unfolding checkNumber
-unsound t h k = rw (h, k)
+unsound-number t h k = rw (h, k)
 
 pub obeys : (name : List ℕ) → goodName name ≡ true → 1 ≡ nameNumber name
 unfolding nameNumber

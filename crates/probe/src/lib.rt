@@ -8,12 +8,12 @@ ghost use Rattle.probe.specs.Number.{checkNumber, extentByte, nameNumber
 pub extern "C" fn vtoc_probe_check(table: &[u8]) -> u32
     ensures { λ r. ⌜ r ≡ checkNumber (now (table .entry)) ⌝ }
 {
-    if table_check::good_length(table) {} else {
+    if check_table::good_length(table) {} else {
         return 2;
     }
     let mut map = [u64::MAX; 1024];
     let mut empty = [0u64; 8];
-    let verdict = table_check::check(table, &mut map, &mut empty);
+    let verdict = check_table::check(table, &mut map, &mut empty);
     if verdict.taken {
         return 0;
     }
@@ -25,7 +25,7 @@ pub extern "C" fn vtoc_probe_check(table: &[u8]) -> u32
 pub extern "C" fn vtoc_probe_name(name: &[u8]) -> u32
     ensures { λ r. ⌜ r ≡ nameNumber (now (name .entry)) ⌝ }
 {
-    if fields::name_ok(name) {
+    if ebcdic::name_ok(name) {
         return 1;
     }
     0
@@ -36,10 +36,10 @@ pub extern "C" fn vtoc_probe_name(name: &[u8]) -> u32
 pub extern "C" fn vtoc_probe_extent<'a>(format1: &'a [u8], format3: &'a [u8], e: u32, i: u32) -> u32
     ensures { λ r. ⌜ r ≡ extentByte (now (format1 .entry)) (now (format3 .entry)) e i ⌝ }
 {
-    let held = fields::extent_part(format1, format3, e as usize);
+    let held = dscb::extent_part(format1, format3, e as usize);
     let at = i as usize;
     if at < held.len() {
-        return fields::wide(held[at]);
+        return rows::wide(held[at]);
     }
     256
 }

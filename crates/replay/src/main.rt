@@ -20,7 +20,7 @@ fn play_one(table: &mut [u8], lent: &mut usize) -> bool
         return false;
     }
     replay_step::step(&asked, table, &mut line);
-    *lent = recorded::table_lent(&asked);
+    *lent = replay_record::table_lent(&asked);
     if io::write_all(STDOUT_FILENO, &line) {
         return true;
     }

@@ -1,4 +1,4 @@
--- From the calls' equations, on lent bytes, to the buffers whole. Assumes nothing.
+-- From the calls' equations, on lent bytes, to the buffers wholeTable. Assumes nothing.
 use mathlib.Core.Path.{_≡_, refl, sym, ap, ap₂, _∙_}
 use mathlib.Core.List.{List, [], _++_}
 use Prim.Native.Nat.{ℕ, _≤_}
@@ -9,15 +9,15 @@ use lib.Seq.{length-take-le}
 use Rattle.rules.specs.Calls.{Call, allocate, extend, lspace, obtain, release, rename, request, scratch}
 use Rattle.rules.specs.Contracts.{geometry}
 use Rattle.rules.specs.Entries.{Lent, Result, initialise, lent, perform, result}
-use Rattle.recorded.specs.Asked.{answerLent, bytesOf, get4, labelsLent, nameOf, otherOf, overAt, tableLent}
-use Rattle.recorded.specs.Line.{digest, lineOf}
-use Rattle.replay_step.specs.Play.{Does, Loads, both, called, done, freshAnswer, freshLabels, initialised, laterOp, lentOf, lineFor, loaded, obtained, operated, played, requestOf, whole}
+use Rattle.replay_record.specs.Asked.{answerLent, bytesOf, get4, labelsLent, nameAsked, otherOf, overAt, tableLent}
+use Rattle.replay_record.specs.Line.{digest, lineOf}
+use Rattle.replay_step.specs.Play.{Does, Loads, bothLent, called, playDone, freshAnswer, freshLabels, initialised, laterOp, lentOf, lineFor, loaded, obtained, operated, played, requestOf, wholeTable}
 
 -- whatever call was made with the first n bytes of the table and k of the answer
 put-back : {r : ℕ} {t′ a′ : List ℕ} {p : Result} (asked t a l : List ℕ) (n k : ℕ) → n ≡ tableLent asked → k ≡ answerLent asked
-    → result r (lent t′ a′ []) ≡ p → result r (lent (t′ ++ drop n t) (a′ ++ drop k a) l) ≡ whole asked (lent t a l) p l
+    → result r (lent t′ a′ []) ≡ p → result r (lent (t′ ++ drop n t) (a′ ++ drop k a) l) ≡ wholeTable asked (lent t a l) p l
 put-back {r} {t′} {a′} {p} asked t a l n k e f h =
-    rw (e, f) (ap (λ (q : Result). whole asked (lent t a l) q l) h)
+    rw (e, f) (ap (λ (q : Result). wholeTable asked (lent t a l) q l) h)
 
 pub does-call : {c : Call} {r : ℕ} {t′ a′ : List ℕ} (c′ : Call) (asked t a : List ℕ) (n k : ℕ) → c ≡ c′ → n ≡ tableLent asked → k ≡ answerLent asked
     → result r (lent t′ a′ []) ≡ perform (lent (take n t) (take k a) []) c → Does (λ b. called asked b c′) t a r (t′ ++ drop n t) (a′ ++ drop k a)
@@ -35,7 +35,7 @@ reads-call {r} {a′} c asked t a n k e f h = λ l.
     ap (λ (u : List ℕ). result r (lent u (a′ ++ drop k a) l)) (sym (take-append-drop n t)) ∙ does-call c asked t a n k refl e f h l
 
 pub obtains : {r : ℕ} {a′ l′ : List ℕ} (name asked t a l : List ℕ) (n k m : ℕ) → n ≡ tableLent asked → k ≡ answerLent asked → m ≡ labelsLent asked
-    → name ≡ nameOf asked → result r (lent (take n t) a′ l′) ≡ perform (lent (take n t) (take k a) (take m l)) (obtain name)
+    → name ≡ nameAsked asked → result r (lent (take n t) a′ l′) ≡ perform (lent (take n t) (take k a) (take m l)) (obtain name)
     → result r (lent t (a′ ++ drop k a) (l′ ++ drop m l)) ≡ obtained asked (lent t a l)
 unfolding obtained
 obtains {r} {a′} {l′} name asked t a l n k m e f g s h =
@@ -67,19 +67,19 @@ module _ (r : List ℕ) (b : Lent) {x : Result} (op : ℕ) where
   unfolding operated
   op-2 e h = rw e h
 
-  pub op-3 : op ≡ 3 → x ≡ called r b (extend (nameOf r)) → x ≡ operated op r b
+  pub op-3 : op ≡ 3 → x ≡ called r b (extend (nameAsked r)) → x ≡ operated op r b
   unfolding operated
   op-3 e h = rw e h
 
-  pub op-4 : op ≡ 4 → x ≡ called r b (release (nameOf r) (get4 r 8)) → x ≡ operated op r b
+  pub op-4 : op ≡ 4 → x ≡ called r b (release (nameAsked r) (get4 r 8)) → x ≡ operated op r b
   unfolding operated
   op-4 e h = rw e h
 
-  pub op-5 : op ≡ 5 → x ≡ called r b (scratch (nameOf r)) → x ≡ laterOp op r b
+  pub op-5 : op ≡ 5 → x ≡ called r b (scratch (nameAsked r)) → x ≡ laterOp op r b
   unfolding laterOp
   op-5 e h = rw e h
 
-  pub op-6 : op ≡ 6 → x ≡ called r b (rename (nameOf r) (otherOf r)) → x ≡ laterOp op r b
+  pub op-6 : op ≡ 6 → x ≡ called r b (rename (nameAsked r) (otherOf r)) → x ≡ laterOp op r b
   unfolding laterOp
   op-6 e h = rw e h
 
@@ -117,11 +117,11 @@ reported {line} asked t a l r n m x y e f g h k =
     k ∙ ap₂ (λ (i j : ℕ). lineOf (getD asked 0 0) r (take 24 a) i j) (g ∙ ap (λ (i : ℕ). digest (take i t)) e) (h ∙ ap (λ (i : ℕ). digest (take i l)) f)
 
 pub step-done : {line t′ a′ l′ : List ℕ} {r : ℕ} (asked t a l : List ℕ) → a ≡ freshAnswer → l ≡ freshLabels
-    → result r (lent t′ a′ l′) ≡ operated (getD asked 0 0) asked (lent t a l) → line ≡ lineFor asked (result r (lent t′ a′ l′)) → both line t′ ≡ played asked t
-unfolding played done
+    → result r (lent t′ a′ l′) ≡ operated (getD asked 0 0) asked (lent t a l) → line ≡ lineFor asked (result r (lent t′ a′ l′)) → bothLent line t′ ≡ played asked t
+unfolding played playDone
 step-done {line} {t′} {a′} {l′} {r} asked t a l e f h k =
-    let d : result r (lent t′ a′ l′) ≡ done asked t = h ∙ ap₂ (λ (i j : List ℕ). operated (getD asked 0 0) asked (lent t i j)) e f in
-    ap₂ both (k ∙ ap (λ (q : Result). lineFor asked q) d) (ap (λ (q : Result). q .after .table) d)
+    let d : result r (lent t′ a′ l′) ≡ playDone asked t = h ∙ ap₂ (λ (i j : List ℕ). operated (getD asked 0 0) asked (lent t i j)) e f in
+    ap₂ bothLent (k ∙ ap (λ (q : Result). lineFor asked q) d) (ap (λ (q : Result). q .after .table) d)
 
 -- so many bytes are lent
 pub lent-long : (n m : ℕ) (t : List ℕ) → length t ≡ m → n ≤ m → n ≡ length (take n t)

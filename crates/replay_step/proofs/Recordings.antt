@@ -10,14 +10,15 @@ use lib.Dec.{T, eqb, leb, eqb→eq, leb→le}
 use lib.ListN.{length, take, drop, length-append, length-drop}
 use lib.Seq.{length-take-le, take-at}
 use Rattle.model.specs.Model.{Geometry, slots}
-use Rattle.model.proofs.Lists.{All, and-l, and-r, by, true-is}
+use Rattle.model.proofs.Lists.{and-l, and-r, by, true-is}
+use Rattle.model.specs.Predicates.{All}
 use Rattle.rules.specs.Demand3.{Demand3, Did, Ran, initialises, tableAfter, tableThen}
 use Rattle.rules.specs.Entries.{Lent, initialise}
 use Rattle.rules.specs.Table.{limits}
 use Rattle.rules.proofs.Performed.{initialise-length, perform-length}
 use Rattle.rules.proofs.Theorem.{any-list}
-use Rattle.recorded.specs.Asked.{tableLent}
-use Rattle.replay_step.specs.Play.{called, done, initialised, laterOp, obtained, operated, played}
+use Rattle.replay_record.specs.Asked.{tableLent}
+use Rattle.replay_step.specs.Play.{called, playDone, initialised, laterOp, obtained, operated, played}
 use Rattle.replay_step.specs.Recording.{MakesCall, buffers, callOf, deedOf, eventOf, eventsOf, geometryAsked, made, operation, tableLeft}
 
 -- ---- one record
@@ -41,8 +42,8 @@ module _ (r t : List ℕ) (some : T (leb 1 (operation r) && leb (operation r) 8)
       eq-eqb n 8 (omega arith)
 
   -- what the record does with the table is what its call does with the lent bytes
-  done-table : done r t .after .table ≡ made r t .after .table ++ drop (tableLent r) t
-  unfolding done operated laterOp initialised called obtained
+  done-table : playDone r t .after .table ≡ made r t .after .table ++ drop (tableLent r) t
+  unfolding playDone operated laterOp initialised called obtained
   done-table =
       let n = operation r in
       by (eqb n 1) (λ e. rw (e, not-seven n 1 e (λ z. omega arith)))

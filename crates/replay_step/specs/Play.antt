@@ -1,5 +1,5 @@
--- What is done with a record (docs/REPLAY.md): its result, the buffers after it, and its line. `Lent` holds the three
--- buffers whole here: the table, the answer and the labels. Assumes nothing.
+-- What is playDone with a record (docs/REPLAY.md): its result, the buffers after it, and its line. `Lent` holds the three
+-- buffers wholeTable here: the table, the answer and the labels. Assumes nothing.
 use mathlib.Core.Path.{_≡_}
 use Prim.Native.Nat.{ℕ}
 use mathlib.Core.Bool.{cond}
@@ -9,35 +9,35 @@ use lib.ListN.{getD, take, drop, replicate}
 use Rattle.rules.specs.Calls.{Call, Request, allocate, extend, lspace, obtain, release, rename, request, scratch}
 use Rattle.rules.specs.Contracts.{geometry}
 use Rattle.rules.specs.Entries.{Lent, Result, initialise, lent, perform, result}
-use Rattle.recorded.specs.Asked.{answerLent, bytesOf, get4, labelsLent, nameOf, otherOf, overAt, tableLent}
-use Rattle.recorded.specs.Line.{digest, lineOf}
+use Rattle.replay_record.specs.Asked.{answerLent, bytesOf, get4, labelsLent, nameAsked, otherOf, overAt, tableLent}
+use Rattle.replay_record.specs.Line.{digest, lineOf}
 
 -- what allocate is asked for
 abbrev pub requestOf : List ℕ → Request
-requestOf r = request (nameOf r) (otherOf r) (get4 r 8) (get4 r 12) (get4 r 16) (get4 r 20)
+requestOf r = request (nameAsked r) (otherOf r) (get4 r 8) (get4 r 12) (get4 r 16) (get4 r 20)
 
 -- ---- a call, with the lent first bytes of the buffers; the bytes behind them stay. Only obtain is lent labels
 
 abbrev pub lentOf : List ℕ → Lent → List ℕ → Lent
 lentOf r b l = lent (take (tableLent r) (b .table)) (take (answerLent r) (b .answer)) l
 
--- the buffers whole, from the lent bytes after the call
-abbrev pub whole : List ℕ → Lent → Result → List ℕ → Result
-whole r b p l =
+-- the buffers wholeTable, from the lent bytes after the call
+abbrev pub wholeTable : List ℕ → Lent → Result → List ℕ → Result
+wholeTable r b p l =
     result (p .number) (lent (p .after .table ++ drop (tableLent r) (b .table)) (p .after .answer ++ drop (answerLent r) (b .answer)) l)
 
 unfoldable pub initialised : List ℕ → Lent → Result
 initialised r b =
-    whole r b (initialise (geometry (get4 r 8) (get4 r 12) (get4 r 16) (get4 r 20) (get4 r 24)) (lentOf r b [])) (b .extra)
+    wholeTable r b (initialise (geometry (get4 r 8) (get4 r 12) (get4 r 16) (get4 r 20) (get4 r 24)) (lentOf r b [])) (b .extra)
 
 unfoldable pub called : List ℕ → Lent → Call → Result
-called r b c = whole r b (perform (lentOf r b []) c) (b .extra)
+called r b c = wholeTable r b (perform (lentOf r b []) c) (b .extra)
 
 abbrev pub withLabels : List ℕ → Lent → Result → Result
-withLabels r b p = whole r b p (p .after .extra ++ drop (labelsLent r) (b .extra))
+withLabels r b p = wholeTable r b p (p .after .extra ++ drop (labelsLent r) (b .extra))
 
 unfoldable pub obtained : List ℕ → Lent → Result
-obtained r b = withLabels r b (perform (lentOf r b (take (labelsLent r) (b .extra))) (obtain (nameOf r)))
+obtained r b = withLabels r b (perform (lentOf r b (take (labelsLent r) (b .extra))) (obtain (nameAsked r)))
 
 -- r is the result and t′, a′ are table and answer after it, whatever the labels are; these stay
 abbrev pub Does : (Lent → Result) → (t a : List ℕ) (r : ℕ) (t′ a′ : List ℕ) → Type 0
@@ -55,8 +55,8 @@ Loads asked t r t′ = (a l : List ℕ) → result r (lent t′ a l) ≡ loaded 
 
 unfoldable pub laterOp : ℕ → List ℕ → Lent → Result
 laterOp op r b =
-    cond (eqb op 5) (called r b (scratch (nameOf r)))
-    (cond (eqb op 6) (called r b (rename (nameOf r) (otherOf r)))
+    cond (eqb op 5) (called r b (scratch (nameAsked r)))
+    (cond (eqb op 6) (called r b (rename (nameAsked r) (otherOf r)))
     (cond (eqb op 7) (obtained r b)
     (cond (eqb op 8) (called r b lspace)
     (cond (eqb op 9) (loaded r b) (result 99 b)))))
@@ -65,8 +65,8 @@ unfoldable pub operated : ℕ → List ℕ → Lent → Result
 operated op r b =
     cond (eqb op 1) (initialised r b)
     (cond (eqb op 2) (called r b (allocate (requestOf r)))
-    (cond (eqb op 3) (called r b (extend (nameOf r)))
-    (cond (eqb op 4) (called r b (release (nameOf r) (get4 r 8)))
+    (cond (eqb op 3) (called r b (extend (nameAsked r)))
+    (cond (eqb op 4) (called r b (release (nameAsked r) (get4 r 8)))
     (laterOp op r b))))
 
 -- ---- a record: "before each record the answer buffer is filled with X'A5' and the labels buffer with X'5A'"
@@ -78,8 +78,8 @@ unfoldable pub freshLabels : List ℕ
 freshLabels = replicate 288 0x5A
 
 -- the result and the buffers after it
-unfoldable pub done : List ℕ → List ℕ → Result
-done r t = operated (getD r 0 0) r (lent t freshAnswer freshLabels)
+unfoldable pub playDone : List ℕ → List ℕ → Result
+playDone r t = operated (getD r 0 0) r (lent t freshAnswer freshLabels)
 
 -- its line, of the lent bytes after it
 unfoldable pub lineFor : List ℕ → Result → List ℕ
@@ -92,8 +92,8 @@ pub record Played : Type 0 where
   pub line : List ℕ
   pub table : List ℕ
 
-abbrev pub both : List ℕ → List ℕ → Played
-both l t = record { line = l; table = t }
+abbrev pub bothLent : List ℕ → List ℕ → Played
+bothLent l t = record { line = l; table = t }
 
 unfoldable pub played : List ℕ → List ℕ → Played
-played r t = both (lineFor r (done r t)) (done r t .after .table)
+played r t = bothLent (lineFor r (playDone r t)) (playDone r t .after .table)

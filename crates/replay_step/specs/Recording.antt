@@ -12,7 +12,7 @@ use Rattle.rules.specs.Calls.{Call, allocate, extend, lspace, obtain, release, 
 use Rattle.rules.specs.Contracts.{geometry}
 use Rattle.rules.specs.Demand3.{Deed, Event, initialises, performs}
 use Rattle.rules.specs.Entries.{Lent, Result, initialise, lent, perform}
-use Rattle.recorded.specs.Asked.{answerLent, get4, labelsLent, nameOf, otherOf, tableLent}
+use Rattle.replay_record.specs.Asked.{answerLent, get4, labelsLent, nameAsked, otherOf, tableLent}
 use Rattle.replay_step.specs.Play.{freshAnswer, freshLabels, played, requestOf}
 
 -- ---- one record that makes a call: operations 1 to 8
@@ -27,18 +27,18 @@ geometryAsked r = geometry (get4 r 8) (get4 r 12) (get4 r 16) (get4 r 20) (get4 
 abbrev pub callOf : ℕ → List ℕ → Call
 callOf op r =
     cond (eqb op 2) (allocate (requestOf r))
-    (cond (eqb op 3) (extend (nameOf r))
-    (cond (eqb op 4) (release (nameOf r) (get4 r 8))
-    (cond (eqb op 5) (scratch (nameOf r))
-    (cond (eqb op 6) (rename (nameOf r) (otherOf r)) (cond (eqb op 7) (obtain (nameOf r)) lspace)))))
+    (cond (eqb op 3) (extend (nameAsked r))
+    (cond (eqb op 4) (release (nameAsked r) (get4 r 8))
+    (cond (eqb op 5) (scratch (nameAsked r))
+    (cond (eqb op 6) (rename (nameAsked r) (otherOf r)) (cond (eqb op 7) (obtain (nameAsked r)) lspace)))))
 
 -- only obtain is lent labels
-abbrev pub labelsFor : ℕ → List ℕ → List ℕ
-labelsFor op r = cond (eqb op 7) (take (labelsLent r) freshLabels) []
+abbrev pub labelsPlayed : ℕ → List ℕ → List ℕ
+labelsPlayed op r = cond (eqb op 7) (take (labelsLent r) freshLabels) []
 
 -- the lent buffers, t being replay's table
 abbrev pub buffers : List ℕ → List ℕ → Lent
-buffers r t = lent (take (tableLent r) t) (take (answerLent r) freshAnswer) (labelsFor (operation r) r)
+buffers r t = lent (take (tableLent r) t) (take (answerLent r) freshAnswer) (labelsPlayed (operation r) r)
 
 abbrev pub made : List ℕ → List ℕ → Result
 made r t = cond (eqb (operation r) 1) (initialise (geometryAsked r) (buffers r t)) (perform (buffers r t) (callOf (operation r) r))

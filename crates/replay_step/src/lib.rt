@@ -1,11 +1,10 @@
 // One record played (docs/REPLAY.md).
 ghost use mathlib.Core.Path.{_≡_};
-ghost use Prim.Native.Nat.{_≤_, _<_};
 ghost use lib.ListN.{getD, length};
 ghost use Rattle.rules.specs.Calls.{allocate, extend, lspace, release, rename, scratch};
 ghost use Rattle.rules.specs.Entries.{lent, result};
-ghost use Rattle.recorded.specs.Asked.{get4, nameOf, otherOf};
-ghost use Rattle.replay_step.specs.Play.{Does, Loads, both, called, freshAnswer, freshLabels, initialised, laterOp, lineFor, loaded, obtained, operated, played, requestOf};
+ghost use Rattle.replay_record.specs.Asked.{get4, nameAsked, otherOf};
+ghost use Rattle.replay_step.specs.Play.{Does, Loads, bothLent, called, freshAnswer, freshLabels, initialised, laterOp, lineFor, obtained, operated, played, requestOf};
 
 // ---- the calls, each with the lent first bytes of the buffers
 
@@ -13,13 +12,13 @@ fn do_initialise(asked: &[u8], table: &mut [u8], answer: &mut [u8]) -> u32
     requires { ⌜ (length (now asked) ≡ 128) × (length (now table) ≡ 65536) × (length (now answer) ≡ 32) ⌝ }
     ensures { λ r. ⌜ Does (initialised (now (asked .entry))) (now (table .entry)) (now (answer .entry)) r (now (table .exit)) (now (answer .exit)) ⌝ }
 {
-    let n = recorded::table_lent(asked);
-    let k = recorded::answer_lent(asked);
-    let c = recorded::four(asked, 8);
-    let h = recorded::four(asked, 12);
-    let d = recorded::four(asked, 16);
-    let s = recorded::four(asked, 20);
-    let v = recorded::four(asked, 24);
+    let n = replay_record::table_lent(asked);
+    let k = replay_record::answer_lent(asked);
+    let c = replay_record::four(asked, 8);
+    let h = replay_record::four(asked, 12);
+    let d = replay_record::four(asked, 16);
+    let s = replay_record::four(asked, 20);
+    let v = replay_record::four(asked, 24);
     vtoc::vtoc_initialise(&mut table[..n], c, h, d, s, v, &mut answer[..k])
 }
 
@@ -27,14 +26,14 @@ fn do_allocate(asked: &[u8], table: &mut [u8], answer: &mut [u8]) -> u32
     requires { ⌜ (length (now asked) ≡ 128) × (length (now table) ≡ 65536) × (length (now answer) ≡ 32) ⌝ }
     ensures { λ r. ⌜ Does (λ b. called (now (asked .entry)) b (allocate (requestOf (now (asked .entry))))) (now (table .entry)) (now (answer .entry)) r (now (table .exit)) (now (answer .exit)) ⌝ }
 {
-    let n = recorded::table_lent(asked);
-    let k = recorded::answer_lent(asked);
-    let kind = recorded::four(asked, 8);
-    let start = recorded::four(asked, 12);
-    let amount = recorded::four(asked, 16);
-    let secondary = recorded::four(asked, 20);
-    let name = recorded::name_of(asked);
-    let attributes = recorded::other_of(asked);
+    let n = replay_record::table_lent(asked);
+    let k = replay_record::answer_lent(asked);
+    let kind = replay_record::four(asked, 8);
+    let start = replay_record::four(asked, 12);
+    let amount = replay_record::four(asked, 16);
+    let secondary = replay_record::four(asked, 20);
+    let name = replay_record::name_of(asked);
+    let attributes = replay_record::other_of(asked);
     vtoc::vtoc_allocate(
         &mut table[..n],
         name,
@@ -49,23 +48,27 @@ fn do_allocate(asked: &[u8], table: &mut [u8], answer: &mut [u8]) -> u32
 
 fn do_extend(asked: &[u8], table: &mut [u8], answer: &mut [u8]) -> u32
     requires { ⌜ (length (now asked) ≡ 128) × (length (now table) ≡ 65536) × (length (now answer) ≡ 32) ⌝ }
-    ensures { λ r. ⌜ Does (λ b. called (now (asked .entry)) b (extend (nameOf (now (asked .entry))))) (now (table .entry)) (now (answer .entry)) r (now (table .exit)) (now (answer .exit)) ⌝ }
+    ensures { λ r. ⌜ Does (λ b. called (now (asked .entry)) b (extend (nameAsked (now (asked .entry))))) (now (table .entry)) (now (answer .entry)) r (now (table .exit)) (now (answer .exit)) ⌝ }
 {
-    let n = recorded::table_lent(asked);
-    let k = recorded::answer_lent(asked);
-    vtoc::vtoc_extend(&mut table[..n], recorded::name_of(asked), &mut answer[..k])
+    let n = replay_record::table_lent(asked);
+    let k = replay_record::answer_lent(asked);
+    vtoc::vtoc_extend(
+        &mut table[..n],
+        replay_record::name_of(asked),
+        &mut answer[..k],
+    )
 }
 
 fn do_release(asked: &[u8], table: &mut [u8], answer: &mut [u8]) -> u32
     requires { ⌜ (length (now asked) ≡ 128) × (length (now table) ≡ 65536) × (length (now answer) ≡ 32) ⌝ }
-    ensures { λ r. ⌜ Does (λ b. called (now (asked .entry)) b (release (nameOf (now (asked .entry))) (get4 (now (asked .entry)) 8))) (now (table .entry)) (now (answer .entry)) r (now (table .exit)) (now (answer .exit)) ⌝ }
+    ensures { λ r. ⌜ Does (λ b. called (now (asked .entry)) b (release (nameAsked (now (asked .entry))) (get4 (now (asked .entry)) 8))) (now (table .entry)) (now (answer .entry)) r (now (table .exit)) (now (answer .exit)) ⌝ }
 {
-    let n = recorded::table_lent(asked);
-    let k = recorded::answer_lent(asked);
-    let ttr = recorded::four(asked, 8);
+    let n = replay_record::table_lent(asked);
+    let k = replay_record::answer_lent(asked);
+    let ttr = replay_record::four(asked, 8);
     vtoc::vtoc_release(
         &mut table[..n],
-        recorded::name_of(asked),
+        replay_record::name_of(asked),
         ttr,
         &mut answer[..k],
     )
@@ -73,23 +76,27 @@ fn do_release(asked: &[u8], table: &mut [u8], answer: &mut [u8]) -> u32
 
 fn do_scratch(asked: &[u8], table: &mut [u8], answer: &mut [u8]) -> u32
     requires { ⌜ (length (now asked) ≡ 128) × (length (now table) ≡ 65536) × (length (now answer) ≡ 32) ⌝ }
-    ensures { λ r. ⌜ Does (λ b. called (now (asked .entry)) b (scratch (nameOf (now (asked .entry))))) (now (table .entry)) (now (answer .entry)) r (now (table .exit)) (now (answer .exit)) ⌝ }
+    ensures { λ r. ⌜ Does (λ b. called (now (asked .entry)) b (scratch (nameAsked (now (asked .entry))))) (now (table .entry)) (now (answer .entry)) r (now (table .exit)) (now (answer .exit)) ⌝ }
 {
-    let n = recorded::table_lent(asked);
-    let k = recorded::answer_lent(asked);
-    vtoc::vtoc_scratch(&mut table[..n], recorded::name_of(asked), &mut answer[..k])
+    let n = replay_record::table_lent(asked);
+    let k = replay_record::answer_lent(asked);
+    vtoc::vtoc_scratch(
+        &mut table[..n],
+        replay_record::name_of(asked),
+        &mut answer[..k],
+    )
 }
 
 fn do_rename(asked: &[u8], table: &mut [u8], answer: &mut [u8]) -> u32
     requires { ⌜ (length (now asked) ≡ 128) × (length (now table) ≡ 65536) × (length (now answer) ≡ 32) ⌝ }
-    ensures { λ r. ⌜ Does (λ b. called (now (asked .entry)) b (rename (nameOf (now (asked .entry))) (otherOf (now (asked .entry))))) (now (table .entry)) (now (answer .entry)) r (now (table .exit)) (now (answer .exit)) ⌝ }
+    ensures { λ r. ⌜ Does (λ b. called (now (asked .entry)) b (rename (nameAsked (now (asked .entry))) (otherOf (now (asked .entry))))) (now (table .entry)) (now (answer .entry)) r (now (table .exit)) (now (answer .exit)) ⌝ }
 {
-    let n = recorded::table_lent(asked);
-    let k = recorded::answer_lent(asked);
+    let n = replay_record::table_lent(asked);
+    let k = replay_record::answer_lent(asked);
     vtoc::vtoc_rename(
         &mut table[..n],
-        recorded::name_of(asked),
-        recorded::other_of(asked),
+        replay_record::name_of(asked),
+        replay_record::other_of(asked),
         &mut answer[..k],
     )
 }
@@ -98,12 +105,12 @@ fn do_obtain(asked: &[u8], table: &[u8], answer: &mut [u8], labels: &mut [u8]) -
     requires { ⌜ (length (now asked) ≡ 128) × (length (now table) ≡ 65536) × (length (now answer) ≡ 32) × (length (now labels) ≡ 288) ⌝ }
     ensures { λ r. ⌜ result r (lent (now (table .entry)) (now (answer .exit)) (now (labels .exit))) ≡ obtained (now (asked .entry)) (lent (now (table .entry)) (now (answer .entry)) (now (labels .entry))) ⌝ }
 {
-    let n = recorded::table_lent(asked);
-    let k = recorded::answer_lent(asked);
-    let m = recorded::labels_lent(asked);
+    let n = replay_record::table_lent(asked);
+    let k = replay_record::answer_lent(asked);
+    let m = replay_record::labels_lent(asked);
     vtoc::vtoc_obtain(
         &table[..n],
-        recorded::name_of(asked),
+        replay_record::name_of(asked),
         &mut labels[..m],
         &mut answer[..k],
     )
@@ -113,8 +120,8 @@ fn do_lspace(asked: &[u8], table: &[u8], answer: &mut [u8]) -> u32
     requires { ⌜ (length (now asked) ≡ 128) × (length (now table) ≡ 65536) × (length (now answer) ≡ 32) ⌝ }
     ensures { λ r. ⌜ Does (λ b. called (now (asked .entry)) b lspace) (now (table .entry)) (now (answer .entry)) r (now (table .entry)) (now (answer .exit)) ⌝ }
 {
-    let n = recorded::table_lent(asked);
-    let k = recorded::answer_lent(asked);
+    let n = replay_record::table_lent(asked);
+    let k = replay_record::answer_lent(asked);
     vtoc::vtoc_lspace(&table[..n], &mut answer[..k])
 }
 
@@ -122,8 +129,8 @@ fn do_put(asked: &[u8], table: &mut [u8]) -> u32
     requires { ⌜ length (now asked) ≡ 128 ⌝ }
     ensures { λ r. ⌜ Loads (now (asked .entry)) (now (table .entry)) r (now (table .exit)) ⌝ }
 {
-    let place = recorded::four(asked, 8);
-    recorded::put_over(table, place as usize, recorded::bytes_of(asked));
+    let place = replay_record::four(asked, 8);
+    replay_record::put_over(table, place as usize, replay_record::bytes_of(asked));
     0
 }
 
@@ -180,11 +187,11 @@ fn report(asked: &[u8], r: u32, table: &[u8], answer: &[u8], labels: &[u8], line
     requires { ⌜ (length (now asked) ≡ 128) × (length (now table) ≡ 65536) × (length (now answer) ≡ 32) × (length (now labels) ≡ 288) × (length (now line) ≡ 73) ⌝ }
     ensures { λ _. ⌜ now (line .exit) ≡ lineFor (now (asked .entry)) (result r (lent (now (table .entry)) (now (answer .entry)) (now (labels .entry)))) ⌝ }
 {
-    let n = recorded::table_lent(asked);
-    let m = recorded::labels_lent(asked);
-    let t = recorded::digest(&table[..n]);
-    let l = recorded::digest(&labels[..m]);
-    recorded::put_line(line, asked[0], r, &answer[..24], t, l);
+    let n = replay_record::table_lent(asked);
+    let m = replay_record::labels_lent(asked);
+    let t = replay_record::digest(&table[..n]);
+    let l = replay_record::digest(&labels[..m]);
+    replay_record::put_line(line, asked[0], r, &answer[..24], t, l);
 }
 
 // The answer buffer before a record.
@@ -204,7 +211,7 @@ fn fresh_labels() -> [u8; 288]
 // Plays one record: does what it asks for with the table, and writes its line.
 pub fn step(asked: &[u8], table: &mut [u8], line: &mut [u8])
     requires { ⌜ (length (now asked) ≡ 128) × (length (now table) ≡ 65536) × (length (now line) ≡ 73) ⌝ }
-    ensures { λ _. ⌜ both (now (line .exit)) (now (table .exit)) ≡ played (now (asked .entry)) (now (table .entry)) ⌝ }
+    ensures { λ _. ⌜ bothLent (now (line .exit)) (now (table .exit)) ≡ played (now (asked .entry)) (now (table .entry)) ⌝ }
 {
     let mut answer = fresh_answer();
     let mut labels = fresh_labels();

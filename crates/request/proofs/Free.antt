@@ -12,9 +12,9 @@ use Rattle.model.specs.Basics.{all, upFrom}
 use Rattle.model.specs.Model.{Run, Separate, run, times}
 use Rattle.model.proofs.Lists.{All-range, all→, by, is-true, range-All, true-is, →all}
 use Rattle.model.proofs.Runs.{below, hit-above, hit-below, hit-in, runs-separate, runs-times}
-use Rattle.tracks.specs.Map.{AllFree, Hit, NextRun, Shows, freeBit, freeFrom, isFree}
-use Rattle.tracks.proofs.Bits.{le-or-lt}
-use Rattle.tracks.proofs.Counting.{bit-of, free-le}
+use Rattle.bitmap.specs.Map.{AllFree, Hit, NextRun, Shows, freeBit, freeFrom, isFree}
+use Rattle.bitmap.proofs.Bits.{le-or-lt}
+use Rattle.bitmap.proofs.Counting.{bit-of, free-le}
 
 -- ---- off the map
 

@@ -10,12 +10,11 @@ use lib.ListN.{set}
 use Rattle.model.specs.Basics.{all, mapOption, upFrom}
 use Rattle.model.specs.Model.{Geometry, Label, Run, extent, free, held, overs, run, times, tracks}
 use Rattle.model.specs.Choice.{pieces}
-use Rattle.rules.specs.Calls.{exactly}
-use Rattle.rules.specs.Calls.{grant as granting}
-use Rattle.rules.proofs.Grant.{Asks}
-use Rattle.tracks.specs.Map.{Shows, isFree}
-use Rattle.grant.specs.Grant.{grantedRuns, grantOf, noPieces}
-use Rattle.grant.proofs.Reply.{granted-pieces, overs-extents}
+use Rattle.rules.specs.Calls.{exactly, grant as granting}
+use Rattle.rules.specs.Predicates.{Asks}
+use Rattle.bitmap.specs.Map.{Shows, isFree}
+use Rattle.choose_pieces.specs.Grant.{grantedRuns, grantOf, noPieces}
+use Rattle.choose_pieces.proofs.Reply.{granted-pieces, overs-extents}
 use Rattle.request.specs.declared.Amount.{Amount as Asked}
 use Rattle.request.specs.declared.Amount.the-variants.{Tracks, Cylinders, Absolute}
 use Rattle.request.specs.Request.{exactRuns, piecesOf, toAmount}

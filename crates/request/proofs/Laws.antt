@@ -10,17 +10,17 @@ use lib.ListN.{length, drop, take, length-map}
 use lib.Seq.{take-all, take-append-le}
 use Rattle.model.specs.Basics.{all, bit, mapOption, upFrom}
 use Rattle.model.specs.Model.{Extent, Geometry, Label, Run, Volume, covers, extent, free, held, overs, run, times, total, tracks}
-use Rattle.model.proofs.Lists.{All, by, sum-append}
-use Rattle.model.proofs.Runs.{Inside, Once, balance}
-use Rattle.rules.specs.Calls.{Amount, absolute, amountOf, inCylinders, inTracks}
-use Rattle.rules.specs.Calls.{grant as granting}
-use Rattle.rules.proofs.Grant.{Asks, grant-law}
-use Rattle.rules.proofs.Valid.{GoodExtent, Valid, free-once}
-use Rattle.tracks.specs.Map.{Shows}
-use Rattle.tracks.proofs.Held.{Room}
-use Rattle.grant.specs.Grant.{grantedRuns, grantOf, noPieces, piecesIn, row}
-use Rattle.grant.proofs.Reply.{granted-pieces, none-back, overs-extents, pieces-back}
-use Rattle.request.specs.Request.{piecesOf, typeOf}
+use Rattle.model.proofs.Lists.{by, sum-append}
+use Rattle.model.specs.Predicates.{All, Once}
+use Rattle.model.proofs.Runs.{Inside, balance}
+use Rattle.rules.specs.Calls.{Amount, absolute, amountOf, inCylinders, inTracks, grant as granting}
+use Rattle.rules.proofs.Grant.{grant-law}
+use Rattle.rules.specs.Predicates.{Asks, GoodExtent, Valid}
+use Rattle.rules.proofs.Valid.{free-once}
+use Rattle.bitmap.specs.Map.{Shows, Room}
+use Rattle.choose_pieces.specs.Grant.{grantedRuns, grantOf, noPieces, rowsIn, row}
+use Rattle.choose_pieces.proofs.Reply.{granted-pieces, none-back, overs-extents, array-back}
+use Rattle.request.specs.Request.{piecesOf, typeOf, Good}
 use Rattle.request.proofs.Granting.{runs-back}
 
 -- ---- what may be asked for
@@ -64,15 +64,6 @@ module _ (g : Geometry) (ls : List Label) where
 
 -- ---- where the pieces lie
 
--- pieces that the volume has room for: what is needed to take them out of the map, and to give them to a data set
-pub record Good (v : Volume) (ps : List Run) : Type 0 where
-  pub full : All (λ p. 1 ≤ p .count) ps
-  pub below : All (λ p. p .start + p .count ≤ tracks (v .geometry)) ps
-  pub least : 1 ≤ length ps
-  pub most : length ps ≤ 5
-  pub sum : total ps ≤ tracks (v .geometry)
-  pub once : Once (tracks (v .geometry)) (ps ++ held (v .geometry) (v .labels))
-
 all-full : (g : Geometry) (es : List Extent) → All (GoodExtent g) es → All (λ p. 1 ≤ p .count) (overs es)
 all-full g [] a = tt
 all-full g (e ∷ es) a = (a .0 .full, all-full g es (a .1))
@@ -85,8 +76,8 @@ all-inside : (n : ℕ) (ps : List Run) → All (λ p. p .start + p .count ≤ n)
 all-inside n [] a = tt
 all-inside n (p ∷ ps) a = (a .0, all-inside n ps (a .1))
 
-pub pieces-good : (v : Volume) → Valid v → (a : Amount) (es : List Extent) → Asks (v .geometry) a → granting (v .geometry) (v .labels) a ≡ some es → Good v (overs es)
-pieces-good v h a es k e =
+pub fulfilled-good : (v : Volume) → Valid v → (a : Amount) (es : List Extent) → Asks (v .geometry) a → granting (v .geometry) (v .labels) a ≡ some es → Good v (overs es)
+fulfilled-good v h a es k e =
     let g = v .geometry in
     let hs = held g (v .labels) in
     let n = tracks g in
@@ -117,7 +108,7 @@ pieces-room m v ps h x t u =
 -- ---- refused or not, by the count
 
 -- a grant of the pieces ps
-pub record Accepted (v : Volume) (a : Amount) (count sum : ℕ) (p : List (List ℕ)) : Type 0 where
+pub record Fulfilled (v : Volume) (a : Amount) (count sum : ℕ) (p : List (List ℕ)) : Type 0 where
   pub ps : List Run
   pub granted : granting (v .geometry) (v .labels) a ≡ some (map (extent (typeOf a)) ps)
   pub runs : overs (map (extent (typeOf a)) ps) ≡ ps
@@ -127,17 +118,17 @@ pub record Accepted (v : Volume) (a : Amount) (count sum : ℕ) (p : List (List 
   pub first : take count p ≡ map row ps
 
 module _ (v : Volume) (h : Valid v) (a : Amount) (k : Asks (v .geometry) a) (p : List (List ℕ)) (e : p ≡ grantOf (piecesOf (v .geometry) (v .labels) a))
-    (count sum : ℕ) (c : (count ≡ length (piecesIn p)) × (sum ≡ total (piecesIn p))) where
+    (count sum : ℕ) (c : (count ≡ length (rowsIn p)) × (sum ≡ total (rowsIn p))) where
   given : (ps : List Run) → piecesOf (v .geometry) (v .labels) a ≡ some ps → Good v ps
   given ps q =
       subst (Good v) (overs-extents (typeOf a) ps)
-      (pieces-good v h a (map (extent (typeOf a)) ps) k (granted-some (v .geometry) (v .labels) a ps q))
+      (fulfilled-good v h a (map (extent (typeOf a)) ps) k (granted-some (v .geometry) (v .labels) a ps q))
 
-  none-there : piecesOf (v .geometry) (v .labels) a ≡ none → piecesIn p ≡ []
-  none-there q = ap piecesIn (e ∙ ap grantOf q) ∙ none-back
+  none-there : piecesOf (v .geometry) (v .labels) a ≡ none → rowsIn p ≡ []
+  none-there q = ap rowsIn (e ∙ ap grantOf q) ∙ none-back
 
-  those-there : (ps : List Run) → piecesOf (v .geometry) (v .labels) a ≡ some ps → piecesIn p ≡ ps
-  those-there ps q = ap piecesIn (e ∙ ap grantOf q) ∙ pieces-back ps (given ps q .full)
+  those-there : (ps : List Run) → piecesOf (v .geometry) (v .labels) a ≡ some ps → rowsIn p ≡ ps
+  those-there ps q = ap rowsIn (e ∙ ap grantOf q) ∙ array-back ps (given ps q .full)
 
   -- 9 no space
   pub refused : count ≡ 0 → granting (v .geometry) (v .labels) a ≡ none
@@ -147,11 +138,11 @@ module _ (v : Volume) (h : Valid v) (a : Amount) (k : Asks (v .geometry) a) (p :
       go none q = granted-none (v .geometry) (v .labels) a q
       go (some ps) q = absurd (let l = given ps q .least in let n = c .0 in let t = ap (λ (x : List Run). length x) (those-there ps q) in omega arith)
 
-  pub accepted : (count ≡ 0 → ⊥) → Accepted v a count sum p
+  pub accepted : (count ≡ 0 → ⊥) → Fulfilled v a count sum p
   unfolding grantOf
   accepted z = go (piecesOf (v .geometry) (v .labels) a) refl
     where
-      go : (o : Option (List Run)) → piecesOf (v .geometry) (v .labels) a ≡ o → Accepted v a count sum p
+      go : (o : Option (List Run)) → piecesOf (v .geometry) (v .labels) a ≡ o → Fulfilled v a count sum p
       go none q = absurd (z (c .0 ∙ ap (λ (x : List Run). length x) (none-there q)))
       go (some ps) q =
           let t = those-there ps q in

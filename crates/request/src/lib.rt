@@ -1,5 +1,5 @@
 // A request for space: its amount in one of three kinds, the range of its numbers, and what it is granted.
-use forms::Geometry;
+use dscb::Geometry;
 ghost use mathlib.Core.Path.{_≡_};
 ghost use mathlib.Core.Bool.{cond, _&&_};
 ghost use mathlib.Core.Option.{some};
@@ -10,12 +10,11 @@ ghost use lib.ListN.{length};
 ghost use Rattle.model.specs.Basics.{all, upFrom, within};
 ghost use Rattle.model.specs.Model.{Label, Run, free, held, slots, tracks};
 ghost use Rattle.rules.specs.Calls.{amountOf, inCylinders, inRange, inTracks, unitOf};
-ghost use Rattle.rules.proofs.Grant.{Asks};
-ghost use Rattle.rules.proofs.Valid.{Limits};
-ghost use Rattle.tracks.specs.Map.{Shows, isFree};
-ghost use Rattle.free_list.specs.FreeList.{Listed};
-ghost use Rattle.grant.specs.Grant.{grantOf};
-ghost use Rattle.forms.specs.Forms.{geometryOf};
+ghost use Rattle.rules.specs.Predicates.{Asks, Limits};
+ghost use Rattle.bitmap.specs.Map.{Shows, isFree};
+ghost use Rattle.free_extents.specs.FreeList.{Listed};
+ghost use Rattle.choose_pieces.specs.Grant.{grantOf};
+ghost use Rattle.dscb.specs.Forms.{geometryOf};
 ghost use Rattle.request.specs.Request.{exactRuns, piecesOf, toAmount, typeOf};
 
 // An amount: how many tracks, how many cylinders, or from which track on how many.
@@ -95,7 +94,7 @@ pub fn in_range(request: Request, g: Geometry) -> bool
     match amount {
         Amount::Tracks(n) => counts_ok(n, request.secondary),
         Amount::Cylinders(n) => counts_ok(n, request.secondary),
-        Amount::Absolute(start, n) => { place_ok(start, n, request.secondary, forms::tracks(g)) }
+        Amount::Absolute(start, n) => { place_ok(start, n, request.secondary, dscb::tracks(g)) }
     }
 }
 
@@ -136,11 +135,11 @@ pub fn secondary_of(unit: u8, secondary: u32) -> Amount
 // ---- granting
 
 // Whether all tracks from s up to e are free: the first free run there is all of them.
-fn all_free(map: &[u64], s: usize, e: usize) -> bool
-    requires { ⌜ (s < e) × (e ≤ 64 * length (now map)) ⌝ }
-    ensures { λ r. ⌜ r ≡ all (isFree (now (map .entry))) (upFrom s (e - s)) ⌝ }
+fn all_free(free_tracks: &[u64], s: usize, e: usize) -> bool
+    requires { ⌜ (s < e) × (e ≤ 64 * length (now «free_tracks»)) ⌝ }
+    ensures { λ r. ⌜ r ≡ all (isFree (now («free_tracks» .entry))) (upFrom s (e - s)) ⌝ }
 {
-    let free = tracks::next_run(map, s, e);
+    let free = bitmap::next_run(free_tracks, s, e);
     if free.from != s {
         return false;
     }
@@ -148,12 +147,12 @@ fn all_free(map: &[u64], s: usize, e: usize) -> bool
 }
 
 // Exactly these tracks, as one piece; none where one of them is not free.
-fn exact(map: &[u64], start: u32, n: u32) -> [[u16; 2]; 5]
-    requires { ⌜ (1 ≤ n) × (start + n ≤ 65535) × (start + n ≤ 64 * length (now map)) ⌝ }
-    ensures { λ r. ⌜ r ≡ grantOf (exactRuns (now (map .entry)) start n) ⌝ }
+fn exact(free_tracks: &[u64], start: u32, n: u32) -> [[u16; 2]; 5]
+    requires { ⌜ (1 ≤ n) × (start + n ≤ 65535) × (start + n ≤ 64 * length (now «free_tracks»)) ⌝ }
+    ensures { λ r. ⌜ r ≡ grantOf (exactRuns (now («free_tracks» .entry)) start n) ⌝ }
 {
     let mut pieces = [[0u16; 2]; 5];
-    if all_free(map, start as usize, (start + n) as usize) {
+    if all_free(free_tracks, start as usize, (start + n) as usize) {
         pieces[0] = [start as u16, n as u16];
         return pieces;
     }
@@ -162,13 +161,18 @@ fn exact(map: &[u64], start: u32, n: u32) -> [[u16; 2]; 5]
 
 // The pieces that an amount is granted out of the free tracks, which the table lists and the map shows, whatever labels hold
 // the others; none where there is no space.
-pub fn fulfil<'a>(table: &'a [u8], map: &'a [u64], g: Geometry, amount: Amount) -> [[u16; 2]; 5]
-    requires { ⌜ Limits (geometryOf g) × (tracks (geometryOf g) ≤ 64 * length (now map)) × Asks (geometryOf g) (toAmount amount) × (length (now table) ≡ 140 * slots (geometryOf g)) × ((f : List Run) × Listed (geometryOf g) (now table) f) ⌝ }
-    ensures { λ r. ⌜ ((ls : List Label) → Shows (now (map .entry)) (tracks (geometryOf g)) (held (geometryOf g) ls) → Listed (geometryOf g) (now (table .entry)) (free (geometryOf g) ls) → r ≡ grantOf (piecesOf (geometryOf g) ls (toAmount amount))) ⌝ }
+pub fn fulfil<'a>(
+    table: &'a [u8],
+    free_tracks: &'a [u64],
+    g: Geometry,
+    amount: Amount,
+) -> [[u16; 2]; 5]
+    requires { ⌜ Limits (geometryOf g) × (tracks (geometryOf g) ≤ 64 * length (now «free_tracks»)) × Asks (geometryOf g) (toAmount amount) × (length (now table) ≡ 140 * slots (geometryOf g)) × ((f : List Run) × Listed (geometryOf g) (now table) f) ⌝ }
+    ensures { λ r. ⌜ ((ls : List Label) → Shows (now («free_tracks» .entry)) (tracks (geometryOf g)) (held (geometryOf g) ls) → Listed (geometryOf g) (now (table .entry)) (free (geometryOf g) ls) → r ≡ grantOf (piecesOf (geometryOf g) ls (toAmount amount))) ⌝ }
 {
     match amount {
-        Amount::Tracks(k) => grant::choose(table, g, 1, k),
-        Amount::Cylinders(k) => grant::choose(table, g, g.heads, k),
-        Amount::Absolute(start, k) => exact(map, start, k),
+        Amount::Tracks(k) => choose_pieces::choose(table, g, 1, k),
+        Amount::Cylinders(k) => choose_pieces::choose(table, g, g.heads, k),
+        Amount::Absolute(start, k) => exact(free_tracks, start, k),
     }
 }

@@ -11,7 +11,8 @@ use lib.Dec.{eqb}
 use borrow.Author.Tests.{eq-eqb, ne-eqb}
 use Rattle.model.specs.Basics.{bit, filter, flat, sumOf, upFrom}
 use Rattle.model.specs.Model.{Label, slotsOf, tally, unused, used}
-use Rattle.model.proofs.Lists.{All, by, length-upFrom}
+use Rattle.model.proofs.Lists.{by, length-upFrom}
+use Rattle.model.specs.Predicates.{All}
 use Rattle.rules.proofs.Keyed.{sum-both}
 
 filter-length : {A : Type 0} (p : A → Bool) (xs : List A) → length (filter p xs) ≡ sumOf (λ x. bit (p x)) xs

@@ -11,7 +11,8 @@ use lib.Dec.{leb, ltb, eqb}
 use borrow.Author.Tests.{leb-true, leb-false, le-leb, lt-leb, ltb-true}
 use Rattle.model.specs.Basics.{bit, flat, sumOf}
 use Rattle.model.specs.Model.{Extent, Geometry, Label, Run, Volume, fivesFor, format0s, free, held, oneSlot, overs, runsOf, slots, slotsOf, tally, times, total, unused, used}
-use Rattle.model.proofs.Lists.{All, by, find-All, sum-take}
+use Rattle.model.proofs.Lists.{by, find-All, sum-take}
+use Rattle.model.specs.Predicates.{All}
 use Rattle.rules.specs.Calls.{Amount, Reply, Request, allocatePieces, extendPieces, givenBack, goodTtr, granted, keep, newSet, releaseSet, settled}
 use Rattle.rules.specs.Full.{NoneExactly, RefusedExactly, fivesNeeded, format1s, format3s, freed, full, members, needed}
 use Rattle.rules.specs.Slots.{added, askedBy, asks, changed, found, insertLabel, kept3, keptFives, placed, removed, settle, settleWith, stillUsed, withExtents, without}
@@ -20,7 +21,8 @@ use Rattle.rules.proofs.Counted.{slotsIn, unused-length, used-length}
 use Rattle.rules.proofs.Labels.{without-sum}
 use Rattle.rules.proofs.Placed.{kept-le}
 use Rattle.rules.proofs.Settle.{free-same, used-tally}
-use Rattle.rules.proofs.Valid.{GoodLabel, Valid, held-times, slots-tally}
+use Rattle.rules.proofs.Valid.{held-times, slots-tally}
+use Rattle.rules.specs.Predicates.{GoodLabel, Valid}
 
 -- ---- none is settled exactly when the table has too few slots for all records
 

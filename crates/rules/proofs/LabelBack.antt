@@ -16,7 +16,7 @@ use Rattle.rules.specs.Layout.{extentBytes, extentPart, extentsBytes, fi
 use Rattle.rules.specs.Reading.{readExtent, readExtents, readLabel, recordAt, slotAt, trackAt}
 use Rattle.rules.proofs.Bytes.{be2-back, be3-back, fill-split, length-fill}
 use Rattle.rules.proofs.Fields.{Lengths, byte-at, field-at, length-whole, rest-at}
-use Rattle.rules.proofs.Valid.{GoodExtent, GoodLabel}
+use Rattle.rules.specs.Predicates.{GoodExtent, GoodLabel}
 
 -- ---- addresses
 

@@ -16,7 +16,7 @@ use Rattle.rules.specs.Slots.{added, changed, found, isNew, removed, wit
 use Rattle.rules.specs.Table.{goodName, limits, taken}
 use Rattle.rules.proofs.ScratchFits.{scratch-fits}
 use Rattle.rules.proofs.Taken.{taken-is}
-use Rattle.rules.proofs.Valid.{Valid}
+use Rattle.rules.specs.Predicates.{Valid}
 
 -- ---- step by step: an outcome is accepted, or refused with a number of the list
 

@@ -11,13 +11,14 @@ use lib.Dec.{T, leb, ltb, eqb, leb→le, le→leb, ltb→lt, lt→ltb, eqb→eq}
 use borrow.Author.Tests.{eq-eqb, ne-eqb, le-leb, lt-leb, leb-false, leb-true}
 use Rattle.model.specs.Basics.{all, any, bit, upFrom}
 use Rattle.model.specs.Model.{Extent, Geometry, Label, Volume, fivesFor, free, held, slots, tally, times, tracks, used}
-use Rattle.model.proofs.Lists.{All, All-map, All-range, all→, and-l, and-r, both, by, false-is, is-false, is-true, range-All, true-is, →all}
+use Rattle.model.proofs.Lists.{All-map, All-range, all→, and-l, and-r, both, by, false-is, is-false, is-true, range-All, true-is, →all}
+use Rattle.model.specs.Predicates.{All}
 use Rattle.rules.specs.Layout.{headOr0}
 use Rattle.rules.specs.Table.{apart, ascending, chained, differ, formed, goodExtent, goodLabel, goodName, goodType, goodUnit, limits, named, valid}
 use Rattle.rules.proofs.Keyed.{self-count}
-use Rattle.rules.proofs.Labels.{Ascending, Differ, any-unlike, unlike-any}
+use Rattle.rules.proofs.Labels.{any-unlike, unlike-any}
+use Rattle.rules.specs.Predicates.{Ascending, Differ, GoodExtent, GoodLabel, Valid}
 use Rattle.rules.proofs.Settle.{used-tally}
-use Rattle.rules.proofs.Valid.{GoodExtent, GoodLabel, Valid}
 
 -- ---- a label
 

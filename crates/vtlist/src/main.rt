@@ -31,6 +31,6 @@ fn main() {
     let mut map = [u64::MAX; 1024];
     let mut empty = [0u64; 8];
     let mut out = room();
-    let r = table_list::list(&table[..n], &mut map, &mut empty, &mut out);
+    let r = listing::list(&table[..n], &mut map, &mut empty, &mut out);
     io::write_all(STDOUT_FILENO, &out[..r]);
 }

@@ -1,9 +1,9 @@
-use Rattle.records.proofs.Putting.{copied}
+use Rattle.dscb_write.proofs.Putting.{copied}
 use Rattle.answers.proofs.Laws.{pieces-all, pieces-next, pieces-none, piecesTo}
-use lib.ListN.{length, set}
+use lib.ListN.{length}
 use native.Mathlib.Omega.{arith}
-use mathlib.Core.Path.{_≡_, sym, ap, _∙_}
-use Prim.Native.Nat.{_-_, _≤_, _<_}
+use mathlib.Core.Path.{_≡_, sym, _∙_}
+use Prim.Native.Nat.{_-_, _≤_}
 use borrow.Author.Needs.{needs}
 use Rattle.answers.proofs.put_granted.Statement.{statement}
 use Rattle.answers.proofs.put_granted.Tie as tie

@@ -1,6 +1,6 @@
-use Rattle.records.proofs.Putting.{copied}
+use Rattle.dscb_write.proofs.Putting.{copied}
 use Rattle.model.specs.Basics.{zeros}
-use mathlib.Core.Path.{refl, _∙_}
+use mathlib.Core.Path.{_∙_}
 use borrow.Author.Needs.{needs}
 use Rattle.answers.proofs.put_nothing.Statement.{statement}
 use Rattle.answers.proofs.put_nothing.Tie as tie

@@ -1,8 +1,7 @@
-use Rattle.records.proofs.Putting.{put-then}
+use Rattle.dscb_write.proofs.Putting.{put-then}
 use Rattle.model.specs.Basics.{be2}
 use native.Mathlib.Omega.{arith}
 use Prim.Native.Nat.{_+_}
-use mathlib.Core.Path.{refl, _∙_}
 use borrow.Author.Needs.{needs}
 use Rattle.answers.proofs.put_piece.Statement.{statement}
 use Rattle.answers.proofs.put_piece.Tie as tie

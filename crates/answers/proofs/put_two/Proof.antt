@@ -1,4 +1,4 @@
-use Rattle.records.specs.Put.{putAt}
+use Rattle.dscb_write.specs.Put.{putAt}
 use borrow.Author.Needs.{needs}
 use Rattle.answers.proofs.put_two.Statement.{statement}
 use Rattle.answers.proofs.put_two.Tie as tie

@@ -1,19 +1,11 @@
 use mathlib.Core.Path.{refl, sym, _∙_}
 use Rattle.request.specs.Request.{toAmount}
-use Rattle.opening.proofs.Calls.{refused}
-use Rattle.opening.proofs.Numbers.{known, known-maps}
+use Rattle.open_table.proofs.Calls.{refused}
+use Rattle.open_table.proofs.Numbers.{known, known-maps}
 use Rattle.call_allocate.proofs.Laws.{allocates, asking, duplicate, out-of-range, placed, unknown}
 use borrow.Author.Needs.{needs}
 use Rattle.call_allocate.proofs.allocate_in.Statement.{statement}
 use Rattle.call_allocate.proofs.allocate_in.Tie as tie
-use Rattle.call_allocate.proofs.allocate_in.Reads as reads
-use Rattle.call_allocate.proofs.allocate_in.Lts as lts
-use Rattle.call_allocate.proofs.place.Reads as place-reads
-use Rattle.opening.proofs.and_another.Reads as and-another-reads
-use Rattle.opening.proofs.on_volume.Reads as on-volume-reads
-use Rattle.opening.proofs.open_named.Reads as open-named-reads
-use Rattle.request.proofs.in_range.Reads as in-range-reads
-use Rattle.request.proofs.read_request.Reads as read-request-reads
 
 and-another-requires : tie.Need-and-another-requires
 and-another-requires c κs = search needs

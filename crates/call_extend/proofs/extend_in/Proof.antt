@@ -1,17 +1,11 @@
 use mathlib.Core.Path.{refl, sym, _∙_, ap}
-use Rattle.opening.proofs.Calls.{asks, not-found, refused}
-use Rattle.opening.proofs.Numbers.{known, known-maps}
+use Rattle.open_table.proofs.Calls.{asks, not-found, refused}
+use Rattle.open_table.proofs.Numbers.{known, known-maps}
 use Rattle.call_extend.proofs.Laws.{extends, lengthened, longer}
 use Rattle.names.specs.Find.{answerOf}
 use borrow.Author.Needs.{needs}
 use Rattle.call_extend.proofs.extend_in.Statement.{statement}
 use Rattle.call_extend.proofs.extend_in.Tie as tie
-use Rattle.call_extend.proofs.extend_in.Reads as reads
-use Rattle.call_extend.proofs.extend_in.Lts as lts
-use Rattle.call_extend.proofs.lengthen.Reads as lengthen-reads
-use Rattle.opening.proofs.answer_and_name.Reads as answer-and-name-reads
-use Rattle.opening.proofs.look_up.Reads as look-up-reads
-use Rattle.opening.proofs.open_named.Reads as open-named-reads
 
 answer-and-name-requires : tie.Need-answer-and-name-requires
 answer-and-name-requires c κs = search needs

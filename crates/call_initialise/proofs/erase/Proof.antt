@@ -1,13 +1,12 @@
 use Rattle.call_initialise.proofs.Laws.{all-erased}
-use Rattle.records.proofs.Putting.{same-more, same-none}
-use Rattle.records.specs.Put.{putAt}
+use Rattle.dscb_write.proofs.Putting.{same-more, same-none}
+use Rattle.dscb_write.specs.Put.{putAt}
 use Rattle.model.specs.Basics.{zeros}
 use lib.ListN.{length, length-set, set}
 use native.Mathlib.Omega.{arith}
-use Prim.Native.Nat.{ℕ}
+use Prim.Native.Nat.{ℕ, _-_, _≤_}
 use mathlib.Core.List.{List}
 use mathlib.Core.Path.{_≡_, refl, ap, _∙_}
-use Prim.Native.Nat.{_-_, _≤_}
 use borrow.Author.Needs.{needs}
 use Rattle.call_initialise.proofs.erase.Statement.{statement}
 use Rattle.call_initialise.proofs.erase.Tie as tie

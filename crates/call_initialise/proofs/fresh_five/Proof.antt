@@ -1,13 +1,9 @@
-use Rattle.call_initialise.proofs.Laws.{both, room}
-use Rattle.forms.specs.Forms.{geometryOf}
+use Rattle.call_initialise.proofs.Laws.{both-runs, room}
+use Rattle.dscb.specs.Forms.{geometryOf}
 use native.Mathlib.Omega.{arith}
 use borrow.Author.Needs.{needs}
 use Rattle.call_initialise.proofs.fresh_five.Statement.{statement}
 use Rattle.call_initialise.proofs.fresh_five.Tie as tie
-use Rattle.call_initialise.proofs.fresh_five.Reads as reads
-use Rattle.call_initialise.proofs.fresh_five.Lts as lts
-use Rattle.call_initialise.proofs.put_some.Reads as put-some-reads
-use Rattle.records.proofs.blank.Reads as blank-reads
 
 blank-requires : tie.Need-blank-requires
 blank-requires c κs = search needs
@@ -46,7 +42,7 @@ returns c =
     let at-put-some = c .before .before .before .before .before in
     let at-blank = at-put-some .before .before .before .before in
     let top = at-blank .before in
-    both (geometryOf (top .args .g)) (top .pre) (at-blank .blank .result) _ _ (at-put-some .put-some .result) (c .before .put-some2 .result) (c .before .before .tracks .result) (at-blank .blank .ensures) (at-put-some .put-some .ensures) (c .before .before .tracks .ensures .0) (c .before .put-some2 .ensures)
+    both-runs (geometryOf (top .args .g)) (top .pre) (at-blank .blank .result) _ _ (at-put-some .put-some .result) (c .before .put-some2 .result) (c .before .before .tracks .result) (at-blank .blank .ensures) (at-put-some .put-some .ensures) (c .before .before .tracks .ensures .0) (c .before .put-some2 .ensures)
 
 pub fresh-five-spec : {M : Type 1} → statement M
 fresh-five-spec =

@@ -1,12 +1,8 @@
 use Rattle.call_initialise.proofs.Laws.{none-more, one-more}
-use Rattle.forms.specs.Forms.{geometryOf}
+use Rattle.dscb.specs.Forms.{geometryOf}
 use borrow.Author.Needs.{needs}
 use Rattle.call_initialise.proofs.put_some.Statement.{statement}
 use Rattle.call_initialise.proofs.put_some.Tie as tie
-use Rattle.call_initialise.proofs.put_some.Reads as reads
-use Rattle.call_initialise.proofs.put_some.Lts as lts
-use Rattle.records.proofs.entry_place.Reads as entry-place-reads
-use Rattle.records.proofs.put_entry.Reads as put-entry-reads
 
 returns : tie.Need-returns
 returns c = none-more (geometryOf (c .before .before .args .g)) (c .before .before .args .rec .now) (c .before .before .args .rec .now) (c .before .before .args .j) (c .before .before .args .start) (c .before .before .args .count) (c .if1 .taken)

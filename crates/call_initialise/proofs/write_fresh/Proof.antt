@@ -1,5 +1,5 @@
 use Rattle.call_initialise.proofs.Laws.{fresh-written}
-use Rattle.forms.specs.Forms.{geometryOf}
+use Rattle.dscb.specs.Forms.{geometryOf}
 use lib.ListN.{length}
 use mathlib.Core.Path.{_≡_, ap}
 use Prim.Native.Nat.{ℕ, _-_}

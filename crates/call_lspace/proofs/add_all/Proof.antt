@@ -1,27 +1,22 @@
-use mathlib.Core.Path.{_≡_, refl, sym, ap, _∙_, subst}
+use mathlib.Core.Path.{refl, sym, subst}
 use mathlib.Core.List.{List, []}
 use Prim.Native.Nat.{ℕ, _≤_, _<_, _+_, _-_, _*_}
 use native.Mathlib.Omega.{arith}
-use lib.ListN.{length, take}
+use lib.ListN.{take}
 use Rattle.model.specs.Model.{Run, slots}
-use Rattle.forms.specs.Forms.{geometryOf}
-use Rattle.free_list.specs.FreeList.{Entries, Listed}
-use Rattle.free_list.proofs.Walk.{Going, going-all, going-end, going-next, going-none}
+use Rattle.dscb.specs.Forms.{geometryOf}
+use Rattle.free_extents.specs.FreeList.{Entries, Listed}
+use Rattle.free_extents.proofs.Walk.{Going, going-all, going-end, going-next, going-none}
 use Rattle.call_lspace.specs.Totals.{Below}
-use Rattle.call_lspace.proofs.Laws.{Onwards, below-more, summed-empty, summed-more}
+use Rattle.call_lspace.proofs.Laws.{SumsOnwards, below-more, summed-empty, summed-more}
 use borrow.Author.Needs.{needs}
 use Rattle.call_lspace.proofs.add_all.Statement.{statement}
 use Rattle.call_lspace.proofs.add_all.Tie as tie
-use Rattle.call_lspace.proofs.add_all.Reads as reads
-use Rattle.call_lspace.proofs.add_all.Lts as lts
-use Rattle.call_lspace.proofs.add_member.Reads as add-member-reads
-use Rattle.fields.proofs.record_at.Reads as record-at-reads
-use Rattle.free_list.proofs.member_after.Reads as member-after-reads
 
 abbrev Inv-loop : tie.InvT-loop
 Inv-loop table g s₀ k₀ left₀ s k left =
     (k < slots (geometryOf g)) × (left ≤ slots (geometryOf g)) × Below ((slots (geometryOf g) - left) * 434503680 + 16711680) s
-    × ((f : List Run) → Listed (geometryOf g) table f → Going (geometryOf g) table left k (Onwards (g .heads) f s))
+    × ((f : List Run) → Listed (geometryOf g) table f → Going (geometryOf g) table left k (SumsOnwards (g .heads) f s))
 
 abbrev μ-loop : tie.MeasureT-loop
 μ-loop table g s₀ k₀ left₀ s k left = left

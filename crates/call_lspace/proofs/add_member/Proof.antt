@@ -1,22 +1,18 @@
-use mathlib.Core.Path.{_≡_, refl, sym, ap, _∙_, subst}
-use mathlib.Core.List.{List, []}
-use Prim.Native.Nat.{ℕ, _≤_, _+_, _-_, _*_, _/_, _%_}
+use mathlib.Core.Path.{_≡_, refl, ap, _∙_}
+use mathlib.Core.List.{List}
+use Prim.Native.Nat.{ℕ, _≤_, _+_, _-_, _*_}
 use native.Mathlib.Nat.{div-le-self, mod-le}
 use native.Mathlib.Omega.{arith}
-use lib.ListN.{drop, length}
+use lib.ListN.{drop}
 use Rattle.model.specs.Model.{Run, run}
-use Rattle.free_list.specs.FreeList.{Entries}
-use Rattle.free_list.proofs.Chain.{entry-end, entry-next, entry-none}
+use Rattle.free_extents.specs.FreeList.{Entries}
+use Rattle.free_extents.proofs.Chain.{entry-end, entry-next, entry-none}
 use Rattle.call_lspace.specs.declared.Sums.{Sums}
 use Rattle.call_lspace.specs.Totals.{Below, Summed}
-use Rattle.call_lspace.proofs.Laws.{below-more, below-next, summed-empty, summed-next}
+use Rattle.call_lspace.proofs.Laws.{below-more, sums-below, summed-empty, summed-next}
 use borrow.Author.Needs.{needs}
 use Rattle.call_lspace.proofs.add_member.Statement.{statement}
 use Rattle.call_lspace.proofs.add_member.Tie as tie
-use Rattle.call_lspace.proofs.add_member.Reads as reads
-use Rattle.call_lspace.proofs.add_member.Lts as lts
-use Rattle.call_lspace.proofs.larger.Reads as larger-reads
-use Rattle.free_list.proofs.entry.Reads as entry-reads
 
 abbrev Inv-loop : tie.InvT-loop
 Inv-loop rec h s₀ j₀ s j =
@@ -99,7 +95,7 @@ loop-again c =
     let eo = ap (λ (y : ℕ). s .odd + y) (x .4) in
     let t = c .before .before .before .before .before .before .before .before .before .before .loop-test .taken in (
       omega (arith, t),
-      (λ n l b. below-next n j (hole .result .count) (a .h) s _ (x .2) l ec eo refl (c .larger .ensures) (i .1 n l b)),
+      (λ n l b. sums-below n j (hole .result .count) (a .h) s _ (x .2) l ec eo refl (c .larger .ensures) (i .1 n l b)),
       λ f r e y. i .2 f r e
           (summed-next (a .h) (run (hole .result .start) (hole .result .count)) _ _ s _ r
           (entry-next e j (hole .result .start) (hole .result .count) (omega (arith, t)) (x .0) (c .before .before .before .before .before .before .before .if1 .left)) ec eo refl (c .larger .ensures) y),

@@ -1,16 +1,11 @@
 use Rattle.call_lspace.proofs.Laws.{inquired, inquires, lists}
-use Rattle.opening.proofs.Calls.{answer-long, refused}
-use Rattle.opening.proofs.Numbers.{known}
+use Rattle.open_table.proofs.Calls.{answer-long, refused}
+use Rattle.open_table.proofs.Numbers.{known}
 use native.Mathlib.Omega.{arith}
 use mathlib.Core.Path.{refl}
 use borrow.Author.Needs.{needs}
 use Rattle.call_lspace.proofs.lspace.Statement.{statement}
 use Rattle.call_lspace.proofs.lspace.Tie as tie
-use Rattle.call_lspace.proofs.lspace.Reads as reads
-use Rattle.call_lspace.proofs.lspace.Lts as lts
-use Rattle.answers.proofs.put_numbers.Reads as put-numbers-reads
-use Rattle.call_lspace.proofs.space.Reads as space-reads
-use Rattle.opening.proofs.open_to_read.Reads as open-to-read-reads
 
 open-to-read-requires : tie.Need-open-to-read-requires
 open-to-read-requires c κs = search needs

@@ -1,15 +1,12 @@
 use native.Mathlib.Nat.{div-le-self, mod-le}
 use native.Mathlib.Omega.{arith}
 use Rattle.model.specs.Model.{tracks}
-use Rattle.forms.specs.Forms.{geometryOf}
+use Rattle.dscb.specs.Forms.{geometryOf}
 use Rattle.call_lspace.specs.Totals.{Below}
 use Rattle.call_lspace.proofs.Laws.{all-small, six-numbers, six-small}
 use borrow.Author.Needs.{needs}
 use Rattle.call_lspace.proofs.space.Statement.{statement}
 use Rattle.call_lspace.proofs.space.Tie as tie
-use Rattle.call_lspace.proofs.space.Reads as reads
-use Rattle.call_lspace.proofs.space.Lts as lts
-use Rattle.call_lspace.proofs.add_all.Reads as add-all-reads
 
 add-all-requires : tie.Need-add-all-requires
 add-all-requires c κs = search needs
@@ -49,7 +46,7 @@ returns : tie.Need-returns
 returns c =
     let top = c .before .before .before .before .before .before .before .before in
     let sums = c .before .before .before .before .before .before .add-all in
-    ((λ f x. six-numbers (top .args .g .heads) f (sums .result) (sums .ensures f x) (top .args .empty)), all-small (top .args .g .heads) (top .args .empty) (sums .result) (small (c .before .before .before .before .before)) (top .pre .2))
+    ((λ f x. six-numbers (top .args .g .heads) f (sums .result) (sums .ensures f x) (top .args .format0s)), all-small (top .args .g .heads) (top .args .format0s) (sums .result) (small (c .before .before .before .before .before)) (top .pre .2))
 
 pub space-spec : {M : Type 1} → statement M
 space-spec =

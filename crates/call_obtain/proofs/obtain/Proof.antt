@@ -1,19 +1,11 @@
 use Rattle.call_obtain.proofs.Laws.{labels-long, obtained, obtains}
-use Rattle.opening.proofs.Calls.{answer-long, asks, not-found, refused, slot-inside}
-use Rattle.opening.proofs.Numbers.{and-named, known}
+use Rattle.open_table.proofs.Calls.{answer-long, asks, not-found, refused, slot-inside}
+use Rattle.open_table.proofs.Numbers.{and-named, known}
 use mathlib.Core.Path.{sym, _∙_, ap}
 use Rattle.names.specs.Find.{answerOf}
 use borrow.Author.Needs.{needs}
 use Rattle.call_obtain.proofs.obtain.Statement.{statement}
 use Rattle.call_obtain.proofs.obtain.Tie as tie
-use Rattle.call_obtain.proofs.obtain.Reads as reads
-use Rattle.call_obtain.proofs.obtain.Lts as lts
-use Rattle.answers.proofs.put_nothing.Reads as put-nothing-reads
-use Rattle.call_obtain.proofs.put_labels.Reads as put-labels-reads
-use Rattle.opening.proofs.and_another.Reads as and-another-reads
-use Rattle.opening.proofs.and_named.Reads as and-named-reads
-use Rattle.opening.proofs.look_up.Reads as look-up-reads
-use Rattle.opening.proofs.open_to_read.Reads as open-to-read-reads
 
 and-another-requires : tie.Need-and-another-requires
 and-another-requires c κs = search needs

@@ -1,11 +1,7 @@
 use Rattle.call_obtain.proofs.Laws.{two-filled}
-use Rattle.call_obtain.specs.Third.{orZeros}
-use Rattle.label_check.specs.Label.{namedThird}
-use Rattle.forms.specs.Forms.{geometryOf}
+use Rattle.dscb.specs.Forms.{geometryOf}
 use lib.ListN.{length}
-use Prim.Native.Nat.{ℕ}
-use mathlib.Core.List.{List, _++_}
-use mathlib.Core.Path.{_≡_, sym, ap, ap₂, _∙_}
+use mathlib.Core.Path.{_≡_, _∙_}
 use borrow.Author.Needs.{needs}
 use Rattle.call_obtain.proofs.put_labels.Statement.{statement}
 use Rattle.call_obtain.proofs.put_labels.Tie as tie

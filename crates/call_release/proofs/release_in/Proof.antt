@@ -1,18 +1,12 @@
 use mathlib.Core.Path.{refl, sym, _∙_, ap}
-use Rattle.opening.proofs.Calls.{answer-long, asks, done, found-at, not-found, refused, slot-inside}
-use Rattle.opening.proofs.Numbers.{known, known-maps}
-use Rattle.giving.proofs.Calls.{at}
-use Rattle.call_release.proofs.Laws.{releases}
+use Rattle.open_table.proofs.Calls.{answer-long, asks, done, found-at, not-found, refused, slot-inside}
+use Rattle.open_table.proofs.Numbers.{known, known-maps}
+use Rattle.free_space.proofs.Calls.{at}
+use Rattle.call_release.proofs.Call.{releases}
 use Rattle.names.specs.Find.{answerOf}
 use borrow.Author.Needs.{needs}
 use Rattle.call_release.proofs.release_in.Statement.{statement}
 use Rattle.call_release.proofs.release_in.Tie as tie
-use Rattle.call_release.proofs.release_in.Reads as reads
-use Rattle.call_release.proofs.release_in.Lts as lts
-use Rattle.call_release.proofs.release_set.Reads as release-set-reads
-use Rattle.opening.proofs.answer_and_name.Reads as answer-and-name-reads
-use Rattle.opening.proofs.look_up.Reads as look-up-reads
-use Rattle.opening.proofs.open_named.Reads as open-named-reads
 
 answer-and-name-requires : tie.Need-answer-and-name-requires
 answer-and-name-requires c κs = search needs

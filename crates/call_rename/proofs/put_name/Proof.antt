@@ -1,5 +1,5 @@
-use Rattle.labels.specs.Labels.{Format1}
-use Rattle.fields.specs.Records.{putRecord}
+use Rattle.dscb_write.specs.Labels.{Format1}
+use Rattle.dscb.specs.Records.{putRecord}
 use Prim.Native.Nat.{ℕ}
 use mathlib.Core.List.{List}
 use mathlib.Core.Path.{sym, ap, _∙_, subst}

@@ -1,20 +1,11 @@
 use Rattle.call_rename.proofs.Laws.{duplicate, name-put, new-long, renames}
-use Rattle.opening.proofs.Calls.{answer-long, asks, not-found, record-inside, refused}
-use Rattle.opening.proofs.Numbers.{and-named, known}
+use Rattle.open_table.proofs.Calls.{answer-long, asks, not-found, record-inside, refused}
+use Rattle.open_table.proofs.Numbers.{and-named, known}
 use mathlib.Core.Path.{sym, ap, _∙_}
 use Rattle.names.specs.Find.{answerOf}
 use borrow.Author.Needs.{needs}
 use Rattle.call_rename.proofs.rename.Statement.{statement}
 use Rattle.call_rename.proofs.rename.Tie as tie
-use Rattle.call_rename.proofs.rename.Reads as reads
-use Rattle.call_rename.proofs.rename.Lts as lts
-use Rattle.answers.proofs.put_nothing.Reads as put-nothing-reads
-use Rattle.call_rename.proofs.put_name.Reads as put-name-reads
-use Rattle.opening.proofs.and_another.Reads as and-another-reads
-use Rattle.opening.proofs.and_named.Reads as and-named-reads
-use Rattle.opening.proofs.look_up.Reads as look-up-reads
-use Rattle.opening.proofs.on_volume.Reads as on-volume-reads
-use Rattle.opening.proofs.open_to_read.Reads as open-to-read-reads
 
 and-another-requires : tie.Need-and-another-requires
 and-another-requires c κs = search needs

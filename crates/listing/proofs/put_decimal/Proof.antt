@@ -2,10 +2,6 @@ use Rattle.listing.proofs.Decimals.{five}
 use borrow.Author.Needs.{needs}
 use Rattle.listing.proofs.put_decimal.Statement.{statement}
 use Rattle.listing.proofs.put_decimal.Tie as tie
-use Rattle.listing.proofs.put_decimal.Reads as reads
-use Rattle.listing.proofs.put_decimal.Lts as lts
-use Rattle.listing.proofs.put_byte.Reads as put-byte-reads
-use Rattle.listing.proofs.put_digit.Reads as put-digit-reads
 
 put-digit-requires : tie.Need-put-digit-requires
 put-digit-requires c κs = search needs

@@ -2,9 +2,6 @@ use Rattle.listing.proofs.Decimals.{write-none, digit-none, digit-one}
 use borrow.Author.Needs.{needs}
 use Rattle.listing.proofs.put_digit.Statement.{statement}
 use Rattle.listing.proofs.put_digit.Tie as tie
-use Rattle.listing.proofs.put_digit.Reads as reads
-use Rattle.listing.proofs.put_digit.Lts as lts
-use Rattle.listing.proofs.put_byte.Reads as put-byte-reads
 
 returns : tie.Need-returns
 returns c = rw (digit-none _ _ (c .if1 .taken)) (write-none (c .before .before .args .out .now) (c .before .before .args .at) 1)

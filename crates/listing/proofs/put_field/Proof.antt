@@ -2,10 +2,6 @@ use Rattle.listing.proofs.Decimals.{then}
 use borrow.Author.Needs.{needs}
 use Rattle.listing.proofs.put_field.Statement.{statement}
 use Rattle.listing.proofs.put_field.Tie as tie
-use Rattle.listing.proofs.put_field.Reads as reads
-use Rattle.listing.proofs.put_field.Lts as lts
-use Rattle.listing.proofs.put_byte.Reads as put-byte-reads
-use Rattle.listing.proofs.put_decimal.Reads as put-decimal-reads
 
 put-byte-requires : tie.Need-put-byte-requires
 put-byte-requires c κs = search needs

@@ -7,9 +7,6 @@ use Rattle.listing.specs.Text.{Written, nameText}
 use borrow.Author.Needs.{needs}
 use Rattle.listing.proofs.put_name.Statement.{statement}
 use Rattle.listing.proofs.put_name.Tie as tie
-use Rattle.listing.proofs.put_name.Reads as reads
-use Rattle.listing.proofs.put_name.Lts as lts
-use Rattle.listing.proofs.put_printed.Reads as put-printed-reads
 
 abbrev Inv-loop : tie.InvT-loop
 Inv-loop out₀ at name p₀ i₀ out p i = (i ≤ 44) × Written at (nameText (take i name)) i out₀ out p

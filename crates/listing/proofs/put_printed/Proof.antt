@@ -3,10 +3,6 @@ use Rattle.listing.proofs.Decimals.{write-none}
 use borrow.Author.Needs.{needs}
 use Rattle.listing.proofs.put_printed.Statement.{statement}
 use Rattle.listing.proofs.put_printed.Tie as tie
-use Rattle.listing.proofs.put_printed.Reads as reads
-use Rattle.listing.proofs.put_printed.Lts as lts
-use Rattle.fields.proofs.listing.printable.Reads as printable-reads
-use Rattle.listing.proofs.put_byte.Reads as put-byte-reads
 
 returns : tie.Need-returns
 returns c = rw (name-blank _ (c .if1 .taken)) (write-none (c .before .before .args .out .now) (c .before .before .args .at) 1)

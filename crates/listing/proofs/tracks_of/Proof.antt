@@ -7,10 +7,6 @@ use Rattle.listing.proofs.Extents.{total-none, ten-bytes, proper-ten, s
 use borrow.Author.Needs.{needs}
 use Rattle.listing.proofs.tracks_of.Statement.{statement}
 use Rattle.listing.proofs.tracks_of.Tie as tie
-use Rattle.listing.proofs.tracks_of.Reads as reads
-use Rattle.listing.proofs.tracks_of.Lts as lts
-use Rattle.fields.proofs.extent_part.Reads as extent-part-reads
-use Rattle.listing.proofs.tracks_in.Reads as tracks-in-reads
 
 abbrev Inv-loop : tie.InvT-loop
 Inv-loop f1 f3 n heads sum₀ e₀ sum e = (e ≤ n) × (sum ≡ total (overs (readExtents heads f1 f3 e))) × (sum ≤ 65535 * e)

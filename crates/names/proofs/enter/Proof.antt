@@ -5,12 +5,6 @@ use mathlib.Core.Path.{sym, _∙_}
 use borrow.Author.Needs.{needs}
 use Rattle.names.proofs.enter.Statement.{statement}
 use Rattle.names.proofs.enter.Tie as tie
-use Rattle.names.proofs.enter.Reads as reads
-use Rattle.names.proofs.enter.Lts as lts
-use Rattle.fields.proofs.record_at.Reads as record-at-reads
-use Rattle.names.proofs.is_new.Reads as is-new-reads
-use Rattle.names.proofs.tag.Reads as tag-reads
-use Rattle.tracks.proofs.give_range.Reads as give-range-reads
 
 record-at-requires : tie.Need-record-at-requires
 record-at-requires c κs = search needs

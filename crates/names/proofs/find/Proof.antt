@@ -1,16 +1,12 @@
-use Rattle.names.proofs.Laws.{hit, miss, done}
+use Rattle.names.proofs.Laws.{hit, miss, entered-done}
 use Rattle.names.specs.Find.{findSlot, firstNamed}
 use native.Mathlib.Omega.{arith}
 use native.Mathlib.Nat.{sub-zero}
-use Prim.Native.Nat.{ℕ, _≤_, _-_}
+use Prim.Native.Nat.{_≤_, _-_}
 use mathlib.Core.Path.{_≡_, sym, _∙_}
 use borrow.Author.Needs.{needs}
 use Rattle.names.proofs.find.Statement.{statement}
 use Rattle.names.proofs.find.Tie as tie
-use Rattle.names.proofs.find.Reads as reads
-use Rattle.names.proofs.find.Lts as lts
-use Rattle.fields.proofs.record_at.Reads as record-at-reads
-use Rattle.names.proofs.is_named.Reads as is-named-reads
 
 abbrev Inv-loop : tie.InvT-loop
 Inv-loop table n name k₀ k = (findSlot table name n ≡ firstNamed table name k (n - k)) × (k ≤ n)
@@ -41,7 +37,7 @@ loop-again : tie.Need-loop-again Inv-loop μ-loop
 loop-again c = (c .before .before .before .before .loop .inv .0 ∙ miss _ _ _ _ (c .before .before .before .loop-test .taken) cc, omega arith)
 
 returns-2 : tie.Need-returns-2 Inv-loop μ-loop
-returns-2 c = sym (c .before .loop .inv .0 ∙ done _ _ _ _ (c .loop-test .left))
+returns-2 c = sym (c .before .loop .inv .0 ∙ entered-done _ _ _ _ (c .loop-test .left))
 
 pub find-spec : {M : Type 1} → statement M
 find-spec =

@@ -1,16 +1,13 @@
 use Rattle.names.proofs.Laws.{tag-hit, tag-miss, tag-end}
 use Rattle.names.specs.Find.{hasTag}
 use lib.ListN.{length, drop}
-use native.Mathlib.Omega.{arith}
 use Prim.Native.Nat.{_≤_, _-_}
 use mathlib.Core.Logic.{⊎-elim}
-use mathlib.Core.Bool.{_||_, true}
+use mathlib.Core.Bool.{_||_}
 use mathlib.Core.Path.{_≡_, sym, _∙_}
 use borrow.Author.Needs.{needs}
 use Rattle.names.proofs.has_tag.Statement.{statement}
 use Rattle.names.proofs.has_tag.Tie as tie
-use Rattle.names.proofs.has_tag.Reads as reads
-use Rattle.names.proofs.has_tag.Lts as lts
 
 abbrev Inv-loop : tie.InvT-loop
 Inv-loop tags t hit₀ i₀ hit i = (i ≤ length tags) × (hasTag tags t ≡ (hit || hasTag (drop i tags) t))

@@ -4,11 +4,6 @@ use mathlib.Core.Path.{sym, ap, _∙_}
 use borrow.Author.Needs.{needs}
 use Rattle.names.proofs.is_new.Statement.{statement}
 use Rattle.names.proofs.is_new.Tie as tie
-use Rattle.names.proofs.is_new.Reads as reads
-use Rattle.names.proofs.is_new.Lts as lts
-use Rattle.names.proofs.has_tag.Reads as has-tag-reads
-use Rattle.names.proofs.is_other.Reads as is-other-reads
-use Rattle.tracks.proofs.is_free.Reads as is-free-reads
 
 cast-q : tie.Need-cast-q
 cast-q c = search needs

@@ -7,13 +7,9 @@ use mathlib.Core.List.{List}
 use lib.ListN.{length}
 use borrow.Author.Needs.{needs}
 use Rattle.names.specs.Find.{findSlot, firstNamed, isNamed, isNothing}
-use Rattle.names.proofs.Laws.{done, hit, miss, other-tag}
+use Rattle.names.proofs.Laws.{entered-done, hit, miss, other-tag}
 use Rattle.names.proofs.is_other.Statement.{statement}
 use Rattle.names.proofs.is_other.Tie as tie
-use Rattle.names.proofs.is_other.Reads as reads
-use Rattle.names.proofs.is_other.Lts as lts
-use Rattle.fields.proofs.record_at.Reads as record-at-reads
-use Rattle.names.proofs.is_named.Reads as is-named-reads
 
 abbrev Inv-loop : tie.InvT-loop
 Inv-loop table k tags t name j₀ j = (findSlot table name k ≡ firstNamed table name j (k - j)) × (j ≤ k) × (length tags ≡ k)
@@ -57,7 +53,7 @@ loop-again c =
     )
 
 returns-2 : tie.Need-returns-2 Inv-loop μ-loop
-returns-2 c = sym (ap isNothing (c .before .loop .inv .0 ∙ done _ _ _ _ (c .loop-test .left)))
+returns-2 c = sym (ap isNothing (c .before .loop .inv .0 ∙ entered-done _ _ _ _ (c .loop-test .left)))
 
 pub is-other-spec : {M : Type 1} → statement M
 is-other-spec =

@@ -4,9 +4,6 @@ use borrow.Author.Needs.{needs}
 use Rattle.names.proofs.Laws.{halves-fit, keyed-is}
 use Rattle.names.proofs.keyed.Statement.{statement}
 use Rattle.names.proofs.keyed.Tie as tie
-use Rattle.names.proofs.keyed.Reads as reads
-use Rattle.names.proofs.keyed.Lts as lts
-use Rattle.fields.proofs.word8.Reads as word8-reads
 
 word8-requires : tie.Need-word8-requires
 word8-requires c κs = search needs

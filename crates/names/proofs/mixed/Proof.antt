@@ -2,9 +2,6 @@ use borrow.Author.Needs.{needs}
 use Rattle.names.proofs.Laws.{mixed-is}
 use Rattle.names.proofs.mixed.Statement.{statement}
 use Rattle.names.proofs.mixed.Tie as tie
-use Rattle.names.proofs.mixed.Reads as reads
-use Rattle.names.proofs.mixed.Lts as lts
-use Rattle.names.proofs.keyed.Reads as keyed-reads
 
 keyed-requires : tie.Need-keyed-requires
 keyed-requires c κs = search needs

@@ -2,9 +2,6 @@ use borrow.Author.Needs.{needs}
 use Rattle.names.proofs.Laws.{tag-value}
 use Rattle.names.proofs.tag.Statement.{statement}
 use Rattle.names.proofs.tag.Tie as tie
-use Rattle.names.proofs.tag.Reads as reads
-use Rattle.names.proofs.tag.Lts as lts
-use Rattle.names.proofs.mixed.Reads as mixed-reads
 
 mixed-requires : tie.Need-mixed-requires
 mixed-requires c κs = search needs

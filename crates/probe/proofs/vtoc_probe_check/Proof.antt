@@ -1,14 +1,10 @@
 -- `probe::vtoc_probe_check` meets its contract: each return gives the number that the tests before it leave. Assumes nothing.
-use Rattle.probe.proofs.Numbers.{sound, unsound, wrong-length}
-use Rattle.table_check.proofs.Room.{roomy-large}
+use Rattle.probe.proofs.Numbers.{sound, unsound-number, probe-wrong-length}
+use Rattle.check_table.proofs.Room.{roomy-large}
 use mathlib.Core.Path.{refl, sym, _∙_}
 use borrow.Author.Needs.{needs}
 use Rattle.probe.proofs.vtoc_probe_check.Statement.{statement}
 use Rattle.probe.proofs.vtoc_probe_check.Tie as tie
-use Rattle.probe.proofs.vtoc_probe_check.Reads as reads
-use Rattle.probe.proofs.vtoc_probe_check.Lts as lts
-use Rattle.table_check.proofs.check.Reads as check-reads
-use Rattle.table_check.proofs.good_length.Reads as good-length-reads
 
 good-length-requires : tie.Need-good-length-requires
 good-length-requires c κs = search needs
@@ -16,7 +12,7 @@ good-length-requires c κs = search needs
 returns : tie.Need-returns
 returns c =
     let top = c .before .before .before in
-    wrong-length (top .args .table .now) (sym (c .before .good-length .ensures) ∙ c .if1 .left)
+    probe-wrong-length (top .args .table .now) (sym (c .before .good-length .ensures) ∙ c .if1 .left)
 
 slice-aggregate-check : tie.Need-slice-aggregate-check
 slice-aggregate-check c = search needs
@@ -43,7 +39,7 @@ returns-3 c =
     let at-if1 = at-check .before .before .before in
     let at-good-length = at-if1 .before in
     let top = at-good-length .before .before in
-    unsound (top .args .table .now) (sym (at-good-length .good-length .ensures) ∙ at-if1 .if1 .taken) (sym (at-check .check .ensures .told) ∙ c .if2 .left)
+    unsound-number (top .args .table .now) (sym (at-good-length .good-length .ensures) ∙ at-if1 .if1 .taken) (sym (at-check .check .ensures .told) ∙ c .if2 .left)
 
 pub vtoc-probe-check-spec : {M : Type 1} → statement M
 vtoc-probe-check-spec =

@@ -2,10 +2,6 @@ use Rattle.probe.proofs.Numbers.{byte-there, no-byte}
 use borrow.Author.Needs.{needs}
 use Rattle.probe.proofs.vtoc_probe_extent.Statement.{statement}
 use Rattle.probe.proofs.vtoc_probe_extent.Tie as tie
-use Rattle.probe.proofs.vtoc_probe_extent.Reads as reads
-use Rattle.probe.proofs.vtoc_probe_extent.Lts as lts
-use Rattle.fields.proofs.extent_part.Reads as extent-part-reads
-use Rattle.fields.proofs.wide.Reads as wide-reads
 
 extent-part-requires : tie.Need-extent-part-requires
 extent-part-requires c κs = search needs

@@ -3,9 +3,6 @@ use Rattle.probe.proofs.Numbers.{breaks, obeys}
 use borrow.Author.Needs.{needs}
 use Rattle.probe.proofs.vtoc_probe_name.Statement.{statement}
 use Rattle.probe.proofs.vtoc_probe_name.Tie as tie
-use Rattle.probe.proofs.vtoc_probe_name.Reads as reads
-use Rattle.probe.proofs.vtoc_probe_name.Lts as lts
-use Rattle.fields.proofs.name_ok.Reads as name-ok-reads
 
 name-ok-requires : tie.Need-name-ok-requires
 name-ok-requires c κs = search needs

@@ -1,19 +1,10 @@
-use Rattle.replay_step.proofs.Laws.{does-call, lent-long}
+use Rattle.replay_step.proofs.Laws.{does-call, lent-long, same-request}
 use native.Mathlib.Omega.{arith}
 use Rattle.rules.specs.Calls.{allocate}
 use Rattle.replay_step.specs.Play.{requestOf}
-use Rattle.replay_step.proofs.Laws.{same-request}
 use borrow.Author.Needs.{needs}
 use Rattle.replay_step.proofs.do_allocate.Statement.{statement}
 use Rattle.replay_step.proofs.do_allocate.Tie as tie
-use Rattle.replay_step.proofs.do_allocate.Reads as reads
-use Rattle.replay_step.proofs.do_allocate.Lts as lts
-use Rattle.vtoc.proofs.vtoc_allocate.Reads as vtoc-allocate-reads
-use Rattle.recorded.proofs.answer_lent.Reads as answer-lent-reads
-use Rattle.recorded.proofs.four.Reads as four-reads
-use Rattle.recorded.proofs.name_of.Reads as name-of-reads
-use Rattle.recorded.proofs.other_of.Reads as other-of-reads
-use Rattle.recorded.proofs.table_lent.Reads as table-lent-reads
 
 table-lent-requires : tie.Need-table-lent-requires
 table-lent-requires c κs = search needs

@@ -3,12 +3,6 @@ use Rattle.replay_step.proofs.Laws.{initialises, lent-long}
 use borrow.Author.Needs.{needs}
 use Rattle.replay_step.proofs.do_initialise.Statement.{statement}
 use Rattle.replay_step.proofs.do_initialise.Tie as tie
-use Rattle.replay_step.proofs.do_initialise.Reads as reads
-use Rattle.replay_step.proofs.do_initialise.Lts as lts
-use Rattle.vtoc.proofs.vtoc_initialise.Reads as vtoc-initialise-reads
-use Rattle.recorded.proofs.answer_lent.Reads as answer-lent-reads
-use Rattle.recorded.proofs.four.Reads as four-reads
-use Rattle.recorded.proofs.table_lent.Reads as table-lent-reads
 
 table-lent-requires : tie.Need-table-lent-requires
 table-lent-requires c κs = search needs

@@ -4,11 +4,6 @@ use Rattle.replay_step.proofs.Laws.{reads-call, lent-long}
 use borrow.Author.Needs.{needs}
 use Rattle.replay_step.proofs.do_lspace.Statement.{statement}
 use Rattle.replay_step.proofs.do_lspace.Tie as tie
-use Rattle.replay_step.proofs.do_lspace.Reads as reads
-use Rattle.replay_step.proofs.do_lspace.Lts as lts
-use Rattle.vtoc.proofs.vtoc_lspace.Reads as vtoc-lspace-reads
-use Rattle.recorded.proofs.answer_lent.Reads as answer-lent-reads
-use Rattle.recorded.proofs.table_lent.Reads as table-lent-reads
 
 table-lent-requires : tie.Need-table-lent-requires
 table-lent-requires c κs = search needs

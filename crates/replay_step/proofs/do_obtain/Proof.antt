@@ -3,13 +3,6 @@ use Rattle.replay_step.proofs.Laws.{obtains, lent-long}
 use borrow.Author.Needs.{needs}
 use Rattle.replay_step.proofs.do_obtain.Statement.{statement}
 use Rattle.replay_step.proofs.do_obtain.Tie as tie
-use Rattle.replay_step.proofs.do_obtain.Reads as reads
-use Rattle.replay_step.proofs.do_obtain.Lts as lts
-use Rattle.vtoc.proofs.vtoc_obtain.Reads as vtoc-obtain-reads
-use Rattle.recorded.proofs.answer_lent.Reads as answer-lent-reads
-use Rattle.recorded.proofs.labels_lent.Reads as labels-lent-reads
-use Rattle.recorded.proofs.name_of.Reads as name-of-reads
-use Rattle.recorded.proofs.table_lent.Reads as table-lent-reads
 
 table-lent-requires : tie.Need-table-lent-requires
 table-lent-requires c κs = search needs

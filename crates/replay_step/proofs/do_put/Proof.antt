@@ -2,11 +2,6 @@ use Rattle.replay_step.proofs.Laws.{loads}
 use borrow.Author.Needs.{needs}
 use Rattle.replay_step.proofs.do_put.Statement.{statement}
 use Rattle.replay_step.proofs.do_put.Tie as tie
-use Rattle.replay_step.proofs.do_put.Reads as reads
-use Rattle.replay_step.proofs.do_put.Lts as lts
-use Rattle.recorded.proofs.bytes_of.Reads as bytes-of-reads
-use Rattle.recorded.proofs.four.Reads as four-reads
-use Rattle.recorded.proofs.put_over.Reads as put-over-reads
 
 four-requires : tie.Need-four-requires
 four-requires c κs = search needs

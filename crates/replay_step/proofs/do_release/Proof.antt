@@ -1,18 +1,11 @@
 use Rattle.replay_step.proofs.Laws.{does-call, lent-long}
 use native.Mathlib.Omega.{arith}
 use Rattle.rules.specs.Calls.{release}
-use Rattle.recorded.specs.Asked.{get4, nameOf}
+use Rattle.replay_record.specs.Asked.{get4, nameAsked}
 use mathlib.Core.Path.{ap₂}
 use borrow.Author.Needs.{needs}
 use Rattle.replay_step.proofs.do_release.Statement.{statement}
 use Rattle.replay_step.proofs.do_release.Tie as tie
-use Rattle.replay_step.proofs.do_release.Reads as reads
-use Rattle.replay_step.proofs.do_release.Lts as lts
-use Rattle.vtoc.proofs.vtoc_release.Reads as vtoc-release-reads
-use Rattle.recorded.proofs.answer_lent.Reads as answer-lent-reads
-use Rattle.recorded.proofs.four.Reads as four-reads
-use Rattle.recorded.proofs.name_of.Reads as name-of-reads
-use Rattle.recorded.proofs.table_lent.Reads as table-lent-reads
 
 table-lent-requires : tie.Need-table-lent-requires
 table-lent-requires c κs = search needs
@@ -58,7 +51,7 @@ returns c =
     let at-answer-lent = at-four .before in
     let at-table-lent = at-answer-lent .before in
     let top = at-table-lent .before .before .before .before in
-    does-call (release (nameOf (top .args .asked .now)) (get4 (top .args .asked .now) 8)) (top .args .asked .now) (top .args .table .now) (top .args .answer .now) _ _ (ap₂ release (at-name-of .name-of .ensures) (at-four .four .ensures)) (at-table-lent .table-lent .ensures .0) (at-answer-lent .answer-lent .ensures .0) (at-vtoc-release .vtoc-release .ensures)
+    does-call (release (nameAsked (top .args .asked .now)) (get4 (top .args .asked .now) 8)) (top .args .asked .now) (top .args .table .now) (top .args .answer .now) _ _ (ap₂ release (at-name-of .name-of .ensures) (at-four .four .ensures)) (at-table-lent .table-lent .ensures .0) (at-answer-lent .answer-lent .ensures .0) (at-vtoc-release .vtoc-release .ensures)
 
 pub do-release-spec : {M : Type 1} → statement M
 do-release-spec =

@@ -1,18 +1,11 @@
 use native.Mathlib.Omega.{arith}
 use mathlib.Core.Path.{ap₂}
-use Rattle.recorded.specs.Asked.{nameOf, otherOf}
+use Rattle.replay_record.specs.Asked.{nameAsked, otherOf}
 use Rattle.rules.specs.Calls.{rename}
 use Rattle.replay_step.proofs.Laws.{does-call, lent-long}
 use borrow.Author.Needs.{needs}
 use Rattle.replay_step.proofs.do_rename.Statement.{statement}
 use Rattle.replay_step.proofs.do_rename.Tie as tie
-use Rattle.replay_step.proofs.do_rename.Reads as reads
-use Rattle.replay_step.proofs.do_rename.Lts as lts
-use Rattle.vtoc.proofs.vtoc_rename.Reads as vtoc-rename-reads
-use Rattle.recorded.proofs.answer_lent.Reads as answer-lent-reads
-use Rattle.recorded.proofs.name_of.Reads as name-of-reads
-use Rattle.recorded.proofs.other_of.Reads as other-of-reads
-use Rattle.recorded.proofs.table_lent.Reads as table-lent-reads
 
 table-lent-requires : tie.Need-table-lent-requires
 table-lent-requires c κs = search needs
@@ -58,7 +51,7 @@ returns c =
     let at-answer-lent = at-name-of .before .before in
     let at-table-lent = at-answer-lent .before in
     let top = at-table-lent .before .before .before .before in
-    does-call (rename (nameOf (top .args .asked .now)) (otherOf (top .args .asked .now))) (top .args .asked .now) (top .args .table .now) (top .args .answer .now) _ _ (ap₂ rename (at-name-of .name-of .ensures) (at-other-of .other-of .ensures)) (at-table-lent .table-lent .ensures .0) (at-answer-lent .answer-lent .ensures .0) (at-vtoc-rename .vtoc-rename .ensures)
+    does-call (rename (nameAsked (top .args .asked .now)) (otherOf (top .args .asked .now))) (top .args .asked .now) (top .args .table .now) (top .args .answer .now) _ _ (ap₂ rename (at-name-of .name-of .ensures) (at-other-of .other-of .ensures)) (at-table-lent .table-lent .ensures .0) (at-answer-lent .answer-lent .ensures .0) (at-vtoc-rename .vtoc-rename .ensures)
 
 pub do-rename-spec : {M : Type 1} → statement M
 do-rename-spec =

@@ -2,8 +2,6 @@ use Rattle.replay_step.specs.Play.{freshAnswer}
 use mathlib.Core.Path.{refl}
 use Rattle.replay_step.proofs.fresh_answer.Statement.{statement}
 use Rattle.replay_step.proofs.fresh_answer.Tie as tie
-use Rattle.replay_step.proofs.fresh_answer.Reads as reads
-use Rattle.replay_step.proofs.fresh_answer.Lts as lts
 
 returns : tie.Need-returns
 unfolding freshAnswer

@@ -2,8 +2,6 @@ use Rattle.replay_step.specs.Play.{freshLabels}
 use mathlib.Core.Path.{refl}
 use Rattle.replay_step.proofs.fresh_labels.Statement.{statement}
 use Rattle.replay_step.proofs.fresh_labels.Tie as tie
-use Rattle.replay_step.proofs.fresh_labels.Reads as reads
-use Rattle.replay_step.proofs.fresh_labels.Lts as lts
 
 returns : tie.Need-returns
 unfolding freshLabels

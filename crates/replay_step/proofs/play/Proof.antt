@@ -3,13 +3,6 @@ use Rattle.replay_step.proofs.Laws.{op-1, op-2, op-3, op-4, op-later}
 use borrow.Author.Needs.{needs}
 use Rattle.replay_step.proofs.play.Statement.{statement}
 use Rattle.replay_step.proofs.play.Tie as tie
-use Rattle.replay_step.proofs.play.Reads as reads
-use Rattle.replay_step.proofs.play.Lts as lts
-use Rattle.replay_step.proofs.do_allocate.Reads as do-allocate-reads
-use Rattle.replay_step.proofs.do_extend.Reads as do-extend-reads
-use Rattle.replay_step.proofs.do_initialise.Reads as do-initialise-reads
-use Rattle.replay_step.proofs.do_release.Reads as do-release-reads
-use Rattle.replay_step.proofs.play_later.Reads as play-later-reads
 
 shared-slice-read-op : tie.Need-shared-slice-read-op
 shared-slice-read-op c = search needs

@@ -4,13 +4,6 @@ use Rattle.replay_step.proofs.Laws.{op-5, op-6, op-7, op-8, op-9, op-ot
 use borrow.Author.Needs.{needs}
 use Rattle.replay_step.proofs.play_later.Statement.{statement}
 use Rattle.replay_step.proofs.play_later.Tie as tie
-use Rattle.replay_step.proofs.play_later.Reads as reads
-use Rattle.replay_step.proofs.play_later.Lts as lts
-use Rattle.replay_step.proofs.do_lspace.Reads as do-lspace-reads
-use Rattle.replay_step.proofs.do_obtain.Reads as do-obtain-reads
-use Rattle.replay_step.proofs.do_put.Reads as do-put-reads
-use Rattle.replay_step.proofs.do_rename.Reads as do-rename-reads
-use Rattle.replay_step.proofs.do_scratch.Reads as do-scratch-reads
 
 shared-slice-read-op : tie.Need-shared-slice-read-op
 shared-slice-read-op c = search needs

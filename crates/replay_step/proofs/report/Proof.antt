@@ -4,12 +4,6 @@ use Rattle.replay_step.proofs.Laws.{lent-long, reported}
 use borrow.Author.Needs.{needs}
 use Rattle.replay_step.proofs.report.Statement.{statement}
 use Rattle.replay_step.proofs.report.Tie as tie
-use Rattle.replay_step.proofs.report.Reads as reads
-use Rattle.replay_step.proofs.report.Lts as lts
-use Rattle.recorded.proofs.digest.Reads as digest-reads
-use Rattle.recorded.proofs.labels_lent.Reads as labels-lent-reads
-use Rattle.recorded.proofs.put_line.Reads as put-line-reads
-use Rattle.recorded.proofs.table_lent.Reads as table-lent-reads
 
 table-lent-requires : tie.Need-table-lent-requires
 table-lent-requires c κs = search needs

@@ -2,12 +2,6 @@ use Rattle.replay_step.proofs.Laws.{step-done}
 use borrow.Author.Needs.{needs}
 use Rattle.replay_step.proofs.step.Statement.{statement}
 use Rattle.replay_step.proofs.step.Tie as tie
-use Rattle.replay_step.proofs.step.Reads as reads
-use Rattle.replay_step.proofs.step.Lts as lts
-use Rattle.replay_step.proofs.fresh_answer.Reads as fresh-answer-reads
-use Rattle.replay_step.proofs.fresh_labels.Reads as fresh-labels-reads
-use Rattle.replay_step.proofs.play.Reads as play-reads
-use Rattle.replay_step.proofs.report.Reads as report-reads
 
 fresh-answer-requires : tie.Need-fresh-answer-requires
 fresh-answer-requires c κs = search needs

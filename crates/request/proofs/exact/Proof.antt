@@ -24,12 +24,12 @@ array-set-from-pieces c = search needs
 returns : tie.Need-returns
 returns c =
     let top = c .before .before .before in
-    exact-yes (top .args .map .now) (top .args .start) (top .args .n) (c .before .all-free .result) (c .before .all-free .ensures) (c .if1 .taken)
+    exact-yes (top .args .free-tracks .now) (top .args .start) (top .args .n) (c .before .all-free .result) (c .before .all-free .ensures) (c .if1 .taken)
 
 returns-2 : tie.Need-returns-2
 returns-2 c =
     let top = c .before .before .before in
-    exact-no (top .args .map .now) (top .args .start) (top .args .n) (c .before .all-free .result) (c .before .all-free .ensures) (c .if1 .left)
+    exact-no (top .args .free-tracks .now) (top .args .start) (top .args .n) (c .before .all-free .result) (c .before .all-free .ensures) (c .if1 .left)
 
 pub exact-spec : {M : Type 1} → statement M
 exact-spec =

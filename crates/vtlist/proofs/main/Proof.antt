@@ -4,13 +4,6 @@ use lib.ListN.{length, length-take}
 use borrow.Author.Needs.{needs}
 use Rattle.vtlist.proofs.main.Statement.{statement}
 use Rattle.vtlist.proofs.main.Tie as tie
-use Rattle.vtlist.proofs.main.Reads as reads
-use Rattle.vtlist.proofs.main.Lts as lts
-use Rattle.io.proofs.large_buffer.Reads as large-buffer-reads
-use Rattle.io.proofs.read_full.Reads as read-full-reads
-use Rattle.io.proofs.write_all.Reads as write-all-reads
-use Rattle.table_list.proofs.list.Reads as list-reads
-use Rattle.vtlist.proofs.room.Reads as room-reads
 
 large-buffer-requires : tie.Need-large-buffer-requires
 large-buffer-requires c κs = search needs

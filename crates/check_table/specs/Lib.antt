@@ -1,0 +1,3 @@
+pub mod Spare
+pub mod Labels
+pub mod Check

@@ -1,0 +1,10 @@
+pub mod Records
+pub mod Tens
+pub mod Failing
+pub mod Bytes10
+pub mod Links
+pub mod Sound
+pub mod Cutting
+pub mod Blocks
+pub mod Written
+pub mod Linked

@@ -1,0 +1,9 @@
+pub mod Format1
+pub mod Format3
+pub mod Following
+pub mod Putting
+pub mod Numbers
+pub mod Filling
+pub mod Extents
+pub mod Format4
+pub mod Format5

@@ -1,0 +1,4 @@
+pub mod Labels
+pub mod Put
+pub mod Blank
+pub mod Fives

@@ -1,0 +1,5 @@
+pub mod Small
+pub mod Release
+pub mod Scratch
+pub mod Laws
+pub mod Calls

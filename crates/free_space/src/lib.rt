@@ -1,0 +1,230 @@
+// What release and scratch do after the lookup: the data set's tracks counted and given back, its slots freed, the change planned; where it
+// fits, the data set is cut or taken out. Its extents are read where they stand, in the table.
+use dscb::Geometry;
+use set_extents::Kept;
+use update::DataSet;
+use update::Plan;
+ghost use mathlib.Core.Path.{_≡_};
+ghost use Prim.Native.Nat.{ℕ, _*_, _≤_, _<_, _+_};
+ghost use mathlib.Core.List.{List, [], _++_};
+ghost use lib.ListN.{length, take};
+ghost use Rattle.model.specs.Model.{slots, tracks, Extent};
+ghost use Rattle.rules.specs.Predicates.{Limits};
+ghost use Rattle.dscb.specs.Forms.{geometryOf};
+ghost use Rattle.dscb.specs.Records.{slotBytes};
+ghost use Rattle.set_extents.specs.Change.{GaveTail, SetIn, Stays, partOf};
+ghost use Rattle.free_space.specs.Giving.{At, FreedSlot, Measures, measuredExtents};
+ghost use lib.Dec.{leb};
+ghost use Rattle.rules.specs.Calls.{goodTtr, releaseSet, removeSet};
+ghost use Rattle.rules.specs.Entries.{lent, result, written};
+ghost use Rattle.free_space.specs.Shorter.{CutPlans, Shortens};
+ghost use Rattle.free_space.specs.Going.{GoingPlans};
+
+// A data set: the slots of its format 1 and its format 3, 0 for none, how many extents it has, its tracks and the lowest of them.
+pub struct Measured {
+    pub slot: usize,
+    pub slot3: usize,
+    pub count: usize,
+    pub tracks: u32,
+    pub lowest: u32,
+}
+
+// The data set whose format 1 is in slot k. Without a format 3 the record in slot 0 serves as one: no extent is read from it.
+pub fn measure(table: &[u8], g: Geometry, k: usize) -> Measured
+    requires { ⌜ Limits (geometryOf g) × (length (now table) ≡ 140 * slots (geometryOf g)) × (k < slots (geometryOf g)) ⌝ }
+    requires { ⌜ ((m : List ℕ) × (s : List ℕ) × At (geometryOf g) (now table) m s k) ⌝ }
+    ensures { λ r. ⌜ ((m s : List ℕ) (d : At (geometryOf g) (now (table .entry)) m s k) → Measures (geometryOf g) (now (table .entry)) k (d .it .label) r) ⌝ }
+{
+    let f1 = dscb::record_at(table, k);
+    let slot3 = open_table::third(f1, g);
+    let f3 = dscb::record_at(table, slot3);
+    let count = rows::wide(f1[59]) as usize; // DS1NOEPV
+    let x = set_extents::spread_of(f1, f3, count, g);
+    Measured {
+        slot: k,
+        slot3,
+        count,
+        tracks: x.all,
+        lowest: x.lowest,
+    }
+}
+
+// Makes free the tracks behind the first `keep` of the data set, and tells what stays of it.
+pub fn give_back(table: &[u8], g: Geometry, x: Measured, keep: u32, free_tracks: &mut [u64]) -> Kept
+    requires { ⌜ (length (now table) ≡ 140 * slots (geometryOf g)) × (x .slot < slots (geometryOf g)) × (x .slot3 < slots (geometryOf g)) × (tracks (geometryOf g) ≤ 64 * length (now «free_tracks»)) ⌝ }
+    requires { ⌜ SetIn (geometryOf g) (slotBytes (now table) (x .slot)) (slotBytes (now table) (x .slot3)) (x .count) ⌝ }
+    ensures { λ r. ⌜ GaveTail keep (measuredExtents (geometryOf g) (now (table .entry)) x) (now («free_tracks» .entry)) (now («free_tracks» .exit)) × Stays keep (measuredExtents (geometryOf g) (now (table .entry)) x) (tracks (geometryOf g)) (r .whole) (r .start) (r .count) ⌝ }
+{
+    let f1 = dscb::record_at(table, x.slot);
+    let f3 = dscb::record_at(table, x.slot3);
+    set_extents::give_tail(f1, f3, x.count, g, keep, free_tracks)
+}
+
+// Makes slot k free in the map of slots; 0 is none.
+pub fn free_slot(free_slots: &mut [u64], k: usize)
+    requires { ⌜ (length (now «free_slots») ≡ 8) × (k < 512) ⌝ }
+    ensures { λ _. ⌜ FreedSlot k (now («free_slots» .entry)) (now («free_slots» .exit)) ⌝ }
+{
+    if k == 0 {
+        return;
+    }
+    bitmap::give_range(free_slots, k, k + 1);
+}
+
+// Whether a data set with so many tracks may end with the block TTR.
+fn good_ttr(ttr: u32, all: u32) -> bool
+    ensures { λ r. ⌜ r ≡ goodTtr ttr all ⌝ }
+{
+    if ttr >= 16777216 {
+        return false;
+    }
+    if ttr / 256 + 1 > all {
+        return false;
+    }
+    if ttr % 256 >= 1 {
+        return true;
+    }
+    ttr / 256 == 0
+}
+
+// Whether no more than three extents stay: then the format 3 is freed.
+fn few_stay(k: Kept) -> bool
+    ensures { λ r. ⌜ ((es : List Extent) → k .whole ≤ length es → r ≡ leb (length (take (k .whole) es ++ partOf (k .start) (k .count))) 3) ⌝ }
+{
+    if k.count == 0 {
+        return k.whole <= 3;
+    }
+    k.whole <= 2
+}
+
+// What stays of a data set, whether that needs no format 3, and the plan.
+pub struct Cut {
+    pub kept: Kept,
+    pub few: bool,
+    pub plan: Plan,
+}
+
+// Plans that the first `keep` tracks of a data set stay. A format 3 that goes is free before new format 5s are placed.
+pub fn plan_release(
+    table: &[u8],
+    g: Geometry,
+    free_tracks: &mut [u64],
+    free_slots: &mut [u64],
+    chain: &mut [u16],
+    set: Measured,
+    keep: u32,
+) -> Cut
+    requires { ⌜ Limits (geometryOf g) × (length (now table) ≡ 140 * slots (geometryOf g)) × (tracks (geometryOf g) ≤ 64 * length (now «free_tracks»)) × (length (now «free_slots») ≡ 8) × (length (now chain) ≡ 468) × (set .slot < slots (geometryOf g)) × (set .slot3 < slots (geometryOf g)) ⌝ }
+    requires { ⌜ SetIn (geometryOf g) (slotBytes (now table) (set .slot)) (slotBytes (now table) (set .slot3)) (set .count) ⌝ }
+    ensures { λ r. ⌜ CutPlans (geometryOf g) (now (table .entry)) (now («free_tracks» .entry)) (now («free_tracks» .exit)) (now («free_slots» .entry)) (now («free_slots» .exit)) (now (chain .exit)) set keep r ⌝ }
+{
+    let kept = give_back(table, g, set, keep, free_tracks);
+    let few = few_stay(kept);
+    free_slot(free_slots, update::if_few(few, set.slot3));
+    let asked = update::asked_for(set.slot, set.slot3, few);
+    let lo = set.lowest as usize;
+    let plan = update::plan_slots(table, g, free_tracks, free_slots, chain, asked, lo);
+    Cut { kept, few, plan }
+}
+
+// Makes the records of a data set those of what stays of it, with TTR as its last block.
+fn cut_set(f1: &mut [u8; 140], f3: &mut [u8; 140], g: Geometry, kept: Kept, ttr: u32)
+    requires { ⌜ (length (now f1) ≡ 140) × (length (now f3) ≡ 140) × (kept .whole ≤ 16) × (1 ≤ kept .count → kept .whole < 16) × (kept .start + kept .count ≤ 65535) × Limits (geometryOf g) × (ttr < 16777216) ⌝ }
+    ensures { λ _. ⌜ Shortens (geometryOf g) ttr (kept .whole) (kept .start) (kept .count) (now (f1 .entry)) (now (f3 .entry)) (now (f1 .exit)) (now (f3 .exit)) ⌝ }
+{
+    set_extents::cut_records(f1, f3, g, kept);
+    dscb_write::set_ttr(f1, ttr);
+}
+
+// Cuts the data set in slot k behind the block TTR and writes it: 0, 11 or 12.
+pub fn release_set(
+    table: &mut [u8],
+    g: Geometry,
+    free_tracks: &mut [u64],
+    free_slots: &mut [u64],
+    k: usize,
+    ttr: u32,
+    answer: &mut [u8],
+) -> u32
+    requires { ⌜ Limits (geometryOf g) × (length (now table) ≡ 140 * slots (geometryOf g)) × (tracks (geometryOf g) ≤ 64 * length (now «free_tracks»)) × (length (now «free_slots») ≡ 8) × (k < slots (geometryOf g)) × (length (now answer) ≡ 24) ⌝ }
+    requires { ⌜ At (geometryOf g) (now table) (now «free_tracks») (now «free_slots») k ⌝ }
+    ensures { λ r. ⌜ ((d : At (geometryOf g) (now (table .entry)) (now («free_tracks» .entry)) (now («free_slots» .entry)) k) → result r (lent (now (table .exit)) (now (answer .exit)) []) ≡ written (lent (now (table .entry)) (now (answer .entry)) []) (releaseSet (d .volume) (d .name) ttr (d .it .label))) ⌝ }
+{
+    let x = measure(table, g, k);
+    if good_ttr(ttr, x.tracks) {} else {
+        return 12;
+    }
+    let keep = ttr / 256 + 1;
+    let mut chain = [0u16; 468];
+    let cut = plan_release(table, g, free_tracks, free_slots, &mut chain, x, keep);
+    let plan = cut.plan;
+    if plan.fits {} else {
+        return 11;
+    }
+    let mut f1 = dscb_write::record_of(dscb::record_at(table, k));
+    let mut f3 = data_set::third_record(table, x.slot3);
+    cut_set(&mut f1, &mut f3, g, cut.kept, ttr);
+    let set = DataSet {
+        slot: x.slot,
+        slot3: x.slot3,
+        few: cut.few,
+        f1,
+        f3,
+    };
+    update::write_set(table, g, free_tracks, &chain, plan, set);
+    answers::put_back(answer, x.tracks - keep);
+    0
+}
+
+// A data set that is to go, and the plan of what is left.
+pub struct Leaving {
+    pub set: Measured,
+    pub plan: Plan,
+}
+
+// Plans that the data set in slot k goes. Its tracks and slots are free before new format 5s are placed.
+pub fn plan_scratch(
+    table: &[u8],
+    g: Geometry,
+    free_tracks: &mut [u64],
+    free_slots: &mut [u64],
+    chain: &mut [u16],
+    k: usize,
+) -> Leaving
+    requires { ⌜ Limits (geometryOf g) × (length (now table) ≡ 140 * slots (geometryOf g)) × (tracks (geometryOf g) ≤ 64 * length (now «free_tracks»)) × (length (now «free_slots») ≡ 8) × (length (now chain) ≡ 468) × (k < slots (geometryOf g)) ⌝ }
+    requires { ⌜ At (geometryOf g) (now table) (now «free_tracks») (now «free_slots») k ⌝ }
+    ensures { λ r. ⌜ ((d : At (geometryOf g) (now (table .entry)) (now («free_tracks» .entry)) (now («free_slots» .entry)) k) → GoingPlans (geometryOf g) (now (table .entry)) (now («free_tracks» .entry)) (now («free_tracks» .exit)) (now («free_slots» .entry)) (now («free_slots» .exit)) (now (chain .exit)) k (d .it .label) r) ⌝ }
+{
+    let set = measure(table, g, k);
+    give_back(table, g, set, 0, free_tracks);
+    free_slot(free_slots, k);
+    free_slot(free_slots, set.slot3);
+    let lo = set.lowest as usize;
+    let plan = update::plan_slots(table, g, free_tracks, free_slots, chain, 0, lo);
+    Leaving { set, plan }
+}
+
+// Takes out the data set in slot k: 0, or 11 for a full VTOC.
+pub fn scratch_set(
+    table: &mut [u8],
+    g: Geometry,
+    free_tracks: &mut [u64],
+    free_slots: &mut [u64],
+    k: usize,
+    answer: &mut [u8],
+) -> u32
+    requires { ⌜ Limits (geometryOf g) × (length (now table) ≡ 140 * slots (geometryOf g)) × (tracks (geometryOf g) ≤ 64 * length (now «free_tracks»)) × (length (now «free_slots») ≡ 8) × (k < slots (geometryOf g)) × (length (now answer) ≡ 24) ⌝ }
+    requires { ⌜ At (geometryOf g) (now table) (now «free_tracks») (now «free_slots») k ⌝ }
+    ensures { λ r. ⌜ ((d : At (geometryOf g) (now (table .entry)) (now («free_tracks» .entry)) (now («free_slots» .entry)) k) → result r (lent (now (table .exit)) (now (answer .exit)) []) ≡ written (lent (now (table .entry)) (now (answer .entry)) []) (removeSet (d .volume) (d .name) (d .it .label))) ⌝ }
+{
+    let mut chain = [0u16; 468];
+    let going = plan_scratch(table, g, free_tracks, free_slots, &mut chain, k);
+    let set = going.set;
+    let plan = going.plan;
+    if plan.fits {} else {
+        return 11;
+    }
+    update::write_drop(table, g, free_tracks, &chain, plan, set.slot, set.slot3);
+    answers::put_back(answer, set.tracks);
+    0
+}

@@ -1,0 +1,189 @@
+-- A grant, planned and ready to be written. Assumes nothing.
+use mathlib.Core.Path.{_≡_, refl, sym, ap, _∙_, subst}
+use mathlib.Core.Bool.{Bool, true, false, cond}
+use mathlib.Core.Option.{none}
+use mathlib.Core.List.{List, [], _∷_, _++_, map}
+use Prim.Native.Nat.{ℕ, _+_, _≤_}
+use native.Mathlib.Omega.{arith}
+use lib.Dec.{leb, eqb, leb→le}
+use lib.ListN.{length, length-append, length-map}
+use Rattle.grant_space.specs.declared.Holder.{Holder}
+use Rattle.grant_space.specs.declared.Grantee.{Grantee}
+use Rattle.model.specs.Basics.{bit}
+use Rattle.model.specs.Model.{Extent, Geometry, Label, Run, Volume, covers, extent, held, oneSlot, overs, runsOf, slots, tally, times, tracks, used}
+use Rattle.model.proofs.Lists.{sum-append, true-is}
+use Rattle.model.specs.Predicates.{All}
+use Rattle.rules.specs.Slots.{asks, kept3}
+use Rattle.rules.specs.Table.{fewExtents}
+use Rattle.rules.proofs.Settle.{used-tally}
+use Rattle.rules.proofs.Valid.{held-times, slots-tally}
+use Rattle.bitmap.specs.Map.{Shows, Room}
+use Rattle.bitmap.proofs.Held.{shows-same}
+use Rattle.check_label.specs.Marks.{units}
+use Rattle.request.proofs.Laws.{pieces-room}
+use Rattle.set_extents.specs.Change.{InRecords, PieceIn, granted as more}
+use Rattle.set_extents.proofs.Laws.{pieces-good}
+use Rattle.update.specs.declared.Plan.{Plan}
+use Rattle.update.specs.Commit.{Draft, Leaves, Puts, drafted}
+use Rattle.update.proofs.Put.{put-full}
+use Rattle.update.proofs.Sets.{slots-shown}
+use Rattle.grant_space.specs.Granting.{GrantPlans, GrantWrites, Grants, grown}
+
+-- the tracks of more extents
+times-more : (kind : ℕ) (es : List Extent) (ps : List Run) (t : ℕ) → times t (overs (es ++ map (extent kind) ps)) ≡ times t (overs es) + times t ps
+times-more kind [] [] t = refl
+times-more kind [] (p ∷ ps) t = let e = times-more kind [] ps t in omega arith
+times-more kind (e ∷ es) ps t = let i = times-more kind es ps t in omega arith
+
+-- a format 3 that is freed was none
+third-kept : (b : Bool) (q k : ℕ) → (b ≡ true → q ≡ 0) → tally k (oneSlot (cond b 0 q)) ≡ tally k (oneSlot q)
+third-kept true q k h = rw (h refl)
+third-kept false q k h = refl
+
+-- what the label asks for, few or not
+pub asked-is : (h : Holder) (asked : ℕ) (few : Bool) → few ≡ leb (h .extents + h .count) 3 → asked ≡ asks (h .slot) + cond few 0 (asks (h .slot3))
+    → asked ≡ asks (h .slot) + cond (leb (h .extents + h .count) 3) 0 (asks (h .slot3))
+asked-is h asked few f e = e ∙ ap (λ (b : Bool). asks (h .slot) + cond b 0 (asks (h .slot3))) f
+
+module _ {g : Geometry} {t m s : List ℕ} {h : Holder} {rows : List (List ℕ)} (d : Grants g t m s h rows) where
+  abbrev v : Volume
+  v = d .volume
+
+  abbrev n : ℕ
+  n = h .extents
+
+  abbrev count : ℕ
+  count = h .count
+
+  abbrev kind : ℕ
+  kind = h .«type_byte»
+
+  abbrev L : Label
+  L = more kind (d .pieces) (d .label)
+
+  tracks-shown : Shows m (tracks g) (held g (v .labels))
+  tracks-shown = subst (λ (y : Geometry). Shows m (tracks y) (held y (v .labels))) (d .geometryIs) (d .shown .freeTracks)
+
+  below : All (λ p. p .start + p .count ≤ tracks g) (d .pieces)
+  below = subst (λ (y : Geometry). All (λ p. p .start + p .count ≤ tracks y) (d .pieces)) (d .geometryIs) (d .good .below)
+
+  room : Room m (tracks g) (d .pieces)
+  room = subst (λ (y : Geometry). Room m (tracks y) (d .pieces)) (d .geometryIs) (pieces-room m v (d .pieces) (d .shown .freeTracks) (d .good))
+
+  -- ---- the pieces
+
+  pub pieces-in : (k : ℕ) → tracks g ≤ k → All (PieceIn k) rows
+  pieces-in k h = pieces-good (tracks g) k (d .pieces) h (d .good .full) below rows (d .rowsAre)
+
+  length-more : length (L .extents) ≡ n + count
+  length-more =
+      let a = length-append (d .label .extents) (map (extent kind) (d .pieces)) in
+      let b = length-map (d .pieces) (extent kind) in
+      let c = d .extentsAre in
+      let e = d .countIs in
+      omega arith
+
+  few-none : fewExtents L ≡ true → d .label .slot3 ≡ 0
+  few-none e = d .few (let a = leb→le (length (L .extents)) 3 (true-is e) in let b = length-more in let c = d .extentsAre in omega arith)
+
+  -- ---- what the maps show then
+
+  held-more : (k : ℕ) → times k (d .pieces ++ held g (v .labels)) ≡ times k (held g (kept3 L ∷ d .others))
+  held-more k =
+      let a = sum-append (λ r. bit (covers r k)) (d .pieces) (held g (v .labels)) in
+      let b = d .heldApart k in
+      let c = sum-append (λ r. bit (covers r k)) (runsOf (d .label)) (held g (d .others)) in
+      let e = held-times g (d .others) k in
+      let f = held-times g (kept3 L ∷ d .others) k in
+      let i = times-more kind (d .label .extents) (d .pieces) k in
+      omega arith
+
+  used-more : (k : ℕ) → tally k (used (v .labels) (v .chain)) ≡ tally k (used (kept3 L ∷ d .others) (v .chain))
+  used-more k =
+      let a = d .usedSame k in
+      let b = used-tally (d .label ∷ d .others) (v .chain) k in
+      let c = used-tally (kept3 L ∷ d .others) (v .chain) k in
+      let e = slots-tally (d .label ∷ d .others) k in
+      let f = slots-tally (kept3 L ∷ d .others) k in
+      let i = sum-append (λ x. bit (eqb x k)) (oneSlot (d .label .slot)) (oneSlot (d .label .slot3)) in
+      let j = sum-append (λ x. bit (eqb x k)) (oneSlot (d .label .slot)) (oneSlot (cond (fewExtents L) 0 (d .label .slot3))) in
+      let q = third-kept (fewExtents L) (d .label .slot3) k few-none in
+      omega arith
+
+  same-used : (k : ℕ) → tally k (used (L ∷ d .others) (v .chain)) ≡ tally k (used (v .labels) (v .chain))
+  same-used k =
+      let a = d .usedSame k in
+      let b = used-tally (d .label ∷ d .others) (v .chain) k in
+      let c = used-tally (L ∷ d .others) (v .chain) k in
+      let e = slots-tally (d .label ∷ d .others) k in
+      let f = slots-tally (L ∷ d .others) k in
+      omega arith
+
+  -- ---- planned
+
+  module _ {m′ s′ c : List ℕ} {p : Plan} (x : GrantPlans g t m m′ s s′ c h rows p) where
+    all-shown : Shows m′ (tracks g) (d .pieces ++ held g (v .labels))
+    all-shown = x .took .held (tracks g) (d .pieces) (d .rowsAre) below room (held g (v .labels)) tracks-shown
+
+    pub draft : (few : Bool) → few ≡ leb (n + count) 3 → Draft g t m′ s (x .lo) (h .slot) (h .slot3) few
+    draft few f =
+        record {
+          volume = v;
+          others = d .others;
+          label = L;
+          ready = d .ready;
+          geometryIs = d .geometryIs;
+          slotIs = d .slotIs;
+          slot3Is = d .slot3Is;
+          fewIs = f ∙ ap (λ (k : ℕ). leb k 3) (sym length-more);
+          shownTracks =
+              shows-same m′ (tracks g) (d .pieces ++ held g (v .labels)) (held g (kept3 L ∷ d .others)) (λ k u. held-more k) all-shown;
+          lowIn = x .lowIn;
+          below = λ k u.
+              let a = all-shown k (omega (arith, x .lowIn)) in
+              let b = x .lowest (d .pieces) (d .rowsAre) k u in
+              let e = sum-append (λ r. bit (covers r k)) (d .pieces) (held g (v .labels)) in
+              omega arith;
+          shownSlots =
+              slots-shown s (slots g) (used (v .labels) (v .chain)) (used (kept3 L ∷ d .others) (v .chain)) (λ k u. used-more k)
+              (subst (λ (y : Geometry). Shows s (slots y) (units (used (v .labels) (v .chain)))) (d .geometryIs) (d .shown .freeSlots));
+          stays = d .stays;
+          slotOnce = λ k. let a = same-used k in let b = d .ready .valid .slotOnce k in omega arith;
+          slotIn = λ k u. same-used k ∙ d .ready .valid .slotIn k (let a = ap slots (d .geometryIs) in omega arith);
+          valid = d .valid;
+        }
+
+    -- the VTOC is full
+    pub grant-full : p .fits ≡ false → grown d ≡ none
+    unfolding draft
+    grant-full e = put-full (draft (leb (n + count) 3) refl) (x .askedIs) (x .plan) e
+
+-- ---- written
+
+module _ {g : Geometry} {t m′ c : List ℕ} {p : Plan} {x : Grantee} {rows : List (List ℕ)} (d : GrantWrites g t m′ c p x rows) where
+  abbrev holder : Holder
+  holder = x .set
+
+  module _ (few : Bool) (f : few ≡ leb (holder .extents + holder .count) 3) (f1 f3 : List ℕ)
+      (recs : InRecords g (more (holder .«type_byte») (d .grants .pieces) (d .grants .label)) f1 f3) where
+    -- what `write_set` asks
+    pub puts : Puts g t m′ c p (record { slot = holder .slot; slot3 = holder .slot3; few = few; f1 = f1; f3 = f3 })
+    unfolding draft
+    puts =
+        record {
+          emptyBefore = d .emptyBefore;
+          emptyAfter = d .emptyAfter;
+          lo = d .plans .lo;
+          asked = d .plans .asked;
+          draft = draft (d .grants) (d .plans) few f;
+          askedIs = d .plans .askedIs ∙ ap (λ (b : Bool). asks (holder .slot) + cond b 0 (asks (holder .slot3))) (sym f);
+          plan = d .plans .plan;
+          fits = d .fits;
+          first = recs .one;
+          third = λ _. recs .three;
+        }
+
+    pub grant-done : (t′ : List ℕ) → ((y : Puts g t m′ c p (record { slot = holder .slot; slot3 = holder .slot3; few = few; f1 = f1; f3 = f3 })) → Leaves (drafted (y .draft)) t′)
+        → Leaves (grown (d .grants)) t′
+    unfolding draft puts
+    grant-done t′ y = y puts

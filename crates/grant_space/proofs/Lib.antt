@@ -1,0 +1,3 @@
+pub mod NewSet
+pub mod MoreSpace
+pub mod Laws

@@ -1,0 +1,187 @@
+// What allocate and extend do after the lookup: pieces are chosen, leave the map, and the slots are planned; where they fit, the data
+// set's records get the pieces and the table is written.
+use dscb::Geometry;
+use request::Request;
+use update::DataSet;
+use update::Plan;
+ghost use mathlib.Core.Path.{_≡_};
+ghost use Prim.Native.Nat.{_+_, _*_, _≤_, _<_};
+ghost use lib.Dec.{leb};
+ghost use lib.ListN.{length, take};
+ghost use Rattle.model.specs.Model.{slots, tracks};
+ghost use Rattle.rules.specs.Predicates.{Limits};
+ghost use Rattle.dscb.specs.Forms.{geometryOf};
+ghost use Rattle.update.specs.Commit.{Leaves};
+ghost use Rattle.grant_space.specs.Granting.{GrantPlans, GrantWrites, Grants, grown};
+ghost use Rattle.request.specs.Request.{toAmount};
+ghost use Rattle.grant_space.specs.Asking.{Asking, Chooses};
+ghost use Rattle.grant_space.specs.Longer.{Extended, Longer};
+
+// A data set that is granted pieces: the slots of its format 1 and its format 3, 0 for none, how many extents it has, how many
+// pieces it gets, and of which type.
+pub struct Holder {
+    pub slot: usize,
+    pub slot3: usize,
+    pub extents: usize,
+    pub count: usize,
+    pub type_byte: u8,
+}
+
+// The same with its records, which have no piece yet.
+pub struct Grantee {
+    pub set: Holder,
+    pub f1: [u8; 140],
+    pub f3: [u8; 140],
+}
+
+// Whether n extents and `count` more need no format 3.
+fn few(n: usize, count: usize) -> bool
+    requires { ⌜ n + count ≤ 16 ⌝ }
+    ensures { λ r. ⌜ r ≡ leb (n + count) 3 ⌝ }
+{
+    n + count <= 3
+}
+
+// Takes the pieces out of the map of tracks and plans the slots.
+pub fn plan_grant(
+    table: &[u8],
+    g: Geometry,
+    free_tracks: &mut [u64],
+    free_slots: &mut [u64],
+    chain: &mut [u16],
+    set: Holder,
+    pieces: [[u16; 2]; 5],
+) -> Plan
+    requires { ⌜ Limits (geometryOf g) × (length (now table) ≡ 140 * slots (geometryOf g)) × (tracks (geometryOf g) ≤ 64 * length (now «free_tracks»)) × (length (now «free_slots») ≡ 8) × (length (now chain) ≡ 468) × (set .count ≤ 5) × (set .extents + set .count ≤ 16) ⌝ }
+    requires { ⌜ Grants (geometryOf g) (now table) (now «free_tracks») (now «free_slots») set (take (set .count) pieces) ⌝ }
+    ensures { λ r. ⌜ GrantPlans (geometryOf g) (now (table .entry)) (now («free_tracks» .entry)) (now («free_tracks» .exit)) (now («free_slots» .entry)) (now («free_slots» .exit)) (now (chain .exit)) set (take (set .count) pieces) r ⌝ }
+{
+    let lo = set_extents::lowest_piece(pieces, set.count, g.cylinders * g.heads);
+    set_extents::take_pieces(free_tracks, pieces, set.count);
+    let small = few(set.extents, set.count);
+    let asked = update::asked_for(set.slot, set.slot3, small);
+    update::plan_slots(table, g, free_tracks, free_slots, chain, asked, lo as usize)
+}
+
+// Puts the pieces into the records and writes the table.
+pub fn write_grant(
+    table: &mut [u8],
+    g: Geometry,
+    free_tracks: &[u64],
+    chain: &[u16],
+    plan: Plan,
+    to: Grantee,
+    pieces: [[u16; 2]; 5],
+)
+    requires { ⌜ Limits (geometryOf g) × (length (now table) ≡ 140 * slots (geometryOf g)) × (tracks (geometryOf g) ≤ 64 * length (now «free_tracks»)) × (to .set .slot < slots (geometryOf g)) × (to .set .slot3 < slots (geometryOf g)) × (to .set .count ≤ 5) × (to .set .extents + to .set .count ≤ 16) × (length (to .f1) ≡ 140) × (length (to .f3) ≡ 140) ⌝ }
+    requires { ⌜ GrantWrites (geometryOf g) (now table) (now «free_tracks») (now chain) plan to (take (to .set .count) pieces) ⌝ }
+    ensures { λ _. ⌜ ((d : GrantWrites (geometryOf g) (now (table .entry)) (now («free_tracks» .entry)) (now (chain .entry)) plan to (take (to .set .count) pieces)) → Leaves (grown (d .grants)) (now (table .exit))) ⌝ }
+{
+    let holder = to.set;
+    let mut f1 = to.f1;
+    let mut f3 = to.f3;
+    set_extents::add_pieces(
+        &mut f1,
+        &mut f3,
+        g,
+        holder.extents,
+        holder.type_byte,
+        pieces,
+        holder.count,
+    );
+    let set = DataSet {
+        slot: holder.slot,
+        slot3: holder.slot3,
+        few: few(holder.extents, holder.count),
+        f1,
+        f3,
+    };
+    update::write_set(table, g, free_tracks, chain, plan, set);
+}
+
+// Chooses the pieces of a request that is not refused so far, and grants them to a new data set: 0, 9 or 11.
+pub fn place(
+    table: &mut [u8],
+    g: Geometry,
+    free_tracks: &mut [u64],
+    free_slots: &mut [u64],
+    name: &[u8],
+    attributes: &[u8],
+    request: Request,
+    answer: &mut [u8],
+) -> u32
+    requires { ⌜ Asking (now table) (now «free_tracks») (now «free_slots») (now name) (now attributes) (now answer) (geometryOf g) (toAmount (request .amount)) (request .secondary) ⌝ }
+    ensures { λ r. ⌜ Chooses (now (table .entry)) (now (name .entry)) (now (attributes .entry)) (now (answer .entry)) (toAmount (request .amount)) (request .secondary) r (now (table .exit)) (now (answer .exit)) ⌝ }
+{
+    let amount = request.amount;
+    let pieces = request::fulfil(table, free_tracks, g, amount);
+    let got = choose_pieces::count_pieces(pieces);
+    if got.count == 0 {
+        return 9;
+    }
+    let set = Holder {
+        slot: 0,
+        slot3: 0,
+        extents: 0,
+        count: got.count,
+        type_byte: request::type_byte(amount),
+    };
+    let mut chain = [0u16; 468];
+    let plan = plan_grant(table, g, free_tracks, free_slots, &mut chain, set, pieces);
+    if plan.fits {} else {
+        return 11;
+    }
+    let unit = request::unit_byte(amount);
+    let f1 = dscb_write::new_label(name, attributes, unit, request.secondary);
+    let f3 = dscb_write::empty_three();
+    let to = Grantee { set, f1, f3 };
+    write_grant(table, g, free_tracks, &chain, plan, to, pieces);
+    answers::put_granted(answer, pieces, got.count, got.tracks);
+    0
+}
+
+// Grants the data set whose format 1 is in slot k its secondary amount: 0, 8, 9, 10 or 11.
+pub fn lengthen(
+    table: &mut [u8],
+    g: Geometry,
+    free_tracks: &mut [u64],
+    free_slots: &mut [u64],
+    k: usize,
+    answer: &mut [u8],
+) -> u32
+    requires { ⌜ Longer (now table) (now «free_tracks») (now «free_slots») (now answer) (geometryOf g) k ⌝ }
+    ensures { λ r. ⌜ ((d : Longer (now (table .entry)) (now («free_tracks» .entry)) (now («free_slots» .entry)) (now (answer .entry)) (geometryOf g) k) → Extended d r (now (table .exit)) (now (answer .exit))) ⌝ }
+{
+    let held = data_set::set_at(table, g, k);
+    let f1 = held.f1;
+    let f3 = held.f3;
+    let secondary = rows::three(&f1, 95); // DS1SCALO
+    if secondary == 0 {
+        return 8;
+    }
+    let amount = request::secondary_of(f1[94], secondary);
+    let pieces = request::fulfil(table, free_tracks, g, amount);
+    let got = choose_pieces::count_pieces(pieces);
+    if got.count == 0 {
+        return 9;
+    }
+    if held.count + got.count > 16 {
+        return 10;
+    }
+    let set = Holder {
+        slot: k,
+        slot3: held.slot3,
+        extents: held.count,
+        count: got.count,
+        type_byte: request::type_byte(amount),
+    };
+    let mut chain = [0u16; 468];
+    let plan = plan_grant(table, g, free_tracks, free_slots, &mut chain, set, pieces);
+    if plan.fits {} else {
+        return 11;
+    }
+    let to = Grantee { set, f1, f3 };
+    write_grant(table, g, free_tracks, &chain, plan, to, pieces);
+    answers::put_granted(answer, pieces, got.count, got.tracks);
+    0
+}

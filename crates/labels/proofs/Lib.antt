@@ -1,3 +1,0 @@
-pub mod Format1
-pub mod Format3
-pub mod Following

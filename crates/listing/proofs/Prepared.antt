@@ -1,0 +1,105 @@
+-- A taken table is ready-to-list to be listed, and its parts make the listing. Assumes nothing.
+use mathlib.Core.Path.{_≡_, sym, ap, _∙_, subst}
+use mathlib.Core.Bool.{true, false}
+use mathlib.Core.List.{List, [], _∷_}
+use Prim.Native.Nat.{ℕ, _*_, _≤_}
+use native.Mathlib.Omega.{arith}
+use lib.Dec.{T}
+use lib.ListN.{length}
+use Rattle.model.specs.Basics.{flat}
+use Rattle.model.specs.Model.{Geometry, Volume, format0s, free, runsOf, slots, total, tracks}
+use Rattle.model.specs.Predicates.{All}
+use Rattle.rules.specs.Demand3.{sound}
+use Rattle.rules.specs.Listing.{dataLine, freeLine, listing, listingOf, refusalLine, slotLine, volumeLine}
+use Rattle.rules.specs.Reading.{read}
+use Rattle.rules.specs.Table.{goodLength, taken, valid}
+use Rattle.rules.proofs.Keyed.{count}
+use Rattle.rules.proofs.Taken.{taken-is}
+use Rattle.rules.specs.Predicates.{Valid}
+use Rattle.rules.specs.Sound.{LabelOk, Sound}
+use Rattle.rules.proofs.Meaning.{recordsOf, taken-sound}
+use Rattle.bitmap.specs.Map.{freeFrom}
+use Rattle.check_table.specs.Labels.{labelsBelow}
+use Rattle.listing.specs.Text.{Written, volumeText}
+use Rattle.listing.proofs.Decimals.{then}
+use Rattle.listing.proofs.Extents.{good-proper, tracks-most}
+use Rattle.listing.proofs.Volumes.{volume-text}
+use Rattle.check_table.specs.Check.{Shown, Tells, volumeAt}
+use Rattle.check_table.proofs.Free.{free-shown}
+use Rattle.check_table.proofs.Pieces.{third-below}
+use Rattle.check_table.proofs.Read.{volume-is}
+use Rattle.check_table.proofs.Whole.{geometry-read, taken-long}
+use Rattle.listing.specs.Whole.{Listable, ReadyToList}
+use Rattle.listing.proofs.Passes.{reads, widen}
+
+-- ---- a taken table
+
+all-two : {A : Type 0} (P Q R : A → Type 0) → ((x : A) → P x → Q x → R x) → (xs : List A) → All P xs → All Q xs → All R xs
+all-two P Q R f [] a b = tt
+all-two P Q R f (x ∷ xs) a b = (f x (a .0) (b .0), all-two P Q R f xs (a .1) (b .1))
+
+module _ (g : Geometry) (t m s : List ℕ) (len : length t ≡ 140 * slots g) (v : read t ≡ volumeAt g t) (valid : Valid (volumeAt g t)) (sound : Sound (recordsOf t) (volumeAt g t)) (shown : Shown (volumeAt g t) m s)
+    (count top : ℕ) (tells : Tells (volumeAt g t) g count top) where
+  ready-so : ReadyToList g count t m
+  ready-so =
+      let rs = recordsOf t in
+      record {
+        limits = sound .limits;
+        long = len;
+        volume = v;
+        labels =
+            all-two (LabelOk g rs) (λ l. total (runsOf l) ≤ 65535) (Listable g)
+            (λ l x y.
+            record {
+              most = x .good .most;
+              proper = good-proper g (sound .limits) l (x .good);
+              tracks = y;
+              third = let p = sound .many in let z = sound .limits .least in let w = third-below g rs l (omega arith) x in omega arith;
+            })
+            (labelsBelow g t (slots g)) (sound .labels) (tracks-most (volumeAt g t) valid);
+        freeTracks = free-shown (volumeAt g t) m s shown;
+        countIs = tells .countIs;
+        countMost = tells .countMost;
+      }
+
+pub ready-to-list : (t m s : List ℕ) (g : Geometry) (count top : ℕ) → T (taken t) → Shown (read t) m s → Tells (read t) g count top → ReadyToList g count t m
+ready-to-list t m s g count top x w tells =
+    let p = taken-is t x in
+    let y = taken-sound t x in
+    let l = taken-long t x in
+    let n = y .limits .least in
+    let q : g ≡ read t .geometry = tells .geometryIs in
+    let z : slots g ≡ slots (read t .geometry) = ap slots q in
+    let len : length t ≡ 140 * slots g = omega arith in
+    let v : read t ≡ volumeAt g t = volume-is g t len (omega arith) (q ∙ geometry-read t (omega arith)) in
+    ready-so g t m s len v (subst Valid v (p .0)) (subst (Sound (recordsOf t)) v y) (subst (λ (u : Volume). Shown u m s) v w) count top
+    (subst (λ (u : Volume). Tells u g count top) v tells)
+
+-- ---- its listing
+
+module _ (g : Geometry) (count : ℕ) (t m : List ℕ) (h : ReadyToList g count t m) where
+  pub whole-written : {a b d r : ℕ} {o o₁ o₂ o₃ o₄ : List ℕ}
+      → Written 0 (volumeText (g .cylinders) (g .heads)) 64 o o₁ a
+      → Written a (flat dataLine (labelsBelow g t (slots g))) 29952 o₁ o₂ b
+      → Written b (flat freeLine (freeFrom m (tracks g) 0)) (14 * tracks g) o₂ o₃ d
+      → Written d (slotLine count) 64 o₃ o₄ r → Written 0 (listingOf (read t)) 1000000 o o₄ r
+  whole-written v w x y =
+      let top = h .limits .tracksMost in
+      reads (listingOf (read t)) (ap listingOf (sym (h .volume)))
+      (widen 1000000 (omega arith)
+      (then (then (then (reads (volumeLine g) (volume-text g) v) w) (reads (flat freeLine (free g (labelsBelow g t (slots g)))) (ap (flat freeLine) (h .freeTracks)) x))
+      (reads (slotLine (length (format0s (volumeAt g t)))) (ap slotLine (h .countIs)) y)))
+
+-- ---- refused or not
+
+pub list-wrong-length : (t : List ℕ) → goodLength t ≡ false → refusalLine 2 ≡ listing t
+unfolding listing
+list-wrong-length t h = rw h
+
+pub not-taken : (t : List ℕ) → goodLength t ≡ true → taken t ≡ false → refusalLine 3 ≡ listing t
+unfolding listing
+not-taken t h k = rw (h, k)
+
+pub is-taken : (t : List ℕ) → goodLength t ≡ true → taken t ≡ true → listingOf (read t) ≡ listing t
+unfolding listing
+is-taken t h k = rw (h, k)

@@ -1,0 +1,50 @@
+use native.Mathlib.Omega.{arith}
+use Rattle.dscb.specs.Forms.{geometryOf}
+use Rattle.listing.proofs.Volumes.{small-volume}
+use Rattle.listing.proofs.Prepared.{whole-written}
+use Rattle.listing.proofs.Passes.{first-line}
+use borrow.Author.Needs.{needs}
+use Rattle.listing.proofs.list_taken.Statement.{statement}
+use Rattle.listing.proofs.list_taken.Tie as tie
+
+volume-line-requires : tie.Need-volume-line-requires
+volume-line-requires c κs = let s = small-volume (geometryOf (c .before .before .before .before .args .g)) (c .before .before .before .before .pre .0 .limits) in (omega (arith, c .before .before .before .before .pre .2), s .cylinders, s .heads, s .tracks)
+
+data-lines-requires : tie.Need-data-lines-requires
+data-lines-requires c κs = search needs
+
+mul-free-lines : tie.Need-mul-free-lines
+mul-free-lines c = search needs
+
+cast-free-lines : tie.Need-cast-free-lines
+cast-free-lines c = search needs
+
+free-lines-requires : tie.Need-free-lines-requires
+free-lines-requires c κs = search needs
+
+put-slots-requires : tie.Need-put-slots-requires
+put-slots-requires c κs = search needs
+
+same-length : tie.Need-same-length
+same-length c = search needs
+
+returns : tie.Need-returns
+returns c =
+    let at-free-lines = c .before .before .before .before .before .before in
+    let at-data-lines = at-free-lines .before .before .before .before .before in
+    let at-volume-line = at-data-lines .before .before .before .before in
+    let top = at-volume-line .before .before .before .before .before in
+    whole-written (geometryOf (top .args .g)) (top .args .format0s) (top .args .table .now) (top .args .free-tracks .now) (top .pre .0) (first-line (at-volume-line .volume-line .ensures)) (at-data-lines .data-lines .ensures) (at-free-lines .free-lines .ensures) (c .before .before .put-slots .ensures)
+
+pub list-taken-spec : {M : Type 1} → statement M
+list-taken-spec =
+    tie.close
+    (tie.spec
+    volume-line-requires
+    data-lines-requires
+    mul-free-lines
+    cast-free-lines
+    free-lines-requires
+    put-slots-requires
+    same-length
+    returns)

@@ -1,6 +1,0 @@
-pub mod Lengths
-pub mod Read
-pub mod Pieces
-pub mod Whole
-pub mod Free
-pub mod Room

@@ -1,0 +1,13 @@
+pub mod Pending
+pub mod Started
+pub mod Runs
+pub mod Kept
+pub mod Core
+pub mod Put
+pub mod Drop
+pub mod Planned
+pub mod Replies
+pub mod Sets
+pub mod Small
+pub mod Slots
+pub mod Changed

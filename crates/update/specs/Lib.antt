@@ -1,0 +1,3 @@
+pub mod Pending
+pub mod Commit
+pub mod Writing
