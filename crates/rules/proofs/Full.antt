@@ -11,12 +11,13 @@ use lib.Dec.{leb, ltb, eqb}
 use borrow.Author.Tests.{leb-true, leb-false, le-leb, lt-leb, ltb-true}
 use Rattle.model.specs.Basics.{bit, flat, sumOf}
 use Rattle.model.specs.Model.{Extent, Geometry, Label, Run, Volume, fivesFor, format0s, free, held, oneSlot, overs, runsOf, slots, slotsOf, tally, times, total, unused, used}
-use Rattle.model.proofs.Lists.{by, find-All, sum-take}
+use Rattle.model.proofs.Lists.{by, sum-take}
 use Rattle.model.specs.Predicates.{All}
 use Rattle.rules.specs.Calls.{Amount, Reply, Request, allocatePieces, extendPieces, givenBack, goodTtr, granted, keep, newSet, releaseSet, settled}
 use Rattle.rules.specs.Full.{NoneExactly, RefusedExactly, fivesNeeded, format1s, format3s, freed, full, members, needed}
 use Rattle.rules.specs.Slots.{added, askedBy, asks, changed, found, insertLabel, kept3, keptFives, placed, removed, settle, settleWith, stillUsed, withExtents, without}
-use Rattle.rules.specs.Table.{fewExtents, named}
+use Rattle.rules.specs.Table.{fewExtents}
+use Rattle.rules.proofs.FoundSet.{found-good}
 use Rattle.rules.proofs.Counted.{slotsIn, unused-length, used-length}
 use Rattle.rules.proofs.Labels.{without-sum}
 use Rattle.rules.proofs.Placed.{kept-le}
@@ -214,7 +215,7 @@ module _ (v : Volume) (h : Valid v) (n : List ℕ) (l : Label) (f : found v n �
   found-parts =
       record {
         sums = λ F. let a = without-sum F n (v .labels) l (h .differ) f in omega arith;
-        good = (find-All (GoodLabel (v .geometry)) (named n) (v .labels) l (h .good) f, tt);
+        good = (found-good v h n l f, tt);
       }
 
   -- extend and release: the label found, with other extents
