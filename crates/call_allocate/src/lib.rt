@@ -59,7 +59,7 @@ pub fn allocate(
 ) -> u32
     ensures { λ r. ⌜ Allocates (now (table .entry)) (now (name .entry)) (now (attributes .entry)) kind start amount secondary (now (answer .entry)) r (now (table .exit)) (now (answer .exit)) ⌝ }
 {
-    if open_table::few_tracks(table) {
+    if open_table::is_small(table) {
         let mut free_tracks = [u64::MAX; 64];
         return allocate_in(
             table,

@@ -9,8 +9,7 @@ ghost use Rattle.model.specs.Model.{slots};
 ghost use Rattle.rules.specs.Contracts.{Obtains};
 ghost use Rattle.rules.specs.Predicates.{Limits};
 ghost use Rattle.dscb.specs.Records.{slotBytes};
-ghost use Rattle.dscb.specs.Forms.{geometryOf};
-ghost use Rattle.check_label.specs.Label.{namedThird};
+ghost use Rattle.dscb.specs.Forms.{geometryOf, linkedSlot};
 ghost use Rattle.call_obtain.specs.Third.{orZeros};
 
 // The record in slot q, or zeros where q is 0.
@@ -27,11 +26,11 @@ fn record_or_zeros(table: &[u8], q: usize) -> [u8; 140]
 // Fills 280 bytes: the format 1 in slot k, then its format 3 or zeros.
 fn put_labels(table: &[u8], g: Geometry, k: usize, out: &mut [u8])
     requires { ⌜ Limits (geometryOf g) × (length (now table) ≡ 140 * slots (geometryOf g)) × (k < slots (geometryOf g)) × (length (now out) ≡ 280) ⌝ }
-    ensures { λ _. ⌜ now (out .exit) ≡ slotBytes (now (table .entry)) k ++ orZeros (now (table .entry)) (namedThird (geometryOf g) (slotBytes (now (table .entry)) k)) ⌝ }
+    ensures { λ _. ⌜ now (out .exit) ≡ slotBytes (now (table .entry)) k ++ orZeros (now (table .entry)) (linkedSlot (geometryOf g) (slotBytes (now (table .entry)) k)) ⌝ }
 {
     let f1 = dscb::record_at(table, k);
     let copied = dscb_write::record_of(f1);
-    let f3 = record_or_zeros(table, open_table::third(f1, g));
+    let f3 = record_or_zeros(table, dscb::link(f1, g));
     dscb::put_record(out, 0, &copied);
     dscb::put_record(out, 1, &f3);
 }

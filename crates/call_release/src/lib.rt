@@ -31,7 +31,7 @@ fn release_in(
 pub fn release(table: &mut [u8], name: &[u8], ttr: u32, answer: &mut [u8]) -> u32
     ensures { λ r. ⌜ Releases (now (table .entry)) (now (name .entry)) ttr (now (answer .entry)) r (now (table .exit)) (now (answer .exit)) ⌝ }
 {
-    if open_table::few_tracks(table) {
+    if open_table::is_small(table) {
         let mut free_tracks = [u64::MAX; 64];
         return release_in(table, name, ttr, answer, &mut free_tracks);
     }

@@ -58,18 +58,21 @@ module _ (g : Geometry) (limit : Limits g) (m m₁ m₂ : List ℕ) (r₁ r₂ :
       let q = taken-true m₁ m₂ 0 1 r₂ p y in
       shows-take m₁ m₂ (tracks g) 0 1 (run (g .vtocStart) (g .vtocTracks) ∷ []) k p (y .made q)
 
-  pub maps-begun : (s s₁ s₂ : List ℕ) (r₃ : Bool) → FreedBelow s s₁ (slots g) → Taken s₁ s₂ 0 1 r₃ → MapsBegun g m m₂ s s₂
-  maps-begun s s₁ s₂ r₃ c z =
+  pub maps-begun : (s s₁ s₂ : List ℕ) (r₃ : Bool) (n : ℕ) → n ≡ slots g → FreedBelow s s₁ n → Taken s₁ s₂ 0 1 r₃ → MapsBegun g m m₂ s s₂
+  maps-begun s s₁ s₂ r₃ n e c z =
       record {
         longMap = y .long ∙ x .long;
         longSlots = z .long ∙ c .long;
         freeTracks = tracks-begun;
-        freeSlots = first-taken s s₁ s₂ (slots g) r₃ (omega (arith, limit .least)) c z;
+        freeSlots = first-taken s s₁ s₂ (slots g) r₃ (omega (arith, limit .least)) (subst (FreedBelow s s₁) e c) z;
       }
 
 -- ---- the rest
 
-module _ (g : Geometry) (t s : List ℕ) (clear : Bool) (count : ℕ) (x : Spared t (slots g) s clear count) where
+module _ (g : Geometry) (t s : List ℕ) (clear : Bool) (count n : ℕ) (all : n ≡ slots g) (spared : Spared t n s clear count) where
+  x : Spared t (slots g) s clear count
+  x = subst (λ (k : ℕ). Spared t k s clear count) all spared
+
   pub rest-unclear : clear ≡ false → (v : Verdict) → v .taken ≡ false → RestTold g t s v
   rest-unclear e v f =
       record {
@@ -82,8 +85,11 @@ module _ (g : Geometry) (t s : List ℕ) (clear : Bool) (count : ℕ) (x : Spare
       }
 
   -- the verdict v, whose numbers are those that the format 4 is made of
-  module _ (e : clear ≡ true) (made rec : List ℕ) (v : Verdict) (is : geometryOf (v .geometry) ≡ g) (many : v .format0s ≡ count) (high : v .highest ≡ highestSlot t (slots g))
+  module _ (e : clear ≡ true) (made rec : List ℕ) (v : Verdict) (is : geometryOf (v .geometry) ≡ g) (many : v .format0s ≡ count) (highest : v .highest ≡ highestSlot t n)
       (four : made ≡ format4 g (v .highest) count) (first : rec ≡ slotBytes t 0) (o : v .taken ≡ same made rec) where
+    high : v .highest ≡ highestSlot t (slots g)
+    high = highest ∙ ap (highestSlot t) all
+
     count-is : (us : List ℕ) → Shows s (slots g) (units us) → count ≡ length (unused (slots g) us)
     count-is us w = x .many e ∙ count-unused s (slots g) us (λ k u. let a = w k u in let c = unit-tally k us in omega arith)
 
@@ -146,8 +152,8 @@ module _ (t m s : List ℕ) (v : Verdict) (out : v .taken ≡ false) where
           let q : read t .geometry ≡ g = geometry-read t u ∙ sym e in
           clash (is-true (taken-is t x .0 .limit)) (ap limits q ∙ f))
 
-      pub wrong-length : (length t ≡ 140 * slots g → ⊥) → Checked t m m s s v
-      wrong-length f =
+      pub wrong-length : (n : ℕ) → n ≡ slots g → (length t ≡ 140 * n → ⊥) → Checked t m m s s v
+      wrong-length n all f =
           no-maps t m s v out (λ x.
           let q : slots (read t .geometry) ≡ slots g = ap slots (geometry-read t u ∙ sym e) in
           let l = taken-long t x in

@@ -143,7 +143,7 @@ pub fn begin_maps(g: Geometry, free_tracks: &mut [u64], free_slots: &mut [u64])
     let end = start + g.vtoc_tracks as usize;
     let vtoc = bitmap::take_range(free_tracks, start, end);
     let label = bitmap::take_range(free_tracks, 0, 1);
-    bitmap::free_below(free_slots, (g.vtoc_tracks * g.records) as usize);
+    bitmap::free_below(free_slots, dscb::slots(g));
     let first = bitmap::take_range(free_slots, 0, 1);
 }
 
@@ -171,7 +171,7 @@ fn rest_ok(table: &[u8], g: Geometry, free_slots: &[u64]) -> Verdict
     requires { ⌜ Limits (geometryOf g) × (length (now table) ≡ 140 * slots (geometryOf g)) × (length (now «free_slots») ≡ 8) ⌝ }
     ensures { λ r. ⌜ RestTold (geometryOf g) (now (table .entry)) (now («free_slots» .entry)) r ⌝ }
 {
-    let n = (g.vtoc_tracks * g.records) as usize;
+    let n = dscb::slots(g);
     let spares = spare(table, n, free_slots);
     if spares.clear {} else {
         return not_taken();
@@ -216,14 +216,14 @@ pub fn check(table: &[u8], free_tracks: &mut [u64], free_slots: &mut [u64]) -> V
         return not_taken();
     }
     let rec = dscb::record_at(table, 0);
-    if rec[44] != 0xF4 {
+    if rec[DS4IDFMT] != FORMAT4 {
         return not_taken();
     }
     let g = dscb::geometry_of(rec);
     if dscb::limits(g) {} else {
         return not_taken();
     }
-    if table.len() != 140 * (g.vtoc_tracks * g.records) as usize {
+    if table.len() != 140 * dscb::slots(g) {
         return not_taken();
     }
     contents_ok(table, g, free_tracks, free_slots)

@@ -34,7 +34,7 @@ pub fn set_at(table: &[u8], g: Geometry, k: usize) -> Held
 {
     let label = dscb::record_at(table, k);
     let f1 = dscb_write::record_of(label);
-    let slot3 = open_table::third(label, g);
+    let slot3 = dscb::link(label, g);
     let f3 = third_record(table, slot3);
     let count = rows::wide(f1[59]) as usize; // DS1NOEPV
     Held {

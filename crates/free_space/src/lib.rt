@@ -36,7 +36,7 @@ pub fn measure(table: &[u8], g: Geometry, k: usize) -> Measured
     ensures { λ r. ⌜ ((m s : List ℕ) (d : At (geometryOf g) (now (table .entry)) m s k) → Measures (geometryOf g) (now (table .entry)) k (d .it .label) r) ⌝ }
 {
     let f1 = dscb::record_at(table, k);
-    let slot3 = open_table::third(f1, g);
+    let slot3 = dscb::link(f1, g);
     let f3 = dscb::record_at(table, slot3);
     let count = rows::wide(f1[59]) as usize; // DS1NOEPV
     let x = set_extents::spread_of(f1, f3, count, g);

@@ -12,7 +12,7 @@ use lib.Dec.{ltb}
 use lib.ListN.{length, take, drop, getD, length-append, length-drop, drop-of-length-le}
 use lib.Seq.{length-take-le, take-all, take-append-add}
 use Rattle.model.specs.Basics.{flat, upFrom}
-use Rattle.model.specs.Model.{Geometry, Label, Run, run, runs}
+use Rattle.model.specs.Model.{Geometry, Label, Run, run, runs, slots}
 use Rattle.model.proofs.Lists.{All-range, All-unflat, by}
 use Rattle.model.specs.Predicates.{All}
 use Rattle.rules.specs.Listing.{dataLine, decimal, decimalTo, freeLine, line}
@@ -209,8 +209,8 @@ module _ (g : Geometry) (t : List ℕ) where
   pub label-of : (P : Label → Type 0) (k : ℕ) → isLabel (slotBytes t k) ≡ true → All P (atSlot g t k) → P (labelAt g t k)
   label-of P k e a = (rw e at a) .0
 
-  pub data-done : {at p : ℕ} {o o′ : List ℕ} (k n : ℕ) → k ≤ n → n ≤ k → n ≤ 468 → Written at (flat dataLine (labelsBelow g t k)) (64 * k) o o′ p
-      → Written at (flat dataLine (labelsBelow g t n)) 29952 o o′ p
-  data-done k n u v h w =
-      let e : k ≡ n = omega arith in
-      reads (flat dataLine (labelsBelow g t n)) (ap (λ (x : ℕ). flat dataLine (labelsBelow g t x)) e) (widen 29952 (omega arith) w)
+  pub data-done : {at p : ℕ} {o o′ : List ℕ} (k n : ℕ) → n ≡ slots g → k ≤ n → n ≤ k → n ≤ 468 → Written at (flat dataLine (labelsBelow g t k)) (64 * k) o o′ p
+      → Written at (flat dataLine (labelsBelow g t (slots g))) 29952 o o′ p
+  data-done k n all u v h w =
+      let e : k ≡ slots g = omega arith in
+      reads (flat dataLine (labelsBelow g t (slots g))) (ap (λ (x : ℕ). flat dataLine (labelsBelow g t x)) e) (widen 29952 (omega arith) w)

@@ -78,16 +78,16 @@ ready-to-list t m s g count top x w tells =
 -- ---- its listing
 
 module _ (g : Geometry) (count : ℕ) (t m : List ℕ) (h : ReadyToList g count t m) where
-  pub whole-written : {a b d r : ℕ} {o o₁ o₂ o₃ o₄ : List ℕ}
+  pub whole-written : {a b d r : ℕ} {o o₁ o₂ o₃ o₄ : List ℕ} (n : ℕ) → n ≡ tracks g
       → Written 0 (volumeText (g .cylinders) (g .heads)) 64 o o₁ a
       → Written a (flat dataLine (labelsBelow g t (slots g))) 29952 o₁ o₂ b
-      → Written b (flat freeLine (freeFrom m (tracks g) 0)) (14 * tracks g) o₂ o₃ d
+      → Written b (flat freeLine (freeFrom m n 0)) (14 * n) o₂ o₃ d
       → Written d (slotLine count) 64 o₃ o₄ r → Written 0 (listingOf (read t)) 1000000 o o₄ r
-  whole-written v w x y =
+  whole-written n all v w x y =
       let top = h .limits .tracksMost in
       reads (listingOf (read t)) (ap listingOf (sym (h .volume)))
       (widen 1000000 (omega arith)
-      (then (then (then (reads (volumeLine g) (volume-text g) v) w) (reads (flat freeLine (free g (labelsBelow g t (slots g)))) (ap (flat freeLine) (h .freeTracks)) x))
+      (then (then (then (reads (volumeLine g) (volume-text g) v) w) (reads (flat freeLine (free g (labelsBelow g t (slots g)))) (ap (flat freeLine) (ap (λ (k : ℕ). freeFrom m k 0) all ∙ h .freeTracks)) x))
       (reads (slotLine (length (format0s (volumeAt g t)))) (ap slotLine (h .countIs)) y)))
 
 -- ---- refused or not

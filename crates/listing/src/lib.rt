@@ -1,5 +1,6 @@
 // The listing of a table: its lines, and the whole, taken or not.
 use dscb::Geometry;
+use dscb::places::*;
 ghost use mathlib.Core.Path.{_≡_};
 ghost use Prim.Native.Nat.{_+_, _*_, _≤_, _<_, _-_};
 ghost use mathlib.Core.List.{[], _∷_};
@@ -225,7 +226,7 @@ fn third(f1: &[u8], g: Geometry) -> usize
     requires { ⌜ (length (now f1) ≡ 140) × Limits (geometryOf g) ⌝ }
     ensures { λ r. ⌜ r ≡ slotAt (geometryOf g) (now (f1 .entry)) 135 ⌝ }
 {
-    let t = dscb::track_at(f1, 135, g.heads);
+    let t = dscb::track_at(f1, DS1PTRDS, g.heads);
     let d = less(t, g.vtoc_start);
     let r = rows::wide(f1[139]);
     less(d * g.records + r, 1) as usize
@@ -236,7 +237,7 @@ fn put_data(f1: &[u8], many: u32, n: u32, out: &mut [u8], at: usize) -> usize
     requires { ⌜ (length (now f1) ≡ 140) × (many < 100000) × (n < 100000) × (at + 64 ≤ length (now out)) ⌝ }
     ensures { λ r. ⌜ Written at (dataText (take 44 (now (f1 .entry))) many n) 64 (now (out .entry)) (now (out .exit)) r ⌝ }
 {
-    let name = &f1[..44];
+    let name = &f1[..DS1FMTID];
     let r = data_line(&mut out[at..], name, many, n);
     at + r
 }
@@ -249,7 +250,7 @@ fn put_label(table: &[u8], k: usize, g: Geometry, out: &mut [u8], at: usize) -> 
     let f1 = dscb::record_at(table, k);
     let q = third(f1, g);
     let f3 = dscb::record_at(table, q);
-    let n = rows::wide(f1[59]);
+    let n = rows::wide(f1[DS1NOEPV]);
     let many = tracks_of(f1, f3, n as usize, g.heads);
     put_data(f1, many, n, out, at)
 }
@@ -260,7 +261,7 @@ fn put_slot(table: &[u8], k: usize, g: Geometry, out: &mut [u8], at: usize) -> u
     ensures { λ r. ⌜ Written at (flat dataLine (atSlot (geometryOf g) (now (table .entry)) k)) 64 (now (out .entry)) (now (out .exit)) r ⌝ }
 {
     let rec = dscb::record_at(table, k);
-    if rec[44] != 0xF1 {
+    if rec[DS1FMTID] != FORMAT1 {
         return at;
     }
     put_label(table, k, g, out, at)
@@ -271,7 +272,7 @@ fn data_lines(table: &[u8], g: Geometry, out: &mut [u8], at: usize) -> usize
     requires { ⌜ Limits (geometryOf g) × (length (now table) ≡ 140 * slots (geometryOf g)) × All (Listable (geometryOf g)) (labelsBelow (geometryOf g) (now table) (slots (geometryOf g))) × (at + 29952 ≤ length (now out)) ⌝ }
     ensures { λ r. ⌜ Written at (flat dataLine (labelsBelow (geometryOf g) (now (table .entry)) (slots (geometryOf g)))) 29952 (now (out .entry)) (now (out .exit)) r ⌝ }
 {
-    let n = (g.vtoc_tracks * g.records) as usize;
+    let n = dscb::slots(g);
     let mut p = at;
     let mut k: usize = 0;
     while k < n {
@@ -305,7 +306,7 @@ fn list_taken(
 {
     let a = volume_line(out, g.cylinders, g.heads);
     let b = data_lines(table, g, out, a);
-    let c = free_lines(free_tracks, (g.cylinders * g.heads) as usize, out, b);
+    let c = free_lines(free_tracks, dscb::tracks(g) as usize, out, b);
     put_slots(out, c, format0s)
 }
 

@@ -23,7 +23,7 @@ use Rattle.dscb.specs.Tests.{slotNamed}
 use Rattle.dscb.proofs.Links.{slot-found, slot-none}
 use Rattle.dscb.proofs.Records.{chop-slot, length-chop}
 use Rattle.dscb.proofs.Written.{link1-back}
-use Rattle.check_label.specs.Label.{namedThird}
+use Rattle.dscb.specs.Forms.{linkedSlot}
 use Rattle.check_table.proofs.Pieces.{in-table, third-below}
 use Rattle.check_table.proofs.Read.{records-are}
 use Rattle.check_table.proofs.Whole.{geometry-read, taken-long}
@@ -66,9 +66,9 @@ found-label t v h name l e =
     }
 
 -- the slot of its format 3, as the format 1 names it
-pub third-is : (t : List ℕ) (g : Geometry) (n : List ℕ) (l : Label) → Limits g → LabelIn t g n l → namedThird g (slotBytes t (l .slot)) ≡ l .slot3
+pub third-is : (t : List ℕ) (g : Geometry) (n : List ℕ) (l : Label) → Limits g → LabelIn t g n l → linkedSlot g (slotBytes t (l .slot)) ≡ l .slot3
 third-is t g n l lim x =
-    ap (λ (r : List ℕ). namedThird g r) (x .one)
+    ap (λ (r : List ℕ). linkedSlot g r) (x .one)
     ∙ ap (λ (y : List ℕ). slotNamed (g .heads) (g .records) (g .vtocStart) (slots g) y) (link1-back g l (x .good))
     ∙ named (l .slot3) (x .inside3)
   where

@@ -1,6 +1,7 @@
 // What each call but initialise does first: the lengths, the check of the table, the rule for names. What refuses a call here is told
 // by one definition, `openNumber`.
 use dscb::Geometry;
+use dscb::places::*;
 use names::Found;
 ghost use mathlib.Core.Path.{_≡_};
 ghost use mathlib.Core.Bool.{not, true, _&&_};
@@ -14,7 +15,6 @@ ghost use Rattle.rules.specs.Predicates.{Limits};
 ghost use Rattle.dscb.specs.Records.{slotBytes};
 ghost use Rattle.names.specs.Find.{answerOf, findSlot, isNothing};
 ghost use Rattle.dscb.specs.Forms.{geometryOf};
-ghost use Rattle.check_label.specs.Label.{namedThird};
 ghost use Rattle.check_table.specs.Check.{Roomy};
 ghost use Rattle.open_table.specs.Opening.{AndNamed, Mapped, Opened};
 
@@ -40,14 +40,14 @@ pub fn and_another(answer: usize, name: usize, other: usize, n: usize) -> bool
 
 // Whether the format 4 tells of so few tracks that 64 words are map enough. A call clears its map first, and 1,024 words, room
 // for the largest volume, would be much of its time on a small one.
-pub fn few_tracks(table: &[u8]) -> bool
+pub fn is_small(table: &[u8]) -> bool
     ensures { λ r. ⌜ (r ≡ true → tracks (readGeometry (slotBytes (now (table .entry)) 0)) ≤ 4096) ⌝ }
 {
     if table.len() < 140 {
         return false;
     }
     let rec = dscb::record_at(table, 0);
-    rows::two(rec, 62) * rows::two(rec, 64) <= 4096
+    rows::two(rec, DS4DEVSZ) * rows::two(rec, HEADS) <= 4096
 }
 
 // What a call is told when it has opened a table: the refusal, 0 for none, and where it is 0 the table's geometry, the number of its
@@ -108,7 +108,7 @@ pub fn open_to_read(table: &[u8], lengths: bool) -> Opening
     ensures { λ r. ⌜ Opened (now (table .entry)) lengths true r ⌝ }
 {
     let mut free_slots = [0u64; 8];
-    if few_tracks(table) {
+    if is_small(table) {
         let mut free_tracks = [u64::MAX; 64];
         return open(table, lengths, &mut free_tracks, &mut free_slots);
     }
@@ -144,26 +144,12 @@ pub fn open_named(
     and_named(opening, name)
 }
 
-// The slot of the format 3 that the format 1 names, 0 for none.
-pub fn third(f1: &[u8], g: Geometry) -> usize
-    requires { ⌜ (length (now f1) ≡ 140) × Limits (geometryOf g) ⌝ }
-    ensures { λ r. ⌜ (r ≡ namedThird (geometryOf g) (now (f1 .entry))) × (r < slots (geometryOf g)) ⌝ }
-{
-    dscb::slot_of(
-        &f1[135..140],
-        g.heads,
-        g.records,
-        g.vtoc_start,
-        (g.vtoc_tracks * g.records) as usize,
-    )
-}
-
 // The slot of the data set under this name, in a table of geometry g.
 pub fn look_up(table: &[u8], g: Geometry, name: &[u8]) -> Found
     requires { ⌜ Limits (geometryOf g) × (length (now table) ≡ 140 * slots (geometryOf g)) ⌝ }
     ensures { λ r. ⌜ answerOf r ≡ findSlot (now (table .entry)) (now (name .entry)) (slots (geometryOf g)) ⌝ }
 {
-    names::find(table, (g.vtoc_tracks * g.records) as usize, name)
+    names::find(table, dscb::slots(g), name)
 }
 
 // Whether a data set has this name, in a table of geometry g.

@@ -78,7 +78,7 @@ pub fn word8(s: &[u8], i: usize) -> u64
 }
 
 // Whether every byte of s is v, byte by byte: for short rows.
-fn few_are(s: &[u8], v: u8) -> bool
+fn short_are(s: &[u8], v: u8) -> bool
     ensures { λ r. ⌜ r ≡ allAre v (now (s .entry)) ⌝ }
 {
     let mut unlike: u8 = 0;
@@ -91,7 +91,7 @@ fn few_are(s: &[u8], v: u8) -> bool
 }
 
 // The same for 8 to 32 bytes: two words, or four, which overlap. Most rows are so short, and a loop would cost more.
-fn some_are(s: &[u8], v: u8) -> bool
+fn middling_are(s: &[u8], v: u8) -> bool
     requires { ⌜ (8 ≤ length (now s)) × (length (now s) ≤ 32) ⌝ }
     ensures { λ r. ⌜ r ≡ allAre v (now (s .entry)) ⌝ }
 {
@@ -113,10 +113,10 @@ pub fn all_are(s: &[u8], v: u8) -> bool
 {
     let n = s.len();
     if n < 8 {
-        return few_are(s, v);
+        return short_are(s, v);
     }
     if n <= 32 {
-        return some_are(s, v);
+        return middling_are(s, v);
     }
     let all = wide(v) as u64 * 0x0101_0101_0101_0101;
     let mut unlike: u64 = word8(s, n - 8) ^ all;
@@ -138,7 +138,7 @@ pub fn part_is(s: &[u8], i: usize, n: usize, v: u8) -> bool
 }
 
 // Whether a and b, of one length, hold the same bytes, byte by byte: for short rows.
-fn few_same(a: &[u8], b: &[u8]) -> bool
+fn short_same(a: &[u8], b: &[u8]) -> bool
     requires { ⌜ length (now a) ≡ length (now b) ⌝ }
     ensures { λ r. ⌜ r ≡ same (now (a .entry)) (now (b .entry)) ⌝ }
 {
@@ -160,7 +160,7 @@ pub fn same(a: &[u8], b: &[u8]) -> bool
         return false;
     }
     if n < 8 {
-        return few_same(a, b);
+        return short_same(a, b);
     }
     let mut unlike: u64 = word8(a, n - 8) ^ word8(b, n - 8);
     let mut i = 0;

@@ -4,8 +4,8 @@ use borrow.Author.Needs.{needs}
 use Rattle.call_allocate.proofs.allocate.Statement.{statement}
 use Rattle.call_allocate.proofs.allocate.Tie as tie
 
-few-tracks-requires : tie.Need-few-tracks-requires
-few-tracks-requires c κs = search needs
+is-small-requires : tie.Need-is-small-requires
+is-small-requires c κs = search needs
 
 slice-aggregate-allocate-in : tie.Need-slice-aggregate-allocate-in
 slice-aggregate-allocate-in c = search needs
@@ -13,9 +13,9 @@ slice-aggregate-allocate-in c = search needs
 allocate-in-requires : tie.Need-allocate-in-requires
 allocate-in-requires c κs =
     let at-if1 = c .before .before .before in
-    let at-few-tracks = at-if1 .before in
-    let top = at-few-tracks .before .before .before .before .before .before in
-    roomy-small (top .args .table .now) _ (at-few-tracks .few-tracks .ensures (at-if1 .if1 .taken)) refl
+    let at-is-small = at-if1 .before in
+    let top = at-is-small .before .before .before .before .before .before in
+    roomy-small (top .args .table .now) _ (at-is-small .is-small .ensures (at-if1 .if1 .taken)) refl
 
 same-length : tie.Need-same-length
 same-length c = search needs
@@ -47,7 +47,7 @@ pub allocate-spec : {M : Type 1} → statement M
 allocate-spec =
     tie.close
     (tie.spec
-    few-tracks-requires
+    is-small-requires
     slice-aggregate-allocate-in
     allocate-in-requires
     same-length

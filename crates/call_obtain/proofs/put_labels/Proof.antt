@@ -12,8 +12,8 @@ record-at-requires c κs = search needs
 record-of-requires : tie.Need-record-of-requires
 record-of-requires c κs = search needs
 
-third-requires : tie.Need-third-requires
-third-requires c κs = search needs
+link-requires : tie.Need-link-requires
+link-requires c κs = search needs
 
 record-or-zeros-requires : tie.Need-record-or-zeros-requires
 record-or-zeros-requires c κs = search needs
@@ -31,7 +31,7 @@ returns : tie.Need-returns
 returns c =
     let a : length (c .before .before .before .before .before .before .before .before .before .before .before .before .record-of .result) ≡ 140 = search needs in
     let b : length (c .before .before .before .before .before .before .before .before .before .before .record-or-zeros .result) ≡ 140 = search needs in
-    c .before .before .put-record2 .ensures ∙ two-filled (geometryOf (c .before .before .before .before .before .before .before .before .before .before .before .before .before .before .before .before .args .g)) (c .before .before .before .before .before .before .before .before .before .before .before .before .before .before .before .before .args .table .now) (c .before .before .before .before .before .before .before .before .before .before .before .before .before .before .before .before .args .k) (c .before .before .before .before .before .before .before .before .before .before .before .before .before .before .before .before .args .out .now) (c .before .before .before .before .before .before .before .before .before .before .before .before .before .record-at .result .now) _ (c .before .before .before .before .before .before .before .before .before .before .before .before .record-of .result) (c .before .before .before .before .before .before .before .before .before .before .record-or-zeros .result) (c .before .before .before .before .before .before .before .before .before .before .before .third .result) (c .before .before .before .before .before .before .before .before .before .before .before .before .before .before .before .before .pre .3) a b (c .before .before .before .before .before .before .before .before .before .before .before .before .before .record-at .ensures .0) (c .before .before .before .before .before .before .before .before .before .before .before .before .record-of .ensures) (c .before .before .before .before .before .before .before .before .before .before .before .third .ensures .0) (c .before .before .before .before .before .before .before .before .before .before .record-or-zeros .ensures) (c .before .before .before .before .before .before .before .put-record .ensures)
+    c .before .before .put-record2 .ensures ∙ two-filled (geometryOf (c .before .before .before .before .before .before .before .before .before .before .before .before .before .before .before .before .args .g)) (c .before .before .before .before .before .before .before .before .before .before .before .before .before .before .before .before .args .table .now) (c .before .before .before .before .before .before .before .before .before .before .before .before .before .before .before .before .args .k) (c .before .before .before .before .before .before .before .before .before .before .before .before .before .before .before .before .args .out .now) (c .before .before .before .before .before .before .before .before .before .before .before .before .before .record-at .result .now) _ (c .before .before .before .before .before .before .before .before .before .before .before .before .record-of .result) (c .before .before .before .before .before .before .before .before .before .before .record-or-zeros .result) (c .before .before .before .before .before .before .before .before .before .before .before .link .result) (c .before .before .before .before .before .before .before .before .before .before .before .before .before .before .before .before .pre .3) a b (c .before .before .before .before .before .before .before .before .before .before .before .before .before .record-at .ensures .0) (c .before .before .before .before .before .before .before .before .before .before .before .before .record-of .ensures) (c .before .before .before .before .before .before .before .before .before .before .before .link .ensures .0) (c .before .before .before .before .before .before .before .before .before .before .record-or-zeros .ensures) (c .before .before .before .before .before .before .before .put-record .ensures)
 
 pub put-labels-spec : {M : Type 1} → statement M
 put-labels-spec =
@@ -39,7 +39,7 @@ put-labels-spec =
     (tie.spec
     record-at-requires
     record-of-requires
-    third-requires
+    link-requires
     record-or-zeros-requires
     put-record-requires
     put-record-requires-2

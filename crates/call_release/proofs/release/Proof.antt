@@ -4,8 +4,8 @@ use borrow.Author.Needs.{needs}
 use Rattle.call_release.proofs.release.Statement.{statement}
 use Rattle.call_release.proofs.release.Tie as tie
 
-few-tracks-requires : tie.Need-few-tracks-requires
-few-tracks-requires c κs = search needs
+is-small-requires : tie.Need-is-small-requires
+is-small-requires c κs = search needs
 
 slice-aggregate-release-in : tie.Need-slice-aggregate-release-in
 slice-aggregate-release-in c = search needs
@@ -13,9 +13,9 @@ slice-aggregate-release-in c = search needs
 release-in-requires : tie.Need-release-in-requires
 release-in-requires c κs =
     let at-if1 = c .before .before .before in
-    let at-few-tracks = at-if1 .before in
-    let top = at-few-tracks .before .before .before .before .before in
-    roomy-small (top .args .table .now) _ (at-few-tracks .few-tracks .ensures (at-if1 .if1 .taken)) refl
+    let at-is-small = at-if1 .before in
+    let top = at-is-small .before .before .before .before .before in
+    roomy-small (top .args .table .now) _ (at-is-small .is-small .ensures (at-if1 .if1 .taken)) refl
 
 same-length : tie.Need-same-length
 same-length c = search needs
@@ -47,7 +47,7 @@ pub release-spec : {M : Type 1} → statement M
 release-spec =
     tie.close
     (tie.spec
-    few-tracks-requires
+    is-small-requires
     slice-aggregate-release-in
     release-in-requires
     same-length

@@ -19,11 +19,8 @@ take-range-requires c κs = search needs
 take-range-requires-2 : tie.Need-take-range-requires-2
 take-range-requires-2 c κs = search needs
 
-mul-free-below : tie.Need-mul-free-below
-mul-free-below c = search needs
-
-cast-free-below : tie.Need-cast-free-below
-cast-free-below c = search needs
+slots-requires : tie.Need-slots-requires
+slots-requires c κs = search needs
 
 free-below-requires : tie.Need-free-below-requires
 free-below-requires c κs = search needs
@@ -41,7 +38,7 @@ returns : tie.Need-returns
 returns c =
     let top = c .before .before .before .before .before .before .before .before .before .before .before .before .before .before .before .before .before .before .before .before .before in
     maps-begun (geometryOf (top .args .g)) (top .pre .0) (top .args .free-tracks .now) _ _ (c .before .before .before .before .before .before .before .before .before .before .before .before .before .before .before .take-range .result) (c .before .before .before .before .before .before .before .before .before .before .before .take-range2 .result) (top .pre .1) (c .before .before .before .before .before .before .before .before .before .before .before .before .before .before .before .take-range .ensures) (c .before .before .before .before .before .before .before .before .before .before .before .take-range2 .ensures)
-    (top .args .free-slots .now) _ _ (c .before .before .take-range3 .result) (c .before .before .before .before .before .before .free-below .ensures) (c .before .before .take-range3 .ensures)
+    (top .args .free-slots .now) _ _ (c .before .before .take-range3 .result) (c .before .before .before .before .before .before .before .slots .result) (c .before .before .before .before .before .before .before .slots .ensures .0) (c .before .before .before .before .before .before .free-below .ensures) (c .before .before .take-range3 .ensures)
 
 pub begin-maps-spec : {M : Type 1} → statement M
 begin-maps-spec =
@@ -52,8 +49,7 @@ begin-maps-spec =
     add-end
     take-range-requires
     take-range-requires-2
-    mul-free-below
-    cast-free-below
+    slots-requires
     free-below-requires
     take-range-requires-3
     same-length

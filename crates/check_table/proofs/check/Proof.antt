@@ -6,6 +6,7 @@ use Rattle.rules.specs.Reading.{readGeometry}
 use Rattle.model.proofs.Lists.{true-is}
 use native.Mathlib.Omega.{arith}
 use mathlib.Core.Path.{sym, ap, _∙_}
+use Prim.Native.Nat.{ℕ, _*_}
 use borrow.Author.Needs.{needs}
 use Rattle.check_table.proofs.check.Statement.{statement}
 use Rattle.check_table.proofs.check.Tie as tie
@@ -51,14 +52,11 @@ returns-3 c =
     let top = at-if1 .before .before .before .before in
     out-of-limits (top .args .table .now) (top .args .free-tracks .now) (top .args .free-slots .now) _ (c .not-taken3 .ensures) (at-if1 .if1 .left) (geometryOf (at-geometry-of .geometry-of .result)) (at-geometry-of .geometry-of .ensures ∙ ap readGeometry (at-record-at .record-at .ensures .0)) (sym (c .before .before .limits .ensures) ∙ c .before .if3 .left)
 
+slots-requires : tie.Need-slots-requires
+slots-requires c κs = limits→ (geometryOf (c .before .before .geometry-of .result)) (true-is (sym (c .before .limits .ensures) ∙ c .if3 .taken))
+
 mul-if4 : tie.Need-mul-if4
-mul-if4 c = omega (arith, limits→ (geometryOf (c .before .before .before .geometry-of .result)) (true-is (sym (c .before .before .limits .ensures) ∙ c .before .if3 .taken)) .most)
-
-cast-if4 : tie.Need-cast-if4
-cast-if4 c = omega (arith, limits→ (geometryOf (c .before .before .before .geometry-of .result)) (true-is (sym (c .before .before .limits .ensures) ∙ c .before .if3 .taken)) .most)
-
-mul-if4-2 : tie.Need-mul-if4-2
-mul-if4-2 c = omega (arith, limits→ (geometryOf (c .before .before .before .geometry-of .result)) (true-is (sym (c .before .before .limits .ensures) ∙ c .before .if3 .taken)) .most)
+mul-if4 c = omega (arith, c .slots .ensures .1)
 
 not-taken-requires-4 : tie.Need-not-taken-requires-4
 not-taken-requires-4 c κs = search needs
@@ -69,7 +67,7 @@ returns-4 c =
     let at-record-at = at-geometry-of .before .before .before in
     let at-if1 = at-record-at .before in
     let top = at-if1 .before .before .before .before in
-    wrong-length (top .args .table .now) (top .args .free-tracks .now) (top .args .free-slots .now) _ (c .not-taken4 .ensures) (at-if1 .if1 .left) (geometryOf (at-geometry-of .geometry-of .result)) (at-geometry-of .geometry-of .ensures ∙ ap readGeometry (at-record-at .record-at .ensures .0)) (c .before .if4 .taken)
+    wrong-length (top .args .table .now) (top .args .free-tracks .now) (top .args .free-slots .now) _ (c .not-taken4 .ensures) (at-if1 .if1 .left) (geometryOf (at-geometry-of .geometry-of .result)) (at-geometry-of .geometry-of .ensures ∙ ap readGeometry (at-record-at .record-at .ensures .0)) (c .before .before .slots .result) (c .before .before .slots .ensures .0) (c .before .if4 .taken)
 
 contents-ok-requires : tie.Need-contents-ok-requires
 contents-ok-requires c κs =
@@ -81,7 +79,7 @@ contents-ok-requires c κs =
     let top = at-record-at .before .before .before .before .before in
     let l = limits→ (geometryOf (at-geometry-of .geometry-of .result)) (true-is (sym (at-limits .limits .ensures) ∙ at-if3 .if3 .taken)) in
     let e = at-record-at .record-at .ensures .0 in
-    (l, c .before .before .if4 .left, no-label (top .args .table .now) (at-record-at .record-at .result .now) e (at-if2 .if2 .left), free-for (top .args .table .now) (top .args .free-tracks .now) _ (top .pre .0) (at-geometry-of .geometry-of .ensures ∙ ap readGeometry e) l, room-for (top .args .table .now) (top .args .free-tracks .now) _ (top .pre .0) (at-geometry-of .geometry-of .ensures ∙ ap readGeometry e) l, top .pre .1)
+    (l, c .before .before .if4 .left ∙ ap (λ (n : ℕ). 140 * n) (c .before .before .before .slots .ensures .0), no-label (top .args .table .now) (at-record-at .record-at .result .now) e (at-if2 .if2 .left), free-for (top .args .table .now) (top .args .free-tracks .now) _ (top .pre .0) (at-geometry-of .geometry-of .ensures ∙ ap readGeometry e) l, room-for (top .args .table .now) (top .args .free-tracks .now) _ (top .pre .0) (at-geometry-of .geometry-of .ensures ∙ ap readGeometry e) l, top .pre .1)
 
 same-length : tie.Need-same-length
 same-length c = search needs
@@ -93,13 +91,14 @@ returns-5 : tie.Need-returns-5
 returns-5 c =
     let at-contents-ok = c .before .before .before .before in
     let at-if4 = at-contents-ok .before .before .before in
-    let at-if3 = at-if4 .before .before in
+    let at-slots = at-if4 .before in
+    let at-if3 = at-slots .before in
     let at-limits = at-if3 .before in
     let at-geometry-of = at-limits .before in
     let at-record-at = at-geometry-of .before .before .before in
     let top = at-record-at .before .before .before .before .before in
     contents-decide (top .args .table .now) (top .args .free-tracks .now) _ (top .args .free-slots .now) _ (geometryOf (at-geometry-of .geometry-of .result)) (at-contents-ok .contents-ok .result) (limits→ (geometryOf (at-geometry-of .geometry-of .result)) (true-is (sym (at-limits .limits .ensures) ∙ at-if3 .if3 .taken)))
-    (at-geometry-of .geometry-of .ensures ∙ ap readGeometry (at-record-at .record-at .ensures .0)) (at-if4 .if4 .left) (at-contents-ok .contents-ok .ensures)
+    (at-geometry-of .geometry-of .ensures ∙ ap readGeometry (at-record-at .record-at .ensures .0)) (at-if4 .if4 .left ∙ ap (λ (n : ℕ). 140 * n) (at-slots .slots .ensures .0)) (at-contents-ok .contents-ok .ensures)
 
 pub check-spec : {M : Type 1} → statement M
 check-spec =
@@ -115,9 +114,8 @@ check-spec =
     limits-requires
     not-taken-requires-3
     returns-3
+    slots-requires
     mul-if4
-    cast-if4
-    mul-if4-2
     not-taken-requires-4
     returns-4
     contents-ok-requires

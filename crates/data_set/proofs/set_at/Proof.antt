@@ -10,8 +10,8 @@ record-at-requires c κs = search needs
 record-of-requires : tie.Need-record-of-requires
 record-of-requires c κs = search needs
 
-third-requires : tie.Need-third-requires
-third-requires c κs = search needs
+link-requires : tie.Need-link-requires
+link-requires c κs = search needs
 
 third-record-requires : tie.Need-third-record-requires
 third-record-requires c κs = search needs
@@ -30,7 +30,7 @@ returns c =
     let at-record-of = c .before .before .before in
     let at-record-at = at-record-of .before in
     let top = at-record-at .before .before in
-    set-read (geometryOf (top .args .g)) (top .args .table .now) (top .args .k) (at-record-at .record-at .result .now) (at-record-of .record-of .result) (c .before .third-record .result) _ (c .before .before .third .result) (at-record-at .record-at .ensures .0) (at-record-of .record-of .ensures) (c .wide .ensures .0) (c .before .before .third .ensures .0) (c .before .before .third .ensures .1) (c .before .third-record .ensures)
+    set-read (geometryOf (top .args .g)) (top .args .table .now) (top .args .k) (at-record-at .record-at .result .now) (at-record-of .record-of .result) (c .before .third-record .result) _ (c .before .before .link .result) (at-record-at .record-at .ensures .0) (at-record-of .record-of .ensures) (c .wide .ensures .0) (c .before .before .link .ensures .0) (c .before .before .link .ensures .1) (c .before .third-record .ensures)
 
 pub set-at-spec : {M : Type 1} → statement M
 set-at-spec =
@@ -38,7 +38,7 @@ set-at-spec =
     (tie.spec
     record-at-requires
     record-of-requires
-    third-requires
+    link-requires
     third-record-requires
     array-read-wide
     wide-requires

@@ -7,8 +7,8 @@ use Rattle.free_space.proofs.measure.Tie as tie
 record-at-requires : tie.Need-record-at-requires
 record-at-requires c κs = search needs
 
-third-requires : tie.Need-third-requires
-third-requires c κs = search needs
+link-requires : tie.Need-link-requires
+link-requires c κs = search needs
 
 record-at-requires-2 : tie.Need-record-at-requires-2
 record-at-requires-2 c κs = search needs
@@ -28,7 +28,7 @@ spread-of-requires c κs =
     let a = top .args in
     let one = c .before .before .before .before .record-at in
     let three = c .before .before .record-at2 in
-    let link = c .before .before .before .third in
+    let link = c .before .before .before .link in
     let x = top .pre .1 in
     set-of (geometryOf (a .g)) (a .table .now) (x .0) (x .1) (a .k) (x .2) (one .result .now) (three .result .now) _ (link .result) (one .ensures .0) (three .ensures .0) (three .ensures .1) (c .wide .ensures .0) (link .ensures .0)
 
@@ -38,7 +38,7 @@ returns c =
     let a = top .args in
     let one = c .before .before .before .before .before .record-at in
     let three = c .before .before .before .record-at2 in
-    let link = c .before .before .before .before .third in
+    let link = c .before .before .before .before .link in
     λ m s d. measured (geometryOf (a .g)) (a .table .now) m s (a .k) d (one .result .now) (three .result .now) _ (link .result) (one .ensures .0) (three .ensures .0) (three .ensures .1) (c .before .wide .ensures .0) (link .ensures .0) _ _ (c .spread-of .ensures)
 
 pub measure-spec : {M : Type 1} → statement M
@@ -46,7 +46,7 @@ measure-spec =
     tie.close
     (tie.spec
     record-at-requires
-    third-requires
+    link-requires
     record-at-requires-2
     shared-slice-read-wide
     wide-requires

@@ -13,8 +13,8 @@ volume-line-requires c κs = let s = small-volume (geometryOf (c .before .before
 data-lines-requires : tie.Need-data-lines-requires
 data-lines-requires c κs = search needs
 
-mul-free-lines : tie.Need-mul-free-lines
-mul-free-lines c = search needs
+tracks-requires : tie.Need-tracks-requires
+tracks-requires c κs = search needs
 
 cast-free-lines : tie.Need-cast-free-lines
 cast-free-lines c = search needs
@@ -31,10 +31,11 @@ same-length c = search needs
 returns : tie.Need-returns
 returns c =
     let at-free-lines = c .before .before .before .before .before .before in
-    let at-data-lines = at-free-lines .before .before .before .before .before in
+    let at-tracks = at-free-lines .before .before in
+    let at-data-lines = at-tracks .before .before .before in
     let at-volume-line = at-data-lines .before .before .before .before in
     let top = at-volume-line .before .before .before .before .before in
-    whole-written (geometryOf (top .args .g)) (top .args .format0s) (top .args .table .now) (top .args .free-tracks .now) (top .pre .0) (first-line (at-volume-line .volume-line .ensures)) (at-data-lines .data-lines .ensures) (at-free-lines .free-lines .ensures) (c .before .before .put-slots .ensures)
+    whole-written (geometryOf (top .args .g)) (top .args .format0s) (top .args .table .now) (top .args .free-tracks .now) (top .pre .0) (at-tracks .tracks .result) (at-tracks .tracks .ensures .0) (first-line (at-volume-line .volume-line .ensures)) (at-data-lines .data-lines .ensures) (at-free-lines .free-lines .ensures) (c .before .before .put-slots .ensures)
 
 pub list-taken-spec : {M : Type 1} → statement M
 list-taken-spec =
@@ -42,7 +43,7 @@ list-taken-spec =
     (tie.spec
     volume-line-requires
     data-lines-requires
-    mul-free-lines
+    tracks-requires
     cast-free-lines
     free-lines-requires
     put-slots-requires

@@ -4,8 +4,8 @@ use borrow.Author.Needs.{needs}
 use Rattle.open_table.proofs.open_to_read.Statement.{statement}
 use Rattle.open_table.proofs.open_to_read.Tie as tie
 
-few-tracks-requires : tie.Need-few-tracks-requires
-few-tracks-requires c κs = search needs
+is-small-requires : tie.Need-is-small-requires
+is-small-requires c κs = search needs
 
 slice-aggregate-open : tie.Need-slice-aggregate-open
 slice-aggregate-open c = search needs
@@ -15,9 +15,9 @@ slice-aggregate-open-2 c = search needs
 
 open-requires : tie.Need-open-requires
 open-requires c κs =
-    let at-few-tracks = c .before .before .before in
-    let top = at-few-tracks .before .before in
-    (roomy-small (top .args .table .now) _ (at-few-tracks .few-tracks .ensures (c .before .before .if1 .taken)) refl, refl)
+    let at-is-small = c .before .before .before in
+    let top = at-is-small .before .before in
+    (roomy-small (top .args .table .now) _ (at-is-small .is-small .ensures (c .before .before .if1 .taken)) refl, refl)
 
 returns : tie.Need-returns
 returns c = search needs
@@ -40,7 +40,7 @@ pub open-to-read-spec : {M : Type 1} → statement M
 open-to-read-spec =
     tie.close
     (tie.spec
-    few-tracks-requires
+    is-small-requires
     slice-aggregate-open
     slice-aggregate-open-2
     open-requires

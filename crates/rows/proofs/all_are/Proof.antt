@@ -13,14 +13,14 @@ Inv-loop s v n all unlike₀ i₀ unlike i = (i ≤ length s) × Compared (lengt
 abbrev μ-loop : tie.MeasureT-loop
 μ-loop s v n all unlike₀ i₀ unlike i = length s - i
 
-few-are-requires : tie.Need-few-are-requires Inv-loop μ-loop
-few-are-requires c κs = search needs
+short-are-requires : tie.Need-short-are-requires Inv-loop μ-loop
+short-are-requires c κs = search needs
 
 returns : tie.Need-returns Inv-loop μ-loop
 returns c = search needs
 
-some-are-requires : tie.Need-some-are-requires Inv-loop μ-loop
-some-are-requires c κs = search needs
+middling-are-requires : tie.Need-middling-are-requires Inv-loop μ-loop
+middling-are-requires c κs = search needs
 
 returns-2 : tie.Need-returns-2 Inv-loop μ-loop
 returns-2 c = search needs
@@ -70,9 +70,9 @@ all-are-spec =
     (tie.spec
     Inv-loop
     μ-loop
-    few-are-requires
+    short-are-requires
     returns
-    some-are-requires
+    middling-are-requires
     returns-2
     wide-requires
     cast-all

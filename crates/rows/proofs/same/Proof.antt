@@ -19,8 +19,8 @@ returns c =
     let top = c .before .before .before in
     sym (same-long (top .args .a .now) (top .args .b .now) (c .if1 .taken))
 
-few-same-requires : tie.Need-few-same-requires Inv-loop μ-loop
-few-same-requires c κs = search needs
+short-same-requires : tie.Need-short-same-requires Inv-loop μ-loop
+short-same-requires c κs = search needs
 
 returns-2 : tie.Need-returns-2 Inv-loop μ-loop
 returns-2 c = search needs
@@ -62,7 +62,7 @@ same-spec =
     Inv-loop
     μ-loop
     returns
-    few-same-requires
+    short-same-requires
     returns-2
     word8-requires
     word8-requires-2

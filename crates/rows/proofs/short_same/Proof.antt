@@ -7,8 +7,8 @@ use native.Mathlib.Omega.{arith}
 use Rattle.model.specs.Basics.{same}
 use Rattle.rows.proofs.Rows.{same-next, same-end}
 use borrow.Author.Needs.{needs}
-use Rattle.rows.proofs.few_same.Statement.{statement}
-use Rattle.rows.proofs.few_same.Tie as tie
+use Rattle.rows.proofs.short_same.Statement.{statement}
+use Rattle.rows.proofs.short_same.Tie as tie
 
 abbrev Inv-loop : tie.InvT-loop
 Inv-loop a b unlike₀ i₀ unlike i = (i ≤ length a) × (same a b ≡ eqb unlike 0 && same (drop i a) (drop i b))
@@ -37,8 +37,8 @@ loop-again c = (search needs, c .before .before .before .loop .inv .1 ∙ same-n
 returns : tie.Need-returns Inv-loop μ-loop
 returns c = sym (c .before .loop .inv .1 ∙ same-end (c .before .loop .unlike) (c .before .before .args .a .now) (c .before .before .args .b .now) (c .before .loop .i) (omega arith) (omega arith))
 
-pub few-same-spec : {M : Type 1} → statement M
-few-same-spec =
+pub short-same-spec : {M : Type 1} → statement M
+short-same-spec =
     tie.close
     (tie.spec
     Inv-loop

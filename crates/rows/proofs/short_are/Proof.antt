@@ -6,8 +6,8 @@ use Prim.Native.Nat.{_≤_, _-_}
 use mathlib.Core.Bool.{_&&_}
 use mathlib.Core.Path.{_≡_, sym, _∙_}
 use borrow.Author.Needs.{needs}
-use Rattle.rows.proofs.few_are.Statement.{statement}
-use Rattle.rows.proofs.few_are.Tie as tie
+use Rattle.rows.proofs.short_are.Statement.{statement}
+use Rattle.rows.proofs.short_are.Tie as tie
 
 abbrev Inv-loop : tie.InvT-loop
 Inv-loop s v unlike₀ i₀ unlike i = (i ≤ length s) × (allAre v s ≡ eqb unlike 0 && allAre v (drop i s))
@@ -33,8 +33,8 @@ loop-again c = (search needs, c .before .before .loop .inv .1 ∙ are-next (c .b
 returns : tie.Need-returns Inv-loop μ-loop
 returns c = sym (c .before .loop .inv .1 ∙ are-end (c .before .loop .unlike) (c .before .before .args .v) (c .before .before .args .s .now) (c .before .loop .i) (c .loop-test .left))
 
-pub few-are-spec : {M : Type 1} → statement M
-few-are-spec =
+pub short-are-spec : {M : Type 1} → statement M
+short-are-spec =
     tie.close
     (tie.spec
     Inv-loop

@@ -1,8 +1,8 @@
-use Rattle.open_table.proofs.Room.{few-told, map-fits, no-answer}
+use Rattle.open_table.proofs.Room.{small-told, map-fits, no-answer}
 use native.Mathlib.Omega.{arith}
 use borrow.Author.Needs.{needs}
-use Rattle.open_table.proofs.few_tracks.Statement.{statement}
-use Rattle.open_table.proofs.few_tracks.Tie as tie
+use Rattle.open_table.proofs.is_small.Statement.{statement}
+use Rattle.open_table.proofs.is_small.Tie as tie
 
 returns : tie.Need-returns
 returns c e = no-answer _ e
@@ -22,9 +22,9 @@ mul-result c = omega (arith, map-fits (c .before .two .result) (c .two2 .result)
 returns-2 : tie.Need-returns-2
 returns-2 c e =
     let top = c .before .before .before .before .before in
-    few-told (top .args .table .now) (c .before .before .record-at .result .now) (c .before .two .result) (c .two2 .result) (c .before .before .record-at .ensures .0) (c .before .two .ensures .0) (c .two2 .ensures .0) e
+    small-told (top .args .table .now) (c .before .before .record-at .result .now) (c .before .two .result) (c .two2 .result) (c .before .before .record-at .ensures .0) (c .before .two .ensures .0) (c .two2 .ensures .0) e
 
-pub few-tracks-spec : {M : Type 1} → statement M
-few-tracks-spec =
+pub is-small-spec : {M : Type 1} → statement M
+is-small-spec =
     tie.close
     (tie.spec returns record-at-requires two-requires two-requires-2 mul-result returns-2)

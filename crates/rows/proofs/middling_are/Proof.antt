@@ -2,8 +2,8 @@ use mathlib.Core.Path.{sym}
 use native.Mathlib.Omega.{arith}
 use Rattle.rows.proofs.Eights.{four-words, two-words}
 use borrow.Author.Needs.{needs}
-use Rattle.rows.proofs.some_are.Statement.{statement}
-use Rattle.rows.proofs.some_are.Tie as tie
+use Rattle.rows.proofs.middling_are.Statement.{statement}
+use Rattle.rows.proofs.middling_are.Tie as tie
 
 wide-requires : tie.Need-wide-requires
 wide-requires c κs = search needs
@@ -42,8 +42,8 @@ returns-2 c =
     let a = c .before .before .before .before .before .before .before in
     sym (four-words (a .args .s .now) (a .args .v) (λ j. c .before .before .before .before .before .before .shared-slice-known .given j .fits) (omega arith) _ _ _ _ _ (c .before .before .before .before .before .wide .ensures .0) (omega arith) (a .pre .1) (c .before .before .before .before .word8 .ensures) (c .before .before .before .word82 .ensures) (c .before .word83 .ensures) (c .word84 .ensures))
 
-pub some-are-spec : {M : Type 1} → statement M
-some-are-spec =
+pub middling-are-spec : {M : Type 1} → statement M
+middling-are-spec =
     tie.close
     (tie.spec
     wide-requires
