@@ -117,7 +117,17 @@ pub fn place(
     let unit = request::unit_byte(amount);
     let mut f1 = dscb_write::new_label(name, attributes, unit, request.secondary);
     let mut f3 = dscb_write::empty_three();
-    write_grant(table, g, free_tracks, &chain, plan, set, pieces, &mut f1, &mut f3);
+    write_grant(
+        table,
+        g,
+        free_tracks,
+        &chain,
+        plan,
+        set,
+        pieces,
+        &mut f1,
+        &mut f3,
+    );
     answers::put_granted(answer, pieces, got.count, got.tracks);
     0
 }
@@ -162,7 +172,17 @@ pub fn lengthen(
     if plan.fits {} else {
         return 11;
     }
-    write_grant(table, g, free_tracks, &chain, plan, set, pieces, &mut f1, &mut f3);
+    write_grant(
+        table,
+        g,
+        free_tracks,
+        &chain,
+        plan,
+        set,
+        pieces,
+        &mut f1,
+        &mut f3,
+    );
     answers::put_granted(answer, pieces, got.count, got.tracks);
     0
 }
