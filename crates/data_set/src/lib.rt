@@ -1,5 +1,6 @@
 // The data set whose format 1 is in a slot: its records, how many extents it has, and the slot of its format 3.
 use dscb::Geometry;
+use dscb::places::*;
 ghost use mathlib.Core.Path.{_≡_};
 ghost use Prim.Native.Nat.{_+_, _*_, _≤_, _<_};
 ghost use lib.ListN.{length};
@@ -36,7 +37,7 @@ pub fn set_at(table: &[u8], g: Geometry, k: usize) -> Held
     let f1 = dscb_write::record_of(label);
     let slot3 = dscb::link(label, g);
     let f3 = third_record(table, slot3);
-    let count = rows::wide(f1[59]) as usize; // DS1NOEPV
+    let count = rows::wide(f1[DS1NOEPV]) as usize;
     Held {
         f1,
         f3,

@@ -24,7 +24,7 @@ use Rattle.rules.specs.Predicates.{Valid}
 use Rattle.bitmap.specs.Map.{Shows}
 use Rattle.bitmap.proofs.Held.{shows-same}
 use Rattle.check_label.specs.Marks.{units}
-use Rattle.update.specs.declared.DataSet.{DataSet}
+use Rattle.update.specs.declared.Home.{Home}
 use Rattle.update.specs.Commit.{Draft, Leaves, Puts, drafted}
 use Rattle.update.proofs.Put.{put-full}
 use Rattle.update.proofs.Replies.{is-given-back, not-fitting}
@@ -188,11 +188,11 @@ module _ {g : Geometry} {t m s : List ℕ} {k : ℕ} (d : At g t m s k) (ttr : �
           subst (λ (z : Label). InRecords g (withTtr ttr z) f1 f3) (shortened-is n (tracks g) (r .kept .whole) (r .kept .start) (r .kept .count) l kept)
           (short .records l (kept .most) (copied t v (d .ready) (d .name) k (d .it) g (d .geometryIs) (x .slot3) (y .stored .slot3) old1 old3 e there))
 
-      abbrev set : DataSet
-      set = record { slot = x .slot; slot3 = x .slot3; few = few; f1 = f1; f3 = f3 }
+      abbrev home : Home
+      home = record { slot = x .slot; slot3 = x .slot3; few = few }
 
       -- what `write_set` asks
-      pub puts : Puts g t m′ c (r .plan) set
+      pub puts : Puts g t m′ c (r .plan) home f1 f3
       unfolding draft
       puts =
           record {
@@ -208,7 +208,7 @@ module _ {g : Geometry} {t m s : List ℕ} {k : ℕ} (d : At g t m s k) (ttr : �
             third = λ _. records .three;
           }
 
-      pub cut-done : (a t′ a′ : List ℕ) → ((w : Puts g t m′ c (r .plan) set) → Leaves (drafted (w .draft)) t′) → a′ ≡ answer (givenBack (x .tracks - n))
+      pub cut-done : (a t′ a′ : List ℕ) → ((w : Puts g t m′ c (r .plan) home f1 f3) → Leaves (drafted (w .draft)) t′) → a′ ≡ answer (givenBack (x .tracks - n))
           → result 0 (lent t′ a′ []) ≡ written (lent t a []) (releaseSet v (d .name) ttr l)
       unfolding draft puts
       cut-done a t′ a′ w ea =

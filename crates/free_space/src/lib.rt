@@ -1,8 +1,9 @@
 // What release and scratch do after the lookup: the data set's tracks counted and given back, its slots freed, the change planned; where it
 // fits, the data set is cut or taken out. Its extents are read where they stand, in the table.
 use dscb::Geometry;
+use dscb::places::*;
 use set_extents::Kept;
-use update::DataSet;
+use update::Home;
 use update::Plan;
 ghost use mathlib.Core.Path.{_≡_};
 ghost use Prim.Native.Nat.{ℕ, _*_, _≤_, _<_, _+_};
@@ -38,7 +39,7 @@ pub fn measure(table: &[u8], g: Geometry, k: usize) -> Measured
     let f1 = dscb::record_at(table, k);
     let slot3 = dscb::link(f1, g);
     let f3 = dscb::record_at(table, slot3);
-    let count = rows::wide(f1[59]) as usize; // DS1NOEPV
+    let count = rows::wide(f1[DS1NOEPV]) as usize;
     let x = set_extents::spread_of(f1, f3, count, g);
     Measured {
         slot: k,
@@ -164,14 +165,12 @@ pub fn release_set(
     let mut f1 = dscb_write::record_of(dscb::record_at(table, k));
     let mut f3 = data_set::third_record(table, x.slot3);
     cut_set(&mut f1, &mut f3, g, cut.kept, ttr);
-    let set = DataSet {
+    let home = Home {
         slot: x.slot,
         slot3: x.slot3,
         few: cut.few,
-        f1,
-        f3,
     };
-    update::write_set(table, g, free_tracks, &chain, plan, set);
+    update::write_set(table, g, free_tracks, &chain, plan, home, &mut f1, &f3);
     answers::put_back(answer, x.tracks - keep);
     0
 }

@@ -8,7 +8,6 @@ use native.Mathlib.Omega.{arith}
 use lib.Dec.{leb, eqb, leb→le}
 use lib.ListN.{length, length-append, length-map}
 use Rattle.grant_space.specs.declared.Holder.{Holder}
-use Rattle.grant_space.specs.declared.Grantee.{Grantee}
 use Rattle.model.specs.Basics.{bit}
 use Rattle.model.specs.Model.{Extent, Geometry, Label, Run, Volume, covers, extent, held, oneSlot, overs, runsOf, slots, tally, times, tracks, used}
 use Rattle.model.proofs.Lists.{sum-append, true-is}
@@ -23,6 +22,7 @@ use Rattle.check_label.specs.Marks.{units}
 use Rattle.request.proofs.Laws.{pieces-room}
 use Rattle.set_extents.specs.Change.{InRecords, PieceIn, granted as more}
 use Rattle.set_extents.proofs.Laws.{pieces-good}
+use Rattle.update.specs.declared.Home.{Home}
 use Rattle.update.specs.declared.Plan.{Plan}
 use Rattle.update.specs.Commit.{Draft, Leaves, Puts, drafted}
 use Rattle.update.proofs.Put.{put-full}
@@ -39,6 +39,10 @@ times-more kind (e ∷ es) ps t = let i = times-more kind es ps t in omega arith
 third-kept : (b : Bool) (q k : ℕ) → (b ≡ true → q ≡ 0) → tally k (oneSlot (cond b 0 q)) ≡ tally k (oneSlot q)
 third-kept true q k h = rw (h refl)
 third-kept false q k h = refl
+
+-- the lowest piece starts on a track of the volume, whose number of tracks was told
+pub low-in : (lo told n : ℕ) → told ≡ n → lo ≤ told → lo ≤ n
+low-in lo told n e h = omega arith
 
 -- what the label asks for, few or not
 pub asked-is : (h : Holder) (asked : ℕ) (few : Bool) → few ≡ leb (h .extents + h .count) 3 → asked ≡ asks (h .slot) + cond few 0 (asks (h .slot3))
@@ -160,14 +164,13 @@ module _ {g : Geometry} {t m s : List ℕ} {h : Holder} {rows : List (List ℕ)}
 
 -- ---- written
 
-module _ {g : Geometry} {t m′ c : List ℕ} {p : Plan} {x : Grantee} {rows : List (List ℕ)} (d : GrantWrites g t m′ c p x rows) where
-  abbrev holder : Holder
-  holder = x .set
+module _ {g : Geometry} {t m′ c : List ℕ} {p : Plan} {h : Holder} {rows : List (List ℕ)} {old1 old3 : List ℕ} (d : GrantWrites g t m′ c p h rows old1 old3) where
+  module _ (few : Bool) (f : few ≡ leb (h .extents + h .count) 3) (f1 f3 : List ℕ) (recs : InRecords g (more (h .«type_byte») (d .grants .pieces) (d .grants .label)) f1 f3) where
+    abbrev home : Home
+    home = record { slot = h .slot; slot3 = h .slot3; few = few }
 
-  module _ (few : Bool) (f : few ≡ leb (holder .extents + holder .count) 3) (f1 f3 : List ℕ)
-      (recs : InRecords g (more (holder .«type_byte») (d .grants .pieces) (d .grants .label)) f1 f3) where
     -- what `write_set` asks
-    pub puts : Puts g t m′ c p (record { slot = holder .slot; slot3 = holder .slot3; few = few; f1 = f1; f3 = f3 })
+    pub puts : Puts g t m′ c p home f1 f3
     unfolding draft
     puts =
         record {
@@ -176,14 +179,13 @@ module _ {g : Geometry} {t m′ c : List ℕ} {p : Plan} {x : Grantee} {rows : L
           lo = d .plans .lo;
           asked = d .plans .asked;
           draft = draft (d .grants) (d .plans) few f;
-          askedIs = d .plans .askedIs ∙ ap (λ (b : Bool). asks (holder .slot) + cond b 0 (asks (holder .slot3))) (sym f);
+          askedIs = d .plans .askedIs ∙ ap (λ (b : Bool). asks (h .slot) + cond b 0 (asks (h .slot3))) (sym f);
           plan = d .plans .plan;
           fits = d .fits;
           first = recs .one;
           third = λ _. recs .three;
         }
 
-    pub grant-done : (t′ : List ℕ) → ((y : Puts g t m′ c p (record { slot = holder .slot; slot3 = holder .slot3; few = few; f1 = f1; f3 = f3 })) → Leaves (drafted (y .draft)) t′)
-        → Leaves (grown (d .grants)) t′
+    pub grant-done : (t′ : List ℕ) → ((y : Puts g t m′ c p home f1 f3) → Leaves (drafted (y .draft)) t′) → Leaves (grown (d .grants)) t′
     unfolding draft puts
     grant-done t′ y = y puts

@@ -238,7 +238,7 @@ module _ {t m s a : List ℕ} {g : Geometry} {k : ℕ} (d : Longer t m s a g k) 
 
                   module _ (ok : plan .fits ≡ true) where
                     -- what `write_grant` asks
-                    pub writes : GrantWrites g t m′ chain plan (record { set = holder; f1 = one; f3 = three }) (take n p)
+                    pub writes : GrantWrites g t m′ chain plan holder (take n p) one three
                     unfolding grants
                     writes =
                         record {
@@ -251,7 +251,7 @@ module _ {t m s a : List ℕ} {g : Geometry} {k : ℕ} (d : Longer t m s a g k) 
                           records = it .records;
                         }
 
-                    pub put : (t′ a′ : List ℕ) → ((y : GrantWrites g t m′ chain plan (record { set = holder; f1 = one; f3 = three }) (take n p)) → Leaves (grown (y .grants)) t′)
+                    pub put : (t′ a′ : List ℕ) → ((y : GrantWrites g t m′ chain plan holder (take n p) one three) → Leaves (grown (y .grants)) t′)
                         → ((ps : List Run) → length ps ≡ n → total ps ≡ sum → take n p ≡ map row ps → a′ ≡ answer (granted ps)) → Extended d 0 t′ a′
                     unfolding grants writes
                     put t′ a′ y z = is-granted t a _ (got .ps) t′ a′ (y writes) (z (got .ps) (got .number) (got .adds) (got .first)) ∙ extended-is

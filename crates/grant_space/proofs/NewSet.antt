@@ -167,7 +167,7 @@ module _ {t m s name at a : List ℕ} {g : Geometry} {amount : Amount} {sec : �
           module _ (ok : plan .fits ≡ true) (unit : ℕ) (eu : unit ≡ unitOf amount) (f1 f3 : List ℕ)
               (written1 : (g : Geometry) → Format1 g (newLabel name at unit sec) f1) (written3 : (g : Geometry) (l : Label) → length (l .extents) ≤ 3 → Format3 g l f3) where
             -- what `write_grant` asks
-            pub writes : GrantWrites g t m′ chain plan (record { set = holder; f1 = f1; f3 = f3 }) (take count p)
+            pub writes : GrantWrites g t m′ chain plan holder (take count p) f1 f3
             unfolding grants
             writes =
                 record {
@@ -183,7 +183,7 @@ module _ {t m s name at a : List ℕ} {g : Geometry} {amount : Amount} {sec : �
                   };
                 }
 
-            pub put : (t′ a′ : List ℕ) → ((y : GrantWrites g t m′ chain plan (record { set = holder; f1 = f1; f3 = f3 }) (take count p)) → Leaves (grown (y .grants)) t′)
+            pub put : (t′ a′ : List ℕ) → ((y : GrantWrites g t m′ chain plan holder (take count p) f1 f3) → Leaves (grown (y .grants)) t′)
                 → ((ps : List Run) → length ps ≡ count → total ps ≡ sum → take count p ≡ map row ps → a′ ≡ answer (granted ps)) → Chooses t name at a amount sec 0 t′ a′
             unfolding grants writes
             put t′ a′ y z = is-granted t a _ (it .ps) t′ a′ (y writes) (z (it .ps) (it .number) (it .adds) (it .first)) ∙ chosen-is

@@ -7,7 +7,6 @@ use mathlib.Core.List.{List, _∷_, _++_, map}
 use lib.Dec.{leb}
 use lib.ListN.{length}
 use Rattle.grant_space.specs.declared.Holder.{Holder}
-use Rattle.grant_space.specs.declared.Grantee.{Grantee}
 use Rattle.model.specs.Model.{Geometry, Label, Run, Volume, held, runsOf, slotsOf, tally, times, tracks, used}
 use Rattle.rules.specs.Slots.{asks, settleWith}
 use Rattle.rules.specs.Predicates.{Valid}
@@ -56,12 +55,12 @@ pub record GrantPlans (g : Geometry) (t m m′ s s′ c : List ℕ) (h : Holder)
   pub askedIs : asked ≡ asks (h .slot) + cond (leb (h .extents + h .count) 3) 0 (asks (h .slot3))
   pub plan : Plans g t m′ s s′ c lo asked p
 
--- a grant that is planned, the plan fits, and the records are those of the label without the pieces
-pub record GrantWrites (g : Geometry) (t m′ c : List ℕ) (p : Plan) (x : Grantee) (rows : List (List ℕ)) : Type 0 where
+-- a grant that is planned, the plan fits, and f1 and f3 are the records of the label without the pieces
+pub record GrantWrites (g : Geometry) (t m′ c : List ℕ) (p : Plan) (h : Holder) (rows : List (List ℕ)) (f1 f3 : List ℕ) : Type 0 where
   pub mapBefore : List ℕ
   pub emptyBefore : List ℕ
   pub emptyAfter : List ℕ
-  pub grants : Grants g t mapBefore emptyBefore (x .set) rows
-  pub plans : GrantPlans g t mapBefore m′ emptyBefore emptyAfter c (x .set) rows p
+  pub grants : Grants g t mapBefore emptyBefore h rows
+  pub plans : GrantPlans g t mapBefore m′ emptyBefore emptyAfter c h rows p
   pub fits : p .fits ≡ true
-  pub records : InRecords g (grants .label) (x .f1) (x .f3)
+  pub records : InRecords g (grants .label) f1 f3

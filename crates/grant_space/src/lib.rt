@@ -1,8 +1,9 @@
 // What allocate and extend do after the lookup: pieces are chosen, leave the map, and the slots are planned; where they fit, the data
 // set's records get the pieces and the table is written.
 use dscb::Geometry;
+use dscb::places::*;
 use request::Request;
-use update::DataSet;
+use update::Home;
 use update::Plan;
 ghost use mathlib.Core.Path.{_≡_};
 ghost use Prim.Native.Nat.{_+_, _*_, _≤_, _<_};
@@ -27,13 +28,6 @@ pub struct Holder {
     pub type_byte: u8,
 }
 
-// The same with its records, which have no piece yet.
-pub struct Grantee {
-    pub set: Holder,
-    pub f1: [u8; 140],
-    pub f3: [u8; 140],
-}
-
 // Whether n extents and `count` more need no format 3.
 fn few(n: usize, count: usize) -> bool
     requires { ⌜ n + count ≤ 16 ⌝ }
@@ -56,47 +50,36 @@ pub fn plan_grant(
     requires { ⌜ Grants (geometryOf g) (now table) (now «free_tracks») (now «free_slots») set (take (set .count) pieces) ⌝ }
     ensures { λ r. ⌜ GrantPlans (geometryOf g) (now (table .entry)) (now («free_tracks» .entry)) (now («free_tracks» .exit)) (now («free_slots» .entry)) (now («free_slots» .exit)) (now (chain .exit)) set (take (set .count) pieces) r ⌝ }
 {
-    let lo = set_extents::lowest_piece(pieces, set.count, g.cylinders * g.heads);
+    let lo = set_extents::lowest_piece(pieces, set.count, dscb::tracks(g));
     set_extents::take_pieces(free_tracks, pieces, set.count);
     let small = few(set.extents, set.count);
     let asked = update::asked_for(set.slot, set.slot3, small);
     update::plan_slots(table, g, free_tracks, free_slots, chain, asked, lo as usize)
 }
 
-// Puts the pieces into the records and writes the table.
+// Puts the pieces into the records of the data set, which have none of them yet, and writes the table.
 pub fn write_grant(
     table: &mut [u8],
     g: Geometry,
     free_tracks: &[u64],
     chain: &[u16],
     plan: Plan,
-    to: Grantee,
+    set: Holder,
     pieces: [[u16; 2]; 5],
+    f1: &mut [u8; 140],
+    f3: &mut [u8; 140],
 )
-    requires { ⌜ Limits (geometryOf g) × (length (now table) ≡ 140 * slots (geometryOf g)) × (tracks (geometryOf g) ≤ 64 * length (now «free_tracks»)) × (to .set .slot < slots (geometryOf g)) × (to .set .slot3 < slots (geometryOf g)) × (to .set .count ≤ 5) × (to .set .extents + to .set .count ≤ 16) × (length (to .f1) ≡ 140) × (length (to .f3) ≡ 140) ⌝ }
-    requires { ⌜ GrantWrites (geometryOf g) (now table) (now «free_tracks») (now chain) plan to (take (to .set .count) pieces) ⌝ }
-    ensures { λ _. ⌜ ((d : GrantWrites (geometryOf g) (now (table .entry)) (now («free_tracks» .entry)) (now (chain .entry)) plan to (take (to .set .count) pieces)) → Leaves (grown (d .grants)) (now (table .exit))) ⌝ }
+    requires { ⌜ Limits (geometryOf g) × (length (now table) ≡ 140 * slots (geometryOf g)) × (tracks (geometryOf g) ≤ 64 * length (now «free_tracks»)) × (set .slot < slots (geometryOf g)) × (set .slot3 < slots (geometryOf g)) × (set .count ≤ 5) × (set .extents + set .count ≤ 16) × (length (now f1) ≡ 140) × (length (now f3) ≡ 140) ⌝ }
+    requires { ⌜ GrantWrites (geometryOf g) (now table) (now «free_tracks») (now chain) plan set (take (set .count) pieces) (now f1) (now f3) ⌝ }
+    ensures { λ _. ⌜ ((d : GrantWrites (geometryOf g) (now (table .entry)) (now («free_tracks» .entry)) (now (chain .entry)) plan set (take (set .count) pieces) (now (f1 .entry)) (now (f3 .entry))) → Leaves (grown (d .grants)) (now (table .exit))) ⌝ }
 {
-    let holder = to.set;
-    let mut f1 = to.f1;
-    let mut f3 = to.f3;
-    set_extents::add_pieces(
-        &mut f1,
-        &mut f3,
-        g,
-        holder.extents,
-        holder.type_byte,
-        pieces,
-        holder.count,
-    );
-    let set = DataSet {
-        slot: holder.slot,
-        slot3: holder.slot3,
-        few: few(holder.extents, holder.count),
-        f1,
-        f3,
+    set_extents::add_pieces(f1, f3, g, set.extents, set.type_byte, pieces, set.count);
+    let home = Home {
+        slot: set.slot,
+        slot3: set.slot3,
+        few: few(set.extents, set.count),
     };
-    update::write_set(table, g, free_tracks, chain, plan, set);
+    update::write_set(table, g, free_tracks, chain, plan, home, f1, f3);
 }
 
 // Chooses the pieces of a request that is not refused so far, and grants them to a new data set: 0, 9 or 11.
@@ -132,10 +115,19 @@ pub fn place(
         return 11;
     }
     let unit = request::unit_byte(amount);
-    let f1 = dscb_write::new_label(name, attributes, unit, request.secondary);
-    let f3 = dscb_write::empty_three();
-    let to = Grantee { set, f1, f3 };
-    write_grant(table, g, free_tracks, &chain, plan, to, pieces);
+    let mut f1 = dscb_write::new_label(name, attributes, unit, request.secondary);
+    let mut f3 = dscb_write::empty_three();
+    write_grant(
+        table,
+        g,
+        free_tracks,
+        &chain,
+        plan,
+        set,
+        pieces,
+        &mut f1,
+        &mut f3,
+    );
     answers::put_granted(answer, pieces, got.count, got.tracks);
     0
 }
@@ -153,13 +145,13 @@ pub fn lengthen(
     ensures { λ r. ⌜ ((d : Longer (now (table .entry)) (now («free_tracks» .entry)) (now («free_slots» .entry)) (now (answer .entry)) (geometryOf g) k) → Extended d r (now (table .exit)) (now (answer .exit))) ⌝ }
 {
     let held = data_set::set_at(table, g, k);
-    let f1 = held.f1;
-    let f3 = held.f3;
-    let secondary = rows::three(&f1, 95); // DS1SCALO
+    let mut f1 = held.f1;
+    let mut f3 = held.f3;
+    let secondary = rows::three(&f1, SECONDARY);
     if secondary == 0 {
         return 8;
     }
-    let amount = request::secondary_of(f1[94], secondary);
+    let amount = request::secondary_of(f1[DS1SCALO], secondary);
     let pieces = request::fulfil(table, free_tracks, g, amount);
     let got = choose_pieces::count_pieces(pieces);
     if got.count == 0 {
@@ -180,8 +172,17 @@ pub fn lengthen(
     if plan.fits {} else {
         return 11;
     }
-    let to = Grantee { set, f1, f3 };
-    write_grant(table, g, free_tracks, &chain, plan, to, pieces);
+    write_grant(
+        table,
+        g,
+        free_tracks,
+        &chain,
+        plan,
+        set,
+        pieces,
+        &mut f1,
+        &mut f3,
+    );
     answers::put_granted(answer, pieces, got.count, got.tracks);
     0
 }

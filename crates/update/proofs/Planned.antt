@@ -22,18 +22,22 @@ kept-same : (c c′ : List ℕ) (was need j : ℕ) → j ≡ min was need → ta
 kept-same c c′ was need j e f =
     sym (take-take j was c (omega arith)) ∙ ap (take j) (sym f) ∙ take-take j was c′ (omega arith) ∙ ap (λ (i : ℕ). take i c′) e
 
-pub planned : (g : Geometry) (t m s s′ blank c c′ none given : List ℕ) (was runs need j lo asked left from at : ℕ) (fits : Bool) → Limits g
-    → length blank ≡ 468 → Chained g t blank c was → runs ≡ length (freeFrom m (tracks g) 0) → need ≡ fivesFor runs → j ≡ min was need → Reached t (take j c) lo from at
+-- the members of the chain lie below the number of slots, as it was told
+pub members-below : {g : Geometry} {t blank c : List ℕ} {was : ℕ} (told : ℕ) → told ≡ slots g → Chained g t blank c was → All (λ k. k < told) (take was c)
+members-below {c = c} {was = was} told e h = subst (λ (n : ℕ). All (λ k. k < n) (take was c)) (sym e) (h .inside)
+
+pub planned : (g : Geometry) (t m s s′ blank c c′ none given : List ℕ) (was told runs need j lo asked left from at : ℕ) (fits : Bool) → Limits g
+    → length blank ≡ 468 → Chained g t blank c was → told ≡ tracks g → runs ≡ length (freeFrom m told 0) → need ≡ fivesFor runs → j ≡ min was need → Reached t (take j c) lo from at
     → length none ≡ 2 → Settles g s s′ c c′ none given was need asked left fits
     → Plans g t m s s′ c′ lo asked (record { fits = fits; was = was; need = need; left = left; from = from; at = at; given = given })
-planned g t m s s′ blank c c′ none given was runs need j lo asked left from at fits limits long chained er en ej reached two settles =
+planned g t m s s′ blank c c′ none given was told runs need j lo asked left from at fits limits long chained et er en ej reached two settles =
     record {
       blank = blank;
       read = c;
       none = none;
       chained = chained;
       room = let a = chained .long in let b = settles .longChain in let d = limits .most in omega arith;
-      needIs = en ∙ ap fivesFor er;
+      needIs = en ∙ ap fivesFor (er ∙ ap (λ (i : ℕ). length (freeFrom m i 0)) et);
       reached = subst (λ (ks : List ℕ). Reached t ks lo from at) (kept-same c c′ was need j ej (settles .first)) reached;
       two = two;
       settles = settles;

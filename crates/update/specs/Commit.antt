@@ -6,7 +6,7 @@ use mathlib.Core.Option.{Option, some}
 use mathlib.Core.List.{List, _∷_}
 use lib.ListN.{length, take}
 use Rattle.update.specs.declared.Plan.{Plan}
-use Rattle.update.specs.declared.DataSet.{DataSet}
+use Rattle.update.specs.declared.Home.{Home}
 use Rattle.model.specs.Model.{Geometry, Label, Volume, fivesFor, held, slots, slotsOf, tally, tracks, used}
 use Rattle.rules.specs.Layout.{encode}
 use Rattle.rules.specs.Slots.{asks, kept3, settle, settleWith}
@@ -65,18 +65,18 @@ pub record Draft (g : Geometry) (t m s : List ℕ) (lo slot slot3 : ℕ) (few : 
 abbrev pub drafted : {g : Geometry} {t m s : List ℕ} {lo slot slot3 : ℕ} {few : Bool} → Draft g t m s lo slot slot3 few → Option Volume
 drafted d = settleWith (d .volume) (d .others) (d .label)
 
--- a data set d that is ready to be written: it is planned, the plan fits, and its records are those of the label
-pub record Puts (g : Geometry) (t m c : List ℕ) (p : Plan) (d : DataSet) : Type 0 where
+-- a data set at home in h that is ready to be written: it is planned, the plan fits, and f1 and f3 are the records of the label
+pub record Puts (g : Geometry) (t m c : List ℕ) (p : Plan) (h : Home) (f1 f3 : List ℕ) : Type 0 where
   pub emptyBefore : List ℕ
   pub emptyAfter : List ℕ
   pub lo : ℕ
   pub asked : ℕ
-  pub draft : Draft g t m emptyBefore lo (d .slot) (d .slot3) (d .few)
-  pub askedIs : asked ≡ asks (d .slot) + cond (d .few) 0 (asks (d .slot3))
+  pub draft : Draft g t m emptyBefore lo (h .slot) (h .slot3) (h .few)
+  pub askedIs : asked ≡ asks (h .slot) + cond (h .few) 0 (asks (h .slot3))
   pub plan : Plans g t m emptyBefore emptyAfter c lo asked p
   pub fits : p .fits ≡ true
-  pub first : Format1 g (draft .label) (d .f1)
-  pub third : d .few ≡ false → Format3 g (draft .label) (d .f3)
+  pub first : Format1 g (draft .label) f1
+  pub third : h .few ≡ false → Format3 g (draft .label) f3
 
 -- ---- taken out
 

@@ -228,10 +228,10 @@ pub fn plan_slots(
     ensures { λ r. ⌜ Plans (geometryOf g) (now (table .entry)) (now («free_tracks» .entry)) (now («free_slots» .entry)) (now («free_slots» .exit)) (now (chain .exit)) lo asked r ⌝ }
 {
     let was = settle_slots::read_chain(table, g, chain);
-    let runs = bitmap::count_runs(free_tracks, (g.cylinders * g.heads) as usize);
+    let runs = bitmap::count_runs(free_tracks, dscb::tracks(g) as usize);
     let need = settle_slots::fives_for(runs);
     let place = begin(table, g, chain, lesser(was, need), lo);
-    let n = (g.vtoc_tracks * g.records) as usize;
+    let n = dscb::slots(g);
     let mut given = [0u16; 2];
     let settled = settle_slots::settle(free_slots, n, chain, was, need, &mut given, asked);
     Plan {
@@ -257,36 +257,34 @@ fn finish(table: &mut [u8], g: Geometry, free_tracks: &[u64], chain: &[u16], pla
     put_four(table, g, plan.left);
 }
 
-// A data set that is new or changed: the slots that it has, 0 for none, whether its extents are few, and its records.
-pub struct DataSet {
+// Where a data set that is new or changed goes: the slots that it has, 0 for none, and whether its extents are few.
+pub struct Home {
     pub slot: usize,
     pub slot3: usize,
     pub few: bool,
-    pub f1: [u8; 140],
-    pub f3: [u8; 140],
 }
 
-// Writes a data set that is planned.
+// Writes a data set that is planned, out of its records: f1 gets the link to f3 on the way.
 pub fn write_set(
     table: &mut [u8],
     g: Geometry,
     free_tracks: &[u64],
     chain: &[u16],
     plan: Plan,
-    set: DataSet,
+    home: Home,
+    f1: &mut [u8; 140],
+    f3: &[u8; 140],
 )
-    requires { ⌜ Limits (geometryOf g) × (length (now table) ≡ 140 * slots (geometryOf g)) × (tracks (geometryOf g) ≤ 64 * length (now «free_tracks»)) × (set .slot < slots (geometryOf g)) × (set .slot3 < slots (geometryOf g)) × (length (set .f1) ≡ 140) ⌝ }
-    requires { ⌜ Puts (geometryOf g) (now table) (now «free_tracks») (now chain) plan set ⌝ }
-    ensures { λ _. ⌜ ((d : Puts (geometryOf g) (now (table .entry)) (now («free_tracks» .entry)) (now (chain .entry)) plan set) → Leaves (drafted (d .draft)) (now (table .exit))) ⌝ }
+    requires { ⌜ Limits (geometryOf g) × (length (now table) ≡ 140 * slots (geometryOf g)) × (tracks (geometryOf g) ≤ 64 * length (now «free_tracks»)) × (home .slot < slots (geometryOf g)) × (home .slot3 < slots (geometryOf g)) × (length (now f1) ≡ 140) ⌝ }
+    requires { ⌜ Puts (geometryOf g) (now table) (now «free_tracks») (now chain) plan home (now f1) (now f3) ⌝ }
+    ensures { λ _. ⌜ ((d : Puts (geometryOf g) (now (table .entry)) (now («free_tracks» .entry)) (now (chain .entry)) plan home (now (f1 .entry)) (now (f3 .entry))) → Leaves (drafted (d .draft)) (now (table .exit))) ⌝ }
 {
     let given = plan.given;
-    let mut f1 = set.f1;
-    let f3 = set.f3;
     clear(table, chain, plan.need, plan.was);
-    clear_slot(table, if_few(set.few, set.slot3));
-    let first = slot_or(set.slot, given[0]);
-    let third = third_slot(set.slot, set.slot3, set.few, given);
-    put_label(table, g, first, third, &mut f1, &f3);
+    clear_slot(table, if_few(home.few, home.slot3));
+    let first = slot_or(home.slot, given[0]);
+    let third = third_slot(home.slot, home.slot3, home.few, given);
+    put_label(table, g, first, third, f1, f3);
     finish(table, g, free_tracks, chain, plan);
 }
 

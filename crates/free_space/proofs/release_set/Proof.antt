@@ -88,7 +88,7 @@ slice-aggregate-write-set c = search needs
 
 write-set-requires : tie.Need-write-set-requires
 write-set-requires c κs =
-    let at-cut-set = c .before .before .before in
+    let at-cut-set = c .before .before .before .before .before in
     let at-third-record = at-cut-set .before .before .before in
     let at-record-of = at-third-record .before .before in
     let at-record-at = at-record-of .before in
@@ -107,7 +107,7 @@ write-set-requires c κs =
 
 sub-put-back : tie.Need-sub-put-back
 sub-put-back c =
-    let at-if1 = c .before .before .before .before .before .before .before .before .before .before .before .before .before .before .before .before .before .before .before .before .before .before .before .before .before .before .before .before in
+    let at-if1 = c .before .before .before .before .before .before .before .before .before .before .before .before .before .before .before .before .before .before .before .before .before .before .before .before .before .before .before .before .before .before in
     let at-good-ttr = at-if1 .before in
     let at-measure = at-good-ttr .before in
     let top = at-measure .before .before .before .before .before .before in
@@ -115,7 +115,7 @@ sub-put-back c =
 
 put-back-requires : tie.Need-put-back-requires
 put-back-requires c κs =
-    let at-measure = c .before .before .before .before .before .before .before .before .before .before .before .before .before .before .before .before .before .before .before .before .before .before .before .before .before .before .before .before .before .before in
+    let at-measure = c .before .before .before .before .before .before .before .before .before .before .before .before .before .before .before .before .before .before .before .before .before .before .before .before .before .before .before .before .before .before .before .before in
     let top = at-measure .before .before .before .before .before .before in
     let a = set-small _ _ _ _ _ (top .pre .1) in
     let b = at-measure .measure .ensures _ _ (top .pre .1) .spread .sum in
@@ -125,10 +125,10 @@ same-length-5 : tie.Need-same-length-5
 same-length-5 c = search needs
 
 same-length-6 : tie.Need-same-length-6
-same-length-6 c = search needs
+same-length-6 c = let k = c .before .before .before .before .before .before .before .before .before .before .before .before .before .before .before .before .before .before .before .before .before .before .before .before .before .before .before .before .plan-release .kept in search needs
 
 same-length-7 : tie.Need-same-length-7
-same-length-7 c = search needs
+same-length-7 c = let k = c .before .before .before .before .before .before .before .before .before .before .before .before .before .before .before .before .before .before .before .before .before .before .before .before .before .before .before .before .plan-release .kept in search needs
 
 same-length-8 : tie.Need-same-length-8
 same-length-8 c = search needs
@@ -137,7 +137,7 @@ returns-3 : tie.Need-returns-3
 returns-3 c =
     let at-put-back = c .before .before in
     let at-write-set = at-put-back .before .before .before .before .before in
-    let at-cut-set = at-write-set .before .before .before .before in
+    let at-cut-set = at-write-set .before .before .before .before .before .before in
     let at-third-record = at-cut-set .before .before .before in
     let at-record-of = at-third-record .before .before in
     let at-record-at = at-record-of .before in

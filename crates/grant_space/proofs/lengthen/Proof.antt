@@ -142,7 +142,7 @@ slice-aggregate-write-grant c = search needs
 
 write-grant-requires : tie.Need-write-grant-requires
 write-grant-requires c κs =
-    let at-if4 = c .before .before .before in
+    let at-if4 = c .before .before .before .before .before in
     let at-plan-grant = at-if4 .before .before .before .before .before .before in
     let at-type-byte = at-plan-grant .before .before .before .before .before in
     let at-if3 = at-type-byte .before in
@@ -160,7 +160,7 @@ write-grant-requires c κs =
 
 put-granted-requires : tie.Need-put-granted-requires
 put-granted-requires c κs =
-    let at-if2 = c .before .before .before .before .before .before .before .before .before .before .before .before .before .before .before .before .before .before .before .before .before .before in
+    let at-if2 = c .before .before .before .before .before .before .before .before .before .before .before .before .before .before .before .before .before .before .before .before .before .before .before .before in
     let at-count-pieces = at-if2 .before .before in
     let at-fulfil = at-count-pieces .before in
     let at-secondary-of = at-fulfil .before .before .before in
@@ -187,7 +187,7 @@ returns-5 : tie.Need-returns-5
 returns-5 c =
     let at-put-granted = c .before .before in
     let at-write-grant = at-put-granted .before .before .before .before in
-    let at-if4 = at-write-grant .before .before .before .before in
+    let at-if4 = at-write-grant .before .before .before .before .before .before in
     let at-plan-grant = at-if4 .before .before .before .before .before .before in
     let at-type-byte = at-plan-grant .before .before .before .before .before in
     let at-if3 = at-type-byte .before in

@@ -1,6 +1,7 @@
 use Rattle.grant_space.proofs.NewSet.{asks, count-most, full, grants, limits, lists, long, map-fits, no-space, put, secondary-fits, sum-most, writes}
 use native.Mathlib.Omega.{arith}
-use mathlib.Core.Path.{refl}
+use lib.ListN.{length}
+use mathlib.Core.Path.{_≡_, refl}
 use borrow.Author.Needs.{needs}
 use Rattle.grant_space.proofs.place.Statement.{statement}
 use Rattle.grant_space.proofs.place.Tie as tie
@@ -80,16 +81,28 @@ slice-aggregate-write-grant : tie.Need-slice-aggregate-write-grant
 slice-aggregate-write-grant c = search needs
 
 write-grant-requires : tie.Need-write-grant-requires
-write-grant-requires c κs = (
-  (let least = limits (c .before .before .before .before .before .before .before .before .before .before .before .before .before .before .before .before .before .before .before .before .before .before .before .before .before .before .before .before .before .before .pre) .least in
-      let most = count-most (c .before .before .before .before .before .before .before .before .before .before .before .before .before .before .before .before .before .before .before .before .before .before .before .before .before .before .before .before .before .before .pre) _ (c .before .before .before .before .before .before .before .before .before .before .before .before .before .before .before .before .before .before .before .before .before .fulfil .ensures) _ _ (c .before .before .before .before .before .before .before .before .before .before .before .before .before .before .before .before .before .before .before .before .count-pieces .ensures) (c .before .before .before .before .before .before .before .before .before .before .before .before .before .before .before .before .before .before .if1 .left) in
-      (limits (c .before .before .before .before .before .before .before .before .before .before .before .before .before .before .before .before .before .before .before .before .before .before .before .before .before .before .before .before .before .before .pre), long (c .before .before .before .before .before .before .before .before .before .before .before .before .before .before .before .before .before .before .before .before .before .before .before .before .before .before .before .before .before .before .pre), map-fits (c .before .before .before .before .before .before .before .before .before .before .before .before .before .before .before .before .before .before .before .before .before .before .before .before .before .before .before .before .before .before .pre) _ (c .before .before .before .before .before .before .before .before .before .before .before .before .plan-grant .ensures .took .long), omega (arith, least), omega (arith, least), most, omega (arith, most), search needs, search needs)),
-  writes (c .before .before .before .before .before .before .before .before .before .before .before .before .before .before .before .before .before .before .before .before .before .before .before .before .before .before .before .before .before .before .pre) _ (c .before .before .before .before .before .before .before .before .before .before .before .before .before .before .before .before .before .before .before .before .before .fulfil .ensures) _ _ (c .before .before .before .before .before .before .before .before .before .before .before .before .before .before .before .before .before .before .before .before .count-pieces .ensures) (c .before .before .before .before .before .before .before .before .before .before .before .before .before .before .before .before .before .before .if1 .left) _ (c .before .before .before .before .before .before .before .before .before .before .before .before .before .before .before .before .before .type-byte .ensures) (c .before .before .before .before .before .before .before .before .before .before .before .before .plan-grant .ensures) (c .before .before .before .before .before .before .if2 .taken) _ (c .before .before .before .before .before .unit-byte .ensures) _ _ (c .before .before .before .before .new-label .ensures) (c .before .before .before .empty-three .ensures),
-)
+write-grant-requires c κs =
+    let long1 : length (c .before .before .before .before .before .before .new-label .result) ≡ 140 = search needs in
+    let long3 : length (c .before .before .before .before .before .empty-three .result) ≡ 140 = search needs in
+    let at-empty-three = c .before .before .before .before .before in
+    let at-new-label = at-empty-three .before in
+    let at-unit-byte = at-new-label .before in
+    let at-if2 = at-unit-byte .before in
+    let at-plan-grant = at-if2 .before .before .before .before .before .before in
+    let at-type-byte = at-plan-grant .before .before .before .before .before in
+    let at-if1 = at-type-byte .before in
+    let at-count-pieces = at-if1 .before .before in
+    let at-fulfil = at-count-pieces .before in
+    let top = at-fulfil .before .before .before .before .before .before .before .before .before in
+    let least = limits (top .pre) .least in
+    let most = count-most (top .pre) _ (at-fulfil .fulfil .ensures) _ _ (at-count-pieces .count-pieces .ensures) (at-if1 .if1 .left) in (
+      (limits (top .pre), long (top .pre), map-fits (top .pre) _ (at-plan-grant .plan-grant .ensures .took .long), omega (arith, least), omega (arith, least), most, omega (arith, most), long1, long3),
+      writes (top .pre) _ (at-fulfil .fulfil .ensures) _ _ (at-count-pieces .count-pieces .ensures) (at-if1 .if1 .left) _ (at-type-byte .type-byte .ensures) (at-plan-grant .plan-grant .ensures) (at-if2 .if2 .taken) _ (at-unit-byte .unit-byte .ensures) _ _ (at-new-label .new-label .ensures) (at-empty-three .empty-three .ensures),
+    )
 
 put-granted-requires : tie.Need-put-granted-requires
 put-granted-requires c κs =
-    let at-if1 = c .before .before .before .before .before .before .before .before .before .before .before .before .before .before .before .before .before .before .before .before .before .before in
+    let at-if1 = c .before .before .before .before .before .before .before .before .before .before .before .before .before .before .before .before .before .before .before .before .before .before .before .before in
     let at-count-pieces = at-if1 .before .before in
     let at-fulfil = at-count-pieces .before in
     let top = at-fulfil .before .before .before .before .before .before .before .before .before in
@@ -111,7 +124,7 @@ returns-3 : tie.Need-returns-3
 returns-3 c =
     let at-put-granted = c .before .before in
     let at-write-grant = at-put-granted .before .before .before .before in
-    let at-empty-three = at-write-grant .before .before .before .before in
+    let at-empty-three = at-write-grant .before .before .before .before .before .before in
     let at-new-label = at-empty-three .before in
     let at-unit-byte = at-new-label .before in
     let at-if2 = at-unit-byte .before in

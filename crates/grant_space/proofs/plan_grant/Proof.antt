@@ -1,11 +1,11 @@
-use Rattle.grant_space.proofs.Laws.{asked-is, pieces-in}
+use Rattle.grant_space.proofs.Laws.{asked-is, low-in, pieces-in}
 use native.Mathlib.Omega.{arith}
 use borrow.Author.Needs.{needs}
 use Rattle.grant_space.proofs.plan_grant.Statement.{statement}
 use Rattle.grant_space.proofs.plan_grant.Tie as tie
 
-mul-lowest-piece : tie.Need-mul-lowest-piece
-mul-lowest-piece c = search needs
+tracks-requires : tie.Need-tracks-requires
+tracks-requires c κs = search needs
 
 lowest-piece-requires : tie.Need-lowest-piece-requires
 lowest-piece-requires c κs = search needs
@@ -43,11 +43,12 @@ returns c =
     let at-few = at-asked-for .before in
     let at-take-pieces = at-few .before .before .before in
     let at-lowest-piece = at-take-pieces .before .before in
-    let top = at-lowest-piece .before .before .before .before .before .before in
+    let at-tracks = at-lowest-piece .before in
+    let top = at-tracks .before .before .before .before .before in
     record {
       lo = _;
       asked = _;
-      lowIn = at-lowest-piece .lowest-piece .ensures .0;
+      lowIn = low-in _ _ _ (at-tracks .tracks .ensures .0) (at-lowest-piece .lowest-piece .ensures .0);
       lowest = at-lowest-piece .lowest-piece .ensures .1;
       took = at-take-pieces .take-pieces .ensures;
       askedIs = asked-is (top .args .set) _ _ (at-few .few .ensures) (at-asked-for .asked-for .ensures .0);
@@ -58,7 +59,7 @@ pub plan-grant-spec : {M : Type 1} → statement M
 plan-grant-spec =
     tie.close
     (tie.spec
-    mul-lowest-piece
+    tracks-requires
     lowest-piece-requires
     take-pieces-requires
     few-requires

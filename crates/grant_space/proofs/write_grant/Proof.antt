@@ -5,7 +5,7 @@ use Rattle.grant_space.proofs.write_grant.Tie as tie
 
 add-pieces-requires : tie.Need-add-pieces-requires
 add-pieces-requires c κs =
-    let top = c .before .before .before .before .before .before .before .before in
+    let top = c .before .before .before .before .before in
     let p = top .pre .0 in
     (p .7, p .8, p .5, p .6, p .0, pieces-in (top .pre .1 .grants) 65535 (p .0 .tracksMost))
 
@@ -14,9 +14,9 @@ few-requires c κs = search needs
 
 write-set-requires : tie.Need-write-set-requires
 write-set-requires c κs =
-    let at-few = c .before in
+    let at-few = c .before .before .before in
     let at-add-pieces = at-few .before in
-    let top = at-add-pieces .before .before .before .before .before .before .before .before .before in
+    let top = at-add-pieces .before .before .before .before .before .before in
     let p = top .pre .0 in
     let d = top .pre .1 in
     let y = at-add-pieces .add-pieces .ensures in (
@@ -30,7 +30,7 @@ same-length c = search needs
 returns : tie.Need-returns
 returns c =
     let at-write-set = c .before .before in
-    let at-few = at-write-set .before .before in
+    let at-few = at-write-set .before .before .before .before in
     let at-add-pieces = at-few .before in
     λ d.
     let y = at-add-pieces .add-pieces .ensures .0 (d .grants .label) (d .grants .pieces) (d .grants .extentsAre) (d .grants .rowsAre) (d .records) in
