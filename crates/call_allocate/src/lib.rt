@@ -1,4 +1,5 @@
 // Allocate: space for a new data set.
+use refusals::*;
 ghost use Rattle.rules.specs.Contracts.{Allocates};
 ghost use Rattle.check_table.specs.Check.{Roomy};
 
@@ -24,15 +25,15 @@ fn allocate_in(
         return opened.refusal;
     }
     if kind > 2 {
-        return 7;
+        return E_AMOUNT;
     }
     let request = request::read_request(kind, start, amount, secondary);
     let g = opened.geometry;
     if request::in_range(request, g) {} else {
-        return 7;
+        return E_AMOUNT;
     }
     if open_table::on_volume(table, g, name) {
-        return 6;
+        return E_DUPLICATE;
     }
     grant_space::place(
         table,

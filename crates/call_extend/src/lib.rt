@@ -1,5 +1,6 @@
 // Extend: the secondary amount for a data set.
 use names::Found;
+use refusals::*;
 ghost use Rattle.rules.specs.Contracts.{Extends};
 ghost use Rattle.check_table.specs.Check.{Roomy};
 
@@ -16,7 +17,7 @@ fn extend_in(table: &mut [u8], name: &[u8], answer: &mut [u8], free_tracks: &mut
     }
     let g = opened.geometry;
     let Found::Slot(k) = open_table::look_up(table, g, name) else {
-        return 5;
+        return E_NOT_FOUND;
     };
     grant_space::lengthen(table, g, free_tracks, &mut free_slots, k, answer)
 }

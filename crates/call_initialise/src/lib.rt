@@ -1,6 +1,7 @@
 // Initialise: a table with no data set.
 use dscb::Geometry;
 use dscb::places::*;
+use refusals::*;
 ghost use mathlib.Core.Path.{_≡_};
 ghost use mathlib.Core.List.{[]};
 ghost use Prim.Native.Nat.{_+_, _*_, _≤_, _<_};
@@ -81,13 +82,13 @@ pub fn initialise(
         vtoc_tracks: v,
     };
     if dscb::limits(g) {} else {
-        return 1;
+        return E_GEOMETRY;
     }
     if table.len() != 140 * dscb::slots(g) {
-        return 2;
+        return E_LENGTH;
     }
     if answer.len() != 24 {
-        return 2;
+        return E_LENGTH;
     }
     write_fresh(table, g);
     answers::put_nothing(answer);

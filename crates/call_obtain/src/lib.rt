@@ -1,6 +1,7 @@
 // Obtain: the label records of a data set.
 use dscb::Geometry;
 use names::Found;
+use refusals::*;
 ghost use mathlib.Core.Path.{_≡_};
 ghost use mathlib.Core.List.{_++_};
 ghost use Prim.Native.Nat.{_+_, _*_, _≤_, _<_};
@@ -46,7 +47,7 @@ pub fn obtain(table: &[u8], name: &[u8], labels: &mut [u8], answer: &mut [u8]) -
     }
     let g = opened.geometry;
     let Found::Slot(k) = open_table::look_up(table, g, name) else {
-        return 5;
+        return E_NOT_FOUND;
     };
     put_labels(table, g, k, labels);
     answers::put_nothing(answer);

@@ -1,5 +1,6 @@
 // Release: the tracks of a data set behind its last block given back.
 use names::Found;
+use refusals::*;
 ghost use Rattle.rules.specs.Contracts.{Releases};
 ghost use Rattle.check_table.specs.Check.{Roomy};
 
@@ -22,7 +23,7 @@ fn release_in(
     }
     let g = opened.geometry;
     let Found::Slot(k) = open_table::look_up(table, g, name) else {
-        return 5;
+        return E_NOT_FOUND;
     };
     free_space::release_set(table, g, free_tracks, &mut free_slots, k, ttr, answer)
 }

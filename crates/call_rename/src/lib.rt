@@ -1,5 +1,6 @@
 // Rename: another name for a data set.
 use names::Found;
+use refusals::*;
 ghost use mathlib.Core.Path.{_≡_};
 ghost use Prim.Native.Nat.{_+_, _*_, _≤_};
 ghost use lib.ListN.{length};
@@ -32,10 +33,10 @@ pub fn rename(table: &mut [u8], old: &[u8], new: &[u8], answer: &mut [u8]) -> u3
     }
     let g = opened.geometry;
     let Found::Slot(k) = open_table::look_up(table, g, old) else {
-        return 5;
+        return E_NOT_FOUND;
     };
     if open_table::on_volume(table, g, new) {
-        return 6;
+        return E_DUPLICATE;
     }
     put_name(table, k, new);
     answers::put_nothing(answer);

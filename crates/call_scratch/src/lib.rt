@@ -1,5 +1,6 @@
 // Scratch: a data set taken off the volume.
 use names::Found;
+use refusals::*;
 ghost use Rattle.rules.specs.Contracts.{Scratches};
 ghost use Rattle.check_table.specs.Check.{Roomy};
 
@@ -16,7 +17,7 @@ fn scratch_in(table: &mut [u8], name: &[u8], answer: &mut [u8], free_tracks: &mu
     }
     let g = opened.geometry;
     let Found::Slot(k) = open_table::look_up(table, g, name) else {
-        return 5;
+        return E_NOT_FOUND;
     };
     free_space::scratch_set(table, g, free_tracks, &mut free_slots, k, answer)
 }

@@ -2,6 +2,7 @@
 // fits, the data set is cut or taken out. Its extents are read where they stand, in the table.
 use dscb::Geometry;
 use dscb::places::*;
+use refusals::*;
 use set_extents::Kept;
 use update::Home;
 use update::Plan;
@@ -153,14 +154,14 @@ pub fn release_set(
 {
     let x = measure(table, g, k);
     if good_ttr(ttr, x.tracks) {} else {
-        return 12;
+        return E_TTR;
     }
     let keep = ttr / 256 + 1;
     let mut chain = [0u16; 468];
     let cut = plan_release(table, g, free_tracks, free_slots, &mut chain, x, keep);
     let plan = cut.plan;
     if plan.fits {} else {
-        return 11;
+        return E_VTOC_FULL;
     }
     let mut f1 = dscb_write::record_of(dscb::record_at(table, k));
     let mut f3 = data_set::third_record(table, x.slot3);
@@ -221,7 +222,7 @@ pub fn scratch_set(
     let set = going.set;
     let plan = going.plan;
     if plan.fits {} else {
-        return 11;
+        return E_VTOC_FULL;
     }
     update::write_drop(table, g, free_tracks, &chain, plan, set.slot, set.slot3);
     answers::put_back(answer, set.tracks);

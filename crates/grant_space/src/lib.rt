@@ -2,6 +2,7 @@
 // set's records get the pieces and the table is written.
 use dscb::Geometry;
 use dscb::places::*;
+use refusals::*;
 use request::Request;
 use update::Home;
 use update::Plan;
@@ -100,7 +101,7 @@ pub fn place(
     let pieces = request::fulfil(table, free_tracks, g, amount);
     let got = choose_pieces::count_pieces(pieces);
     if got.count == 0 {
-        return 9;
+        return E_NO_SPACE;
     }
     let set = Holder {
         slot: 0,
@@ -112,7 +113,7 @@ pub fn place(
     let mut chain = [0u16; 468];
     let plan = plan_grant(table, g, free_tracks, free_slots, &mut chain, set, pieces);
     if plan.fits {} else {
-        return 11;
+        return E_VTOC_FULL;
     }
     let unit = request::unit_byte(amount);
     let mut f1 = dscb_write::new_label(name, attributes, unit, request.secondary);
@@ -149,16 +150,16 @@ pub fn lengthen(
     let mut f3 = held.f3;
     let secondary = rows::three(&f1, SECONDARY);
     if secondary == 0 {
-        return 8;
+        return E_NO_SECONDARY;
     }
     let amount = request::secondary_of(f1[DS1SCALO], secondary);
     let pieces = request::fulfil(table, free_tracks, g, amount);
     let got = choose_pieces::count_pieces(pieces);
     if got.count == 0 {
-        return 9;
+        return E_NO_SPACE;
     }
     if held.count + got.count > 16 {
-        return 10;
+        return E_EXTENTS;
     }
     let set = Holder {
         slot: k,
@@ -170,7 +171,7 @@ pub fn lengthen(
     let mut chain = [0u16; 468];
     let plan = plan_grant(table, g, free_tracks, free_slots, &mut chain, set, pieces);
     if plan.fits {} else {
-        return 11;
+        return E_VTOC_FULL;
     }
     write_grant(
         table,

@@ -3,6 +3,7 @@
 use dscb::Geometry;
 use dscb::places::*;
 use names::Found;
+use refusals::*;
 ghost use mathlib.Core.Path.{_≡_};
 ghost use mathlib.Core.Bool.{not, true, _&&_};
 ghost use Prim.Native.Nat.{_*_, _≤_, _<_};
@@ -85,14 +86,14 @@ pub fn open(table: &[u8], lengths: bool, free_tracks: &mut [u64], free_slots: &m
     ensures { λ r. ⌜ Opened (now (table .entry)) lengths true r × Mapped (now (table .entry)) (now («free_tracks» .entry)) (now («free_tracks» .exit)) (now («free_slots» .entry)) (now («free_slots» .exit)) (r .refusal) ⌝ }
 {
     if check_table::good_length(table) {} else {
-        return refused(2);
+        return refused(E_LENGTH);
     }
     if lengths {} else {
-        return refused(2);
+        return refused(E_LENGTH);
     }
     let verdict = check_table::check(table, free_tracks, free_slots);
     if verdict.taken {} else {
-        return refused(3);
+        return refused(E_UNSOUND);
     }
     let geometry = verdict.geometry;
     Opening {
@@ -124,7 +125,7 @@ pub fn and_named(opening: Opening, name: &[u8]) -> Opening
         return opening;
     }
     if ebcdic::name_ok(name) {} else {
-        return refused(4);
+        return refused(E_NAME);
     }
     opening
 }
