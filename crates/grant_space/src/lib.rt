@@ -116,19 +116,9 @@ pub fn place(
         return E_VTOC_FULL;
     }
     let unit = request::unit_byte(amount);
-    let mut f1 = dscb_write::new_label(name, attributes, unit, request.secondary);
-    let mut f3 = dscb_write::empty_three();
-    write_grant(
-        table,
-        g,
-        free_tracks,
-        &chain,
-        plan,
-        set,
-        pieces,
-        &mut f1,
-        &mut f3,
-    );
+    let f1 = &mut dscb_write::new_label(name, attributes, unit, request.secondary);
+    let f3 = &mut dscb_write::empty_three();
+    write_grant(table, g, free_tracks, &chain, plan, set, pieces, f1, f3);
     answers::put_granted(answer, pieces, got.count, got.tracks);
     0
 }
@@ -173,17 +163,9 @@ pub fn lengthen(
     if plan.fits {} else {
         return E_VTOC_FULL;
     }
-    write_grant(
-        table,
-        g,
-        free_tracks,
-        &chain,
-        plan,
-        set,
-        pieces,
-        &mut f1,
-        &mut f3,
-    );
+    let f1 = &mut f1;
+    let f3 = &mut f3;
+    write_grant(table, g, free_tracks, &chain, plan, set, pieces, f1, f3);
     answers::put_granted(answer, pieces, got.count, got.tracks);
     0
 }

@@ -83,9 +83,9 @@ slice-aggregate-write-grant c = search needs
 write-grant-requires : tie.Need-write-grant-requires
 write-grant-requires c κs =
     let long1 : length (c .before .before .before .before .before .before .new-label .result) ≡ 140 = search needs in
-    let long3 : length (c .before .before .before .before .before .empty-three .result) ≡ 140 = search needs in
-    let at-empty-three = c .before .before .before .before .before in
-    let at-new-label = at-empty-three .before in
+    let long3 : length (c .before .before .before .before .empty-three .result) ≡ 140 = search needs in
+    let at-empty-three = c .before .before .before .before in
+    let at-new-label = at-empty-three .before .before in
     let at-unit-byte = at-new-label .before in
     let at-if2 = at-unit-byte .before in
     let at-plan-grant = at-if2 .before .before .before .before .before .before in
@@ -124,8 +124,8 @@ returns-3 : tie.Need-returns-3
 returns-3 c =
     let at-put-granted = c .before .before in
     let at-write-grant = at-put-granted .before .before .before .before in
-    let at-empty-three = at-write-grant .before .before .before .before .before .before in
-    let at-new-label = at-empty-three .before in
+    let at-empty-three = at-write-grant .before .before .before .before .before in
+    let at-new-label = at-empty-three .before .before in
     let at-unit-byte = at-new-label .before in
     let at-if2 = at-unit-byte .before in
     let at-plan-grant = at-if2 .before .before .before .before .before .before in
