@@ -1,26 +1,15 @@
--- Writing: one text behind the other, and a number digit by digit. Assumes nothing.
-use mathlib.Core.Path.{_≡_, refl, sym, ap, _∙_, subst}
-use mathlib.Core.List.{List, [], _∷_, _++_, append-assoc, append-nil}
+-- A number written digit by digit. Assumes nothing.
+use mathlib.Core.Path.{_≡_, subst}
+use mathlib.Core.List.{List, [], _∷_, _++_}
 use Prim.Native.Nat.{ℕ, _+_, _/_, _%_, _≤_, _<_}
 use native.Mathlib.Omega.{arith}
-use native.Mathlib.Numerals.{add-one}
 use native.Mathlib.Nat.{lt-of-not-le}
 use native.Mathlib.Decide.{decLe}
 use borrow.Author.Tests.{lt-ltb, le-ltb}
-use lib.ListN.{length, take, set, length-set}
-use lib.Seq.{take-suc-set}
 use Rattle.rules.specs.Listing.{decimal}
-use Rattle.listing.specs.Text.{Written, digit}
-
-pub write-byte : (out : List ℕ) (i b : ℕ) → i < length out → Written i (b ∷ []) 1 out (set out i b) (i + 1)
-write-byte out i b h = record { long = length-set out i b; end = omega arith; text = rw add-one (take-suc-set out i b h) }
-
-pub write-none : (out : List ℕ) (i m : ℕ) → Written i [] m out out i
-write-none out i m = record { long = refl; end = omega arith; text = sym (append-nil (take i out)) }
-
-pub then : {i j k m n : ℕ} {s t out out′ out″ : List ℕ} → Written i s m out out′ j → Written j t n out′ out″ k → Written i (s ++ t) (m + n) out out″ k
-then {i} {j} {k} {m} {n} {s} {t} {out} a b =
-    record { long = b .long ∙ a .long; end = let x = a .end in let y = b .end in omega arith; text = b .text ∙ ap (λ (x : List ℕ). x ++ t) (a .text) ∙ append-assoc (take i out) s t }
+use Rattle.rows.specs.Text.{Written}
+use Rattle.rows.proofs.Text.{then}
+use Rattle.listing.specs.Text.{digit}
 
 pub digit-none : (u v : ℕ) → v < u → digit u v ≡ []
 unfolding digit

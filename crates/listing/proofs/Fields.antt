@@ -11,8 +11,9 @@ use lib.Seq.{length-take-le, take-suc, take-all}
 use Rattle.model.specs.Basics.{flat}
 use Rattle.model.proofs.Lists.{by}
 use Rattle.rules.specs.Listing.{line, printable}
-use Rattle.listing.specs.Text.{Line, Written, nameText}
-use Rattle.listing.proofs.Decimals.{then, write-none}
+use Rattle.rows.specs.Text.{Written}
+use Rattle.rows.proofs.Text.{then, write-none}
+use Rattle.listing.specs.Text.{Line, nameText}
 
 -- ---- lines
 

@@ -22,8 +22,9 @@ use Rattle.names.specs.Find.{isLabel}
 use Rattle.check_label.specs.Marks.{labelAt}
 use Rattle.check_table.specs.Labels.{atSlot, labelsBelow}
 use Rattle.check_table.proofs.Scan.{below-next}
-use Rattle.listing.specs.Text.{Line, Written}
-use Rattle.listing.proofs.Decimals.{then, write-none}
+use Rattle.rows.specs.Text.{Written}
+use Rattle.rows.proofs.Text.{then, write-none}
+use Rattle.listing.specs.Text.{Line}
 use Rattle.listing.proofs.Fields.{line-length}
 use Rattle.listing.specs.Whole.{spanLine}
 

@@ -20,8 +20,9 @@ use Rattle.rules.specs.Sound.{LabelOk, Sound}
 use Rattle.rules.proofs.Meaning.{recordsOf, taken-sound}
 use Rattle.bitmap.specs.Map.{freeFrom}
 use Rattle.check_table.specs.Labels.{labelsBelow}
-use Rattle.listing.specs.Text.{Written, volumeText}
-use Rattle.listing.proofs.Decimals.{then}
+use Rattle.rows.specs.Text.{Written}
+use Rattle.rows.proofs.Text.{then}
+use Rattle.listing.specs.Text.{volumeText}
 use Rattle.listing.proofs.Extents.{good-proper, tracks-most}
 use Rattle.listing.proofs.Volumes.{volume-text}
 use Rattle.check_table.specs.Check.{Shown, Tells, volumeAt}

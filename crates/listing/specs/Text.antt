@@ -2,18 +2,12 @@
 use mathlib.Core.Path.{_≡_}
 use Prim.Native.Nat.{ℕ, _+_, _*_, _/_, _%_, _≤_}
 use mathlib.Core.Bool.{not, cond}
-use mathlib.Core.List.{List, [], _∷_, _++_, map}
+use mathlib.Core.List.{List, [], _∷_, map}
 use lib.ListN.{length, take}
 use lib.Dec.{ltb, eqb}
 use Rattle.model.specs.Basics.{filter}
 use Rattle.model.specs.Model.{Extent}
 use Rattle.rules.specs.Listing.{decimal, line, printable}
-
--- s was written at place i, what stands before it is kept, and r is the place behind it, at most `most` places on
-pub record Written (i : ℕ) (s : List ℕ) (most : ℕ) (out out′ : List ℕ) (r : ℕ) : Type 0 where
-  pub long : length out′ ≡ length out
-  pub end : r ≤ i + most
-  pub text : take r out′ ≡ take i out ++ s
 
 -- the line stands at the buffer's start and has r bytes; every line has room in 64
 pub record Line (s out out′ : List ℕ) (r : ℕ) : Type 0 where

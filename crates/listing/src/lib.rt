@@ -9,10 +9,11 @@ ghost use Rattle.model.specs.Model.{overs, run, total, slots};
 ghost use Rattle.model.specs.Predicates.{All};
 ghost use Rattle.rules.specs.Listing.{decimal, line, freeLine, refusalLine, slotLine, dataLine, listing, listingOf};
 ghost use Rattle.rules.specs.Reading.{readExtent, readExtents, read, slotAt};
-ghost use Rattle.listing.specs.Text.{Line, Proper, Written, dataText, digit, nameText, volumeText};
+ghost use Rattle.listing.specs.Text.{Line, Proper, dataText, digit, nameText, volumeText};
 ghost use Rattle.model.specs.Basics.{flat};
 ghost use Rattle.rules.specs.Predicates.{Limits};
 ghost use Rattle.bitmap.specs.Map.{freeFrom};
+ghost use Rattle.rows.specs.Text.{Written};
 ghost use Rattle.dscb.specs.Forms.{geometryOf};
 ghost use Rattle.check_label.specs.Marks.{labelAt};
 ghost use Rattle.check_table.specs.Labels.{atSlot, labelsBelow};
@@ -20,15 +21,6 @@ ghost use Rattle.check_table.specs.Check.{ones};
 ghost use Rattle.listing.specs.Whole.{Listable, ReadyToList, spanLine};
 
 // ---- fields; each function gives back the place behind what it wrote
-
-// Writes one byte.
-fn put_byte(out: &mut [u8], at: usize, b: u8) -> usize
-    requires { ⌜ at < length (now out) ⌝ }
-    ensures { λ r. ⌜ Written at (b ∷ []) 1 (now (out .entry)) (now (out .exit)) r ⌝ }
-{
-    out[at] = b;
-    at + 1
-}
 
 // Writes the digit of v that counts this unit; none where v is below it.
 fn put_digit(out: &mut [u8], at: usize, v: u32, unit: u32) -> usize
@@ -38,7 +30,7 @@ fn put_digit(out: &mut [u8], at: usize, v: u32, unit: u32) -> usize
     if v < unit {
         return at;
     }
-    put_byte(out, at, (0x30 + v / unit % 10) as u8)
+    rows::put_byte(out, at, (0x30 + v / unit % 10) as u8)
 }
 
 // Writes a number in decimal, without leading zeros.
@@ -50,7 +42,7 @@ pub fn put_decimal(out: &mut [u8], at: usize, v: u32) -> usize
     let b = put_digit(out, a, v, 1000);
     let c = put_digit(out, b, v, 100);
     let d = put_digit(out, c, v, 10);
-    put_byte(out, d, (0x30 + v % 10) as u8)
+    rows::put_byte(out, d, (0x30 + v % 10) as u8)
 }
 
 // Writes a blank and a number.
@@ -58,7 +50,7 @@ fn put_field(out: &mut [u8], at: usize, v: u32) -> usize
     requires { ⌜ (at + 6 ≤ length (now out)) × (v < 100000) ⌝ }
     ensures { λ r. ⌜ Written at (0x20 ∷ decimal v) 6 (now (out .entry)) (now (out .exit)) r ⌝ }
 {
-    let p = put_byte(out, at, b' ');
+    let p = rows::put_byte(out, at, b' ');
     put_decimal(out, p, v)
 }
 
@@ -71,7 +63,7 @@ fn put_printed(out: &mut [u8], at: usize, b: u8) -> usize
         return at;
     }
     let c = ebcdic::listing::printable(b);
-    put_byte(out, at, c)
+    rows::put_byte(out, at, c)
 }
 
 // Writes a name of 44 label bytes less its blanks.
@@ -95,9 +87,9 @@ fn one_number(out: &mut [u8], letter: u8, n: u32) -> usize
     requires { ⌜ (64 ≤ length (now out)) × (n < 100000) ⌝ }
     ensures { λ r. ⌜ Line (line letter (decimal n ∷ [])) (now (out .entry)) (now (out .exit)) r ⌝ }
 {
-    let a = put_byte(out, 0, letter);
+    let a = rows::put_byte(out, 0, letter);
     let b = put_field(out, a, n);
-    put_byte(out, b, b'\n')
+    rows::put_byte(out, b, b'\n')
 }
 
 // The volume: cylinders, tracks in each, tracks.
@@ -105,11 +97,11 @@ pub fn volume_line(out: &mut [u8], cylinders: u32, heads: u32) -> usize
     requires { ⌜ (64 ≤ length (now out)) × (cylinders < 100000) × (heads < 100000) × (cylinders * heads < 100000) ⌝ }
     ensures { λ r. ⌜ Line (volumeText cylinders heads) (now (out .entry)) (now (out .exit)) r ⌝ }
 {
-    let a = put_byte(out, 0, b'V');
+    let a = rows::put_byte(out, 0, b'V');
     let b = put_field(out, a, cylinders);
     let c = put_field(out, b, heads);
     let d = put_field(out, c, cylinders * heads);
-    put_byte(out, d, b'\n')
+    rows::put_byte(out, d, b'\n')
 }
 
 // A data set: its name less its blanks, its tracks, its number of extents.
@@ -117,12 +109,12 @@ pub fn data_line(out: &mut [u8], name: &[u8], tracks: u32, extents: u32) -> usiz
     requires { ⌜ (64 ≤ length (now out)) × (length (now name) ≡ 44) × (tracks < 100000) × (extents < 100000) ⌝ }
     ensures { λ r. ⌜ Line (dataText (now (name .entry)) tracks extents) (now (out .entry)) (now (out .exit)) r ⌝ }
 {
-    let a = put_byte(out, 0, b'D');
-    let b = put_byte(out, a, b' ');
+    let a = rows::put_byte(out, 0, b'D');
+    let b = rows::put_byte(out, a, b' ');
     let c = put_name(out, b, name);
     let d = put_field(out, c, tracks);
     let e = put_field(out, d, extents);
-    put_byte(out, e, b'\n')
+    rows::put_byte(out, e, b'\n')
 }
 
 // A free extent: its first track, and how many.
@@ -130,10 +122,10 @@ pub fn free_line(out: &mut [u8], start: u32, count: u32) -> usize
     requires { ⌜ (64 ≤ length (now out)) × (start < 100000) × (count < 100000) ⌝ }
     ensures { λ r. ⌜ Line (freeLine (run start count)) (now (out .entry)) (now (out .exit)) r ⌝ }
 {
-    let a = put_byte(out, 0, b'F');
+    let a = rows::put_byte(out, 0, b'F');
     let b = put_field(out, a, start);
     let c = put_field(out, b, count);
-    put_byte(out, c, b'\n')
+    rows::put_byte(out, c, b'\n')
 }
 
 // The number of format 0s.

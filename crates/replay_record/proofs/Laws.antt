@@ -1,81 +1,76 @@
 -- Laws of the digest, of digits written one behind the other, and of bytes put. Assumes nothing.
 use mathlib.Core.Path.{_≡_, refl, sym, ap, ap₂, _∙_, subst}
-use mathlib.Core.List.{List, [], _∷_, _++_, append-assoc, append-nil}
+use mathlib.Core.List.{List, [], _∷_, _++_, append-nil}
 use Prim.Native.Nat.{ℕ, suc, _+_, _-_, _*_, _/_, _%_, _≤_, _<_, min}
 use native.Mathlib.Omega.{arith}
 use native.Mathlib.Numerals.{add-one}
 use borrow.Author.Tests.{lt-ltb, le-ltb}
 use Rattle.model.specs.Basics.{part}
-use lib.ListN.{length, take, drop, getD, set, length-set, length-drop, drop-of-length-le}
-use lib.Seq.{drop-cons, drop-drop, length-take-le, take-suc, take-all, take-suc-set}
+use lib.ListN.{length, take, drop, getD, length-drop, length-append, drop-of-length-le}
+use lib.Seq.{drop-cons, drop-drop, length-take-le, take-suc, take-all}
 use borrow.Rule.Slice.PartMut.{midOf, putMid}
+use Rattle.rows.specs.Text.{Written}
+use Rattle.rows.proofs.Text.{then, write-none, written-whole}
 use Rattle.dscb.proofs.Records.{copied-in}
 use Rattle.replay_record.specs.Asked.{over, overAt}
-use Rattle.replay_record.specs.Line.{Wrote, be4, digest, digestFrom, hex, hexByte, hexDigit, lineOf, twoDigits}
+use Rattle.replay_record.specs.Line.{be4, digest, digestFrom, hex, hexByte, hexDigit, lineOf, twoDigits}
 
 -- ---- writing
 
-pub wrote-byte : (out : List ℕ) (i b : ℕ) → i < length out → Wrote i (b ∷ []) 1 out (set out i b) (i + 1)
-wrote-byte out i b h = record { long = length-set out i b; end = refl; text = rw add-one (take-suc-set out i b h) }
-
-pub wrote-none : (out : List ℕ) (i : ℕ) → Wrote i [] 0 out out i
-wrote-none out i = record { long = refl; end = omega arith; text = sym (append-nil (take i out)) }
-
-pub wrote-then : {i j k m n : ℕ} {s t out out′ out″ : List ℕ} → Wrote i s m out out′ j → Wrote j t n out′ out″ k → Wrote i (s ++ t) (m + n) out out″ k
-wrote-then {i} {j} {k} {m} {n} {s} {t} {out} a b =
-    record { long = b .long ∙ a .long; end = let x = a .end in let y = b .end in omega arith; text = b .text ∙ ap (λ (x : List ℕ). x ++ t) (a .text) ∙ append-assoc (take i out) s t }
-
-pub two-hexes : {at p r : ℕ} {o₀ o₁ o₂ : List ℕ} (v a b : ℕ) → a ≡ hexDigit (v / 16) → b ≡ hexDigit (v % 16) → Wrote at (a ∷ []) 1 o₀ o₁ p
-    → Wrote p (b ∷ []) 1 o₁ o₂ r → Wrote at (hexByte v) 2 o₀ o₂ r
-two-hexes {at} {p} {r} {o₀} {o₁} {o₂} v a b e f x y = subst (λ (s : List ℕ). Wrote at s 2 o₀ o₂ r) (ap₂ (λ (m n : ℕ). m ∷ n ∷ []) e f) (wrote-then x y)
+pub two-hexes : {at p r : ℕ} {o₀ o₁ o₂ : List ℕ} (v a b : ℕ) → a ≡ hexDigit (v / 16) → b ≡ hexDigit (v % 16) → Written at (a ∷ []) 1 o₀ o₁ p
+    → Written p (b ∷ []) 1 o₁ o₂ r → Written at (hexByte v) 2 o₀ o₂ r
+two-hexes {at} {p} {r} {o₀} {o₁} {o₂} v a b e f x y = subst (λ (s : List ℕ). Written at s 2 o₀ o₂ r) (ap₂ (λ (m n : ℕ). m ∷ n ∷ []) e f) (then x y)
 
 hex-append : (xs ys : List ℕ) → hex (xs ++ ys) ≡ hex xs ++ hex ys
 unfolding hex
 hex-append [] ys = refl
 hex-append (x ∷ xs) ys = ap (λ (t : List ℕ). hexByte x ++ t) (hex-append xs ys)
 
-pub hex-none : (out : List ℕ) (i : ℕ) → Wrote i (hex []) 0 out out i
+pub hex-none : (out : List ℕ) (i : ℕ) → Written i (hex []) 0 out out i
 unfolding hex
-hex-none out i = wrote-none out i
+hex-none out i = write-none out i 0
 
 pub hex-one : (b : ℕ) → hexByte b ≡ hex (b ∷ [])
 unfolding hex
 hex-one b = refl
 
-pub hex-next : {at p r : ℕ} {o₀ o₁ o₂ : List ℕ} (s : List ℕ) (i : ℕ) → i < length s → Wrote at (hex (take i s)) (2 * i) o₀ o₁ p
-    → Wrote p (hexByte (getD s i 0)) 2 o₁ o₂ r → Wrote at (hex (take (i + 1) s)) (2 * (i + 1)) o₀ o₂ r
+pub hex-next : {at p r : ℕ} {o₀ o₁ o₂ : List ℕ} (s : List ℕ) (i : ℕ) → i < length s → Written at (hex (take i s)) (2 * i) o₀ o₁ p
+    → Written p (hexByte (getD s i 0)) 2 o₁ o₂ r → Written at (hex (take (i + 1) s)) (2 * (i + 1)) o₀ o₂ r
 hex-next {at} {p} {r} {o₀} {o₁} {o₂} s i h a b =
     let e : take (i + 1) s ≡ take i s ++ (getD s i 0 ∷ []) = rw add-one (take-suc s i 0 h) in
     let f : hex (take i s) ++ hexByte (getD s i 0) ≡ hex (take (i + 1) s) = ap (λ (t : List ℕ). hex (take i s) ++ t) (hex-one (getD s i 0)) ∙ sym (hex-append (take i s) (getD s i 0 ∷ [])) ∙ ap hex (sym e) in
     let g : 2 * i + 2 ≡ 2 * (i + 1) = omega arith in
-    subst (λ (n : ℕ). Wrote at (hex (take (i + 1) s)) n o₀ o₂ r) g (subst (λ (t : List ℕ). Wrote at t (2 * i + 2) o₀ o₂ r) f (wrote-then a b))
+    subst (λ (n : ℕ). Written at (hex (take (i + 1) s)) n o₀ o₂ r) g (subst (λ (t : List ℕ). Written at t (2 * i + 2) o₀ o₂ r) f (then a b))
 
-pub hex-done : {at r : ℕ} {o₀ o₁ : List ℕ} (s : List ℕ) (i : ℕ) → i ≤ length s → length s ≤ i → Wrote at (hex (take i s)) (2 * i) o₀ o₁ r
-    → Wrote at (hex s) (2 * length s) o₀ o₁ r
+pub hex-done : {at r : ℕ} {o₀ o₁ : List ℕ} (s : List ℕ) (i : ℕ) → i ≤ length s → length s ≤ i → Written at (hex (take i s)) (2 * i) o₀ o₁ r
+    → Written at (hex s) (2 * length s) o₀ o₁ r
 hex-done {at} {r} {o₀} {o₁} s i h k a =
     let e : i ≡ length s = omega arith in
-    let w : Wrote at (hex (take (length s) s)) (2 * length s) o₀ o₁ r = subst (λ (n : ℕ). Wrote at (hex (take n s)) (2 * n) o₀ o₁ r) e a in
-    subst (λ (t : List ℕ). Wrote at (hex t) (2 * length s) o₀ o₁ r) (take-all (length s) s (omega arith)) w
+    let w : Written at (hex (take (length s) s)) (2 * length s) o₀ o₁ r = subst (λ (n : ℕ). Written at (hex (take n s)) (2 * n) o₀ o₁ r) e a in
+    subst (λ (t : List ℕ). Written at (hex t) (2 * length s) o₀ o₁ r) (take-all (length s) s (omega arith)) w
 
-pub four-hexes : {at p a b c r : ℕ} {o₀ o₁ o₂ o₃ o₄ o₅ : List ℕ} (v : ℕ) → Wrote at (0x20 ∷ []) 1 o₀ o₁ p → Wrote p (hexByte (v / 16777216)) 2 o₁ o₂ a
-    → Wrote a (hexByte (v / 65536 % 256)) 2 o₂ o₃ b → Wrote b (hexByte (v / 256 % 256)) 2 o₃ o₄ c → Wrote c (hexByte (v % 256)) 2 o₄ o₅ r
-    → Wrote at (0x20 ∷ hex (be4 v)) 9 o₀ o₅ r
+pub four-hexes : {at p a b c r : ℕ} {o₀ o₁ o₂ o₃ o₄ o₅ : List ℕ} (v : ℕ) → Written at (0x20 ∷ []) 1 o₀ o₁ p → Written p (hexByte (v / 16777216)) 2 o₁ o₂ a
+    → Written a (hexByte (v / 65536 % 256)) 2 o₂ o₃ b → Written b (hexByte (v / 256 % 256)) 2 o₃ o₄ c → Written c (hexByte (v % 256)) 2 o₄ o₅ r
+    → Written at (0x20 ∷ hex (be4 v)) 9 o₀ o₅ r
 unfolding hex
-four-hexes v p a b c d = wrote-then p (wrote-then a (wrote-then b (wrote-then c d)))
+four-hexes v p a b c d = then p (then a (then b (then c d)))
 
--- a text that fills the buffer is what the buffer holds
-pub line-whole : {s out out′ : List ℕ} {n r : ℕ} → length out ≡ n → Wrote 0 s n out out′ r → out′ ≡ s
-line-whole {s} {out} {out′} {n} {r} h w =
-    let x = w .long in let y = w .end in sym (take-all r out′ (omega arith)) ∙ w .text
+hex-long : (s : List ℕ) → length (hex s) ≡ 2 * length s
+unfolding hex
+hex-long [] = refl
+hex-long (x ∷ xs) = let e = hex-long xs in omega arith
+
+line-long : (op res : ℕ) (ans : List ℕ) (t l : ℕ) → length ans ≡ 24 → length (lineOf op res ans t l) ≡ 73
+unfolding lineOf hex
+line-long op res ans t l k = let e = hex-long ans in simp length-append (omega arith)
 
 pub line-done : {a b c d e f g : ℕ} {o₀ o₁ o₂ o₃ o₄ o₅ o₆ o₇ : List ℕ} (op res : ℕ) (ans : List ℕ) (t l : ℕ) → length o₀ ≡ 73 → length ans ≡ 24
-    → Wrote 0 (hexByte op) 2 o₀ o₁ a → Wrote a (0x20 ∷ twoDigits res) 3 o₁ o₂ b → Wrote b (0x20 ∷ []) 1 o₂ o₃ c
-    → Wrote c (hex ans) (2 * length ans) o₃ o₄ d → Wrote d (0x20 ∷ hex (be4 t)) 9 o₄ o₅ e → Wrote e (0x20 ∷ hex (be4 l)) 9 o₅ o₆ f
-    → Wrote f (0x0A ∷ []) 1 o₆ o₇ g → o₇ ≡ lineOf op res ans t l
+    → Written 0 (hexByte op) 2 o₀ o₁ a → Written a (0x20 ∷ twoDigits res) 3 o₁ o₂ b → Written b (0x20 ∷ []) 1 o₂ o₃ c
+    → Written c (hex ans) (2 * length ans) o₃ o₄ d → Written d (0x20 ∷ hex (be4 t)) 9 o₄ o₅ e → Written e (0x20 ∷ hex (be4 l)) 9 o₅ o₆ f
+    → Written f (0x0A ∷ []) 1 o₆ o₇ g → o₇ ≡ lineOf op res ans t l
 unfolding lineOf
-line-done {a} {b} {c} {d} {e} {f} {g} {o₀} {o₁} {o₂} {o₃} {o₄} op res ans t l h k wa wb wc wd we wf wg =
-    let w : Wrote c (hex ans) (2 * 24) o₃ o₄ d = subst (λ (n : ℕ). Wrote c (hex ans) (2 * n) o₃ o₄ d) k wd in
-    line-whole h (wrote-then wa (wrote-then wb (wrote-then (wrote-then wc w) (wrote-then we (wrote-then wf wg)))))
+line-done op res ans t l h k wa wb wc wd we wf wg =
+    written-whole (line-long op res ans t l k ∙ sym h) (then wa (then wb (then (then wc wd) (then we (then wf wg)))))
 
 -- ---- lengths and bytes put
 

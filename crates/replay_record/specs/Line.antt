@@ -1,9 +1,7 @@
--- The line that is printed for a record (docs/REPLAY.md), and how it is written into a buffer. Assumes nothing.
-use mathlib.Core.Path.{_≡_}
+-- The line that is printed for a record (docs/REPLAY.md). Assumes nothing.
 use Prim.Native.Nat.{ℕ, _+_, _*_, _/_, _%_}
 use mathlib.Core.Bool.{cond}
 use mathlib.Core.List.{List, [], _∷_, _++_}
-use lib.ListN.{length, take}
 use lib.Dec.{ltb}
 use Rattle.model.specs.Basics.{flat}
 
@@ -43,9 +41,3 @@ lineOf op result answer table labels =
     hexByte op
     ++ ((0x20 ∷ twoDigits result)
     ++ ((0x20 ∷ hex answer) ++ ((0x20 ∷ hex (be4 table)) ++ ((0x20 ∷ hex (be4 labels)) ++ (0x0A ∷ [])))))
-
--- s, of n bytes, was written at place i, what stands before it is kept, and r is the place behind it
-pub record Wrote (i : ℕ) (s : List ℕ) (n : ℕ) (out out′ : List ℕ) (r : ℕ) : Type 0 where
-  pub long : length out′ ≡ length out
-  pub end : r ≡ i + n
-  pub text : take r out′ ≡ take i out ++ s

@@ -1,9 +1,10 @@
 // Recorded calls (docs/REPLAY.md): the fields of a record, the digest of a buffer, and the line that is printed.
 ghost use mathlib.Core.Path.{_≡_};
 ghost use Prim.Native.Nat.{_+_, _*_, _≤_, _<_};
-ghost use mathlib.Core.List.{[], _∷_};
+ghost use mathlib.Core.List.{_∷_};
 ghost use lib.ListN.{length};
-ghost use Rattle.replay_record.specs.Line.{Wrote, be4, digest, hex, hexByte, hexDigit, lineOf, twoDigits};
+ghost use Rattle.rows.specs.Text.{Written};
+ghost use Rattle.replay_record.specs.Line.{be4, digest, hex, hexByte, hexDigit, lineOf, twoDigits};
 ghost use Rattle.replay_record.specs.Asked.{answerLent, bytesOf, get4, labelsLent, nameAsked, otherOf, overAt, tableLent};
 
 // ---- the fields of a record
@@ -109,38 +110,29 @@ fn digit(v: u32) -> u8
     (0x37 + v) as u8
 }
 
-// Writes one byte.
-fn put_byte(out: &mut [u8], at: usize, b: u8) -> usize
-    requires { ⌜ at < length (now out) ⌝ }
-    ensures { λ r. ⌜ Wrote at (b ∷ []) 1 (now (out .entry)) (now (out .exit)) r ⌝ }
-{
-    out[at] = b;
-    at + 1
-}
-
 // Writes a byte in hexadecimal.
 fn put_hex(out: &mut [u8], at: usize, v: u32) -> usize
     requires { ⌜ (at + 2 ≤ length (now out)) × (v < 256) ⌝ }
-    ensures { λ r. ⌜ Wrote at (hexByte v) 2 (now (out .entry)) (now (out .exit)) r ⌝ }
+    ensures { λ r. ⌜ Written at (hexByte v) 2 (now (out .entry)) (now (out .exit)) r ⌝ }
 {
-    let p = put_byte(out, at, digit(v / 16));
-    put_byte(out, p, digit(v % 16))
+    let p = rows::put_byte(out, at, digit(v / 16));
+    rows::put_byte(out, p, digit(v % 16))
 }
 
 // Writes a blank and the last two decimal digits.
 fn put_result(out: &mut [u8], at: usize, v: u32) -> usize
     requires { ⌜ at + 3 ≤ length (now out) ⌝ }
-    ensures { λ r. ⌜ Wrote at (0x20 ∷ twoDigits v) 3 (now (out .entry)) (now (out .exit)) r ⌝ }
+    ensures { λ r. ⌜ Written at (0x20 ∷ twoDigits v) 3 (now (out .entry)) (now (out .exit)) r ⌝ }
 {
-    let p = put_byte(out, at, b' ');
-    let q = put_byte(out, p, (0x30 + v / 10 % 10) as u8);
-    put_byte(out, q, (0x30 + v % 10) as u8)
+    let p = rows::put_byte(out, at, b' ');
+    let q = rows::put_byte(out, p, (0x30 + v / 10 % 10) as u8);
+    rows::put_byte(out, q, (0x30 + v % 10) as u8)
 }
 
 // Writes bytes in hexadecimal.
 fn put_hexes(out: &mut [u8], at: usize, s: &[u8]) -> usize
     requires { ⌜ at + 2 * length (now s) ≤ length (now out) ⌝ }
-    ensures { λ r. ⌜ Wrote at (hex (now (s .entry))) (2 * length (now (s .entry))) (now (out .entry)) (now (out .exit)) r ⌝ }
+    ensures { λ r. ⌜ Written at (hex (now (s .entry))) (2 * length (now (s .entry))) (now (out .entry)) (now (out .exit)) r ⌝ }
 {
     let mut p = at;
     let mut i = 0;
@@ -154,9 +146,9 @@ fn put_hexes(out: &mut [u8], at: usize, s: &[u8]) -> usize
 // Writes a blank and a number of four bytes in hexadecimal.
 fn put_four(out: &mut [u8], at: usize, v: u32) -> usize
     requires { ⌜ at + 9 ≤ length (now out) ⌝ }
-    ensures { λ r. ⌜ Wrote at (0x20 ∷ hex (be4 v)) 9 (now (out .entry)) (now (out .exit)) r ⌝ }
+    ensures { λ r. ⌜ Written at (0x20 ∷ hex (be4 v)) 9 (now (out .entry)) (now (out .exit)) r ⌝ }
 {
-    let p = put_byte(out, at, b' ');
+    let p = rows::put_byte(out, at, b' ');
     let a = put_hex(out, p, v / 16777216);
     let b = put_hex(out, a, v / 65536 % 256);
     let c = put_hex(out, b, v / 256 % 256);
@@ -170,9 +162,9 @@ pub fn put_line(out: &mut [u8], op: u8, result: u32, answer: &[u8], table: u32, 
 {
     let a = put_hex(out, 0, rows::wide(op));
     let b = put_result(out, a, result);
-    let c = put_byte(out, b, b' ');
+    let c = rows::put_byte(out, b, b' ');
     let d = put_hexes(out, c, answer);
     let e = put_four(out, d, table);
     let f = put_four(out, e, labels);
-    put_byte(out, f, b'\n');
+    rows::put_byte(out, f, b'\n');
 }

@@ -1,9 +1,11 @@
-// Numbers and rows of bytes: read, compared eight bytes at a time.
+// Numbers and rows of bytes: read, compared eight bytes at a time; text written into a buffer.
 ghost use mathlib.Core.Path.{_≡_};
 ghost use Prim.Native.Nat.{_+_, _≤_, _<_, min};
+ghost use mathlib.Core.List.{[], _∷_};
 ghost use lib.ListN.{length};
 ghost use Rattle.model.specs.Basics.{get2, get3, part, same};
 ghost use Rattle.rows.specs.Words.{allAre, word4, word8};
+ghost use Rattle.rows.specs.Text.{Written};
 
 // ---- numbers and rows of bytes
 
@@ -169,4 +171,15 @@ pub fn same(a: &[u8], b: &[u8]) -> bool
         i += 8;
     }
     unlike == 0
+}
+
+// ---- text written into a buffer
+
+// Writes one byte, and gives back the place behind it.
+pub fn put_byte(out: &mut [u8], at: usize, b: u8) -> usize
+    requires { ⌜ at < length (now out) ⌝ }
+    ensures { λ r. ⌜ Written at (b ∷ []) 1 (now (out .entry)) (now (out .exit)) r ⌝ }
+{
+    out[at] = b;
+    at + 1
 }

@@ -1,6 +1,6 @@
 use Rattle.listing.specs.Text.{dataText, nameText}
 use Rattle.listing.proofs.Fields.{ends, line-text}
-use Rattle.listing.proofs.Decimals.{then}
+use Rattle.rows.proofs.Text.{then}
 use Rattle.rules.specs.Listing.{decimal, line}
 use lib.Dec.{lit≤}
 use mathlib.Core.List.{[], _∷_}

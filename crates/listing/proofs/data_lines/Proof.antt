@@ -5,7 +5,7 @@ use Rattle.model.specs.Model.{slots}
 use Rattle.rules.specs.Listing.{dataLine}
 use Rattle.dscb.specs.Forms.{geometryOf}
 use Rattle.check_table.specs.Labels.{labelsBelow}
-use Rattle.listing.specs.Text.{Written}
+use Rattle.rows.specs.Text.{Written}
 use lib.ListN.{length}
 use native.Mathlib.Omega.{arith}
 use Prim.Native.Nat.{_-_, _*_, _≤_}

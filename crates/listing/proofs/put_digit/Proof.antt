@@ -1,4 +1,5 @@
-use Rattle.listing.proofs.Decimals.{write-none, digit-none, digit-one}
+use Rattle.rows.proofs.Text.{write-none}
+use Rattle.listing.proofs.Decimals.{digit-none, digit-one}
 use borrow.Author.Needs.{needs}
 use Rattle.listing.proofs.put_digit.Statement.{statement}
 use Rattle.listing.proofs.put_digit.Tie as tie

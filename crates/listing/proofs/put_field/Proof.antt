@@ -1,4 +1,4 @@
-use Rattle.listing.proofs.Decimals.{then}
+use Rattle.rows.proofs.Text.{then}
 use borrow.Author.Needs.{needs}
 use Rattle.listing.proofs.put_field.Statement.{statement}
 use Rattle.listing.proofs.put_field.Tie as tie

@@ -3,7 +3,8 @@ use Prim.Native.Nat.{ℕ, _-_, _≤_}
 use mathlib.Core.Path.{_≡_, subst}
 use lib.ListN.{take}
 use native.Mathlib.Omega.{arith}
-use Rattle.listing.specs.Text.{Written, nameText}
+use Rattle.rows.specs.Text.{Written}
+use Rattle.listing.specs.Text.{nameText}
 use borrow.Author.Needs.{needs}
 use Rattle.listing.proofs.put_name.Statement.{statement}
 use Rattle.listing.proofs.put_name.Tie as tie

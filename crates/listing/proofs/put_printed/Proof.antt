@@ -1,5 +1,5 @@
 use Rattle.listing.proofs.Fields.{name-blank, name-one}
-use Rattle.listing.proofs.Decimals.{write-none}
+use Rattle.rows.proofs.Text.{write-none}
 use borrow.Author.Needs.{needs}
 use Rattle.listing.proofs.put_printed.Statement.{statement}
 use Rattle.listing.proofs.put_printed.Tie as tie

@@ -1,14 +1,15 @@
 use Prim.Native.Nat.{_≤_, _*_, _-_}
 use lib.ListN.{length, take}
 use native.Mathlib.Omega.{arith}
-use Rattle.replay_record.specs.Line.{Wrote, hex}
+use Rattle.rows.specs.Text.{Written}
+use Rattle.replay_record.specs.Line.{hex}
 use Rattle.replay_record.proofs.Laws.{hex-none, hex-next, hex-done}
 use borrow.Author.Needs.{needs}
 use Rattle.replay_record.proofs.put_hexes.Statement.{statement}
 use Rattle.replay_record.proofs.put_hexes.Tie as tie
 
 abbrev Inv-loop : tie.InvT-loop
-Inv-loop out₀ at s p₀ i₀ out p i = (i ≤ length s) × Wrote at (hex (take i s)) (2 * i) out₀ out p
+Inv-loop out₀ at s p₀ i₀ out p i = (i ≤ length s) × Written at (hex (take i s)) (2 * i) out₀ out p
 
 abbrev μ-loop : tie.MeasureT-loop
 μ-loop out₀ at s p₀ i₀ out p i = length s - i

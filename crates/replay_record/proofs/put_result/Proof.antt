@@ -1,4 +1,4 @@
-use Rattle.replay_record.proofs.Laws.{wrote-then}
+use Rattle.rows.proofs.Text.{then}
 use borrow.Author.Needs.{needs}
 use Rattle.replay_record.proofs.put_result.Statement.{statement}
 use Rattle.replay_record.proofs.put_result.Tie as tie
@@ -31,7 +31,7 @@ returns : tie.Need-returns
 returns c =
     let at-put-byte2 = c .before .before .before .before .before .before in
     let at-put-byte = at-put-byte2 .before .before .before .before in
-    wrote-then (at-put-byte .put-byte .ensures) (wrote-then (at-put-byte2 .put-byte2 .ensures) (c .before .before .put-byte3 .ensures))
+    then (at-put-byte .put-byte .ensures) (then (at-put-byte2 .put-byte2 .ensures) (c .before .before .put-byte3 .ensures))
 
 pub put-result-spec : {M : Type 1} → statement M
 put-result-spec =

@@ -1,7 +1,7 @@
-use Rattle.listing.proofs.Decimals.{write-byte}
+use Rattle.rows.proofs.Text.{write-byte}
 use borrow.Author.Needs.{needs}
-use Rattle.listing.proofs.put_byte.Statement.{statement}
-use Rattle.listing.proofs.put_byte.Tie as tie
+use Rattle.rows.proofs.put_byte.Statement.{statement}
+use Rattle.rows.proofs.put_byte.Tie as tie
 
 slice-write-out : tie.Need-slice-write-out
 slice-write-out c = search needs
