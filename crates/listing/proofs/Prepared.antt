@@ -1,24 +1,32 @@
 -- A taken table is ready-to-list to be listed, and its parts make the listing. Assumes nothing.
-use mathlib.Core.Path.{_≡_, sym, ap, _∙_, subst}
+use mathlib.Core.Path.{_≡_, refl, sym, ap, _∙_, subst}
 use mathlib.Core.Bool.{true, false}
 use mathlib.Core.List.{List, [], _∷_}
-use Prim.Native.Nat.{ℕ, _*_, _≤_}
+use Prim.Native.Nat.{ℕ, zero, suc, _*_, _≤_, _<_, _/_}
 use native.Mathlib.Omega.{arith}
 use lib.Dec.{T}
 use lib.ListN.{length}
 use Rattle.model.specs.Basics.{flat}
-use Rattle.model.specs.Model.{Geometry, Volume, format0s, free, runsOf, slots, total, tracks}
+use Rattle.model.specs.Model.{Geometry, Label, Volume, format0s, free, runsOf, slots, total, tracks}
 use Rattle.model.specs.Predicates.{All}
 use Rattle.rules.specs.Demand3.{sound}
+use Rattle.rules.specs.Layout.{link}
 use Rattle.rules.specs.Listing.{dataLine, freeLine, listing, listingOf, refusalLine, slotLine, volumeLine}
 use Rattle.rules.specs.Reading.{read}
 use Rattle.rules.specs.Table.{goodLength, taken, valid}
 use Rattle.rules.proofs.Keyed.{count}
+use Rattle.rules.proofs.LabelBack.{length-1}
 use Rattle.rules.proofs.Taken.{taken-is}
-use Rattle.rules.specs.Predicates.{Valid}
+use Rattle.rules.specs.Predicates.{Limits, Valid}
 use Rattle.rules.specs.Sound.{LabelOk, Sound}
 use Rattle.rules.proofs.Meaning.{recordsOf, taken-sound}
 use Rattle.bitmap.specs.Map.{freeFrom}
+use Rattle.dscb.specs.Forms.{linkedSlot}
+use Rattle.dscb.specs.Records.{slotBytes}
+use Rattle.dscb.specs.Tests.{slotNamed}
+use Rattle.dscb.proofs.Links.{slot-found, slot-none}
+use Rattle.dscb.proofs.Records.{chop-slot, length-chop}
+use Rattle.dscb.proofs.Written.{link1-back}
 use Rattle.check_table.specs.Labels.{labelsBelow}
 use Rattle.rows.specs.Text.{Written}
 use Rattle.rows.proofs.Text.{then}
@@ -27,7 +35,7 @@ use Rattle.listing.proofs.Extents.{good-proper, tracks-most}
 use Rattle.listing.proofs.Volumes.{volume-text}
 use Rattle.check_table.specs.Check.{Shown, Tells, volumeAt}
 use Rattle.check_table.proofs.Free.{free-shown}
-use Rattle.check_table.proofs.Pieces.{third-below}
+use Rattle.check_table.proofs.Pieces.{in-table, third-below}
 use Rattle.check_table.proofs.Read.{volume-is}
 use Rattle.check_table.proofs.Whole.{geometry-read, taken-long}
 use Rattle.listing.specs.Whole.{Listable, ReadyToList}
@@ -39,6 +47,22 @@ all-two : {A : Type 0} (P Q R : A → Type 0) → ((x : A) → P x → Q x → R
 all-two P Q R f [] a b = tt
 all-two P Q R f (x ∷ xs) a b = (f x (a .0) (b .0), all-two P Q R f xs (a .1) (b .1))
 
+-- the slot of a label's format 3 is the one that its format 1 is linked to
+linked-so : (g : Geometry) (t : List ℕ) (l : Label) → Limits g → length (recordsOf t) ≡ slots g → LabelOk g (recordsOf t) l → linkedSlot g (slotBytes t (l .slot)) ≡ l .slot3
+linked-so g t l lim many x =
+    let rs = recordsOf t in
+    let long = length-chop (length t / 140) t in
+    let least = lim .least in
+    let a = in-table rs (l .slot) (ap length (sym (x .one)) ∙ length-1 g l (x .good)) in
+    let b = third-below g rs l (omega arith) x in
+    ap (λ (r : List ℕ). linkedSlot g r) (sym (x .one ∙ chop-slot (length t / 140) t (l .slot) (omega arith)))
+    ∙ ap (λ (y : List ℕ). slotNamed (g .heads) (g .records) (g .vtocStart) (slots g) y) (link1-back g l (x .good))
+    ∙ named (l .slot3) (omega arith)
+  where
+    named : (k : ℕ) → k < slots g → slotNamed (g .heads) (g .records) (g .vtocStart) (slots g) (link g k) ≡ k
+    named zero u = slot-none (g .heads) (g .records) (g .vtocStart) (slots g)
+    named (suc k) u = slot-found g (slots g) (link g (suc k)) (lim .heads) (lim .records) (suc k) (omega arith) u refl
+
 module _ (g : Geometry) (t m s : List ℕ) (len : length t ≡ 140 * slots g) (v : read t ≡ volumeAt g t) (valid : Valid (volumeAt g t)) (sound : Sound (recordsOf t) (volumeAt g t)) (shown : Shown (volumeAt g t) m s)
     (count top : ℕ) (tells : Tells (volumeAt g t) g count top) where
   ready-so : ReadyToList g count t m
@@ -49,13 +73,13 @@ module _ (g : Geometry) (t m s : List ℕ) (len : length t ≡ 140 * slots g) (v
         long = len;
         volume = v;
         labels =
-            all-two (LabelOk g rs) (λ l. total (runsOf l) ≤ 65535) (Listable g)
+            all-two (LabelOk g rs) (λ l. total (runsOf l) ≤ 65535) (Listable g t)
             (λ l x y.
             record {
               most = x .good .most;
               proper = good-proper g (sound .limits) l (x .good);
               tracks = y;
-              third = let p = sound .many in let z = sound .limits .least in let w = third-below g rs l (omega arith) x in omega arith;
+              linked = linked-so g t l (sound .limits) (sound .many) x;
             })
             (labelsBelow g t (slots g)) (sound .labels) (tracks-most (volumeAt g t) valid);
         freeTracks = free-shown (volumeAt g t) m s shown;

@@ -2,14 +2,19 @@
 use dscb::Geometry;
 use dscb::places::*;
 ghost use mathlib.Core.Path.{_≡_};
-ghost use Prim.Native.Nat.{_+_, _*_, _≤_, _<_, _-_};
+ghost use Prim.Native.Nat.{_+_, _*_, _≤_, _<_};
 ghost use mathlib.Core.List.{[], _∷_};
 ghost use lib.ListN.{length, take};
 ghost use Rattle.model.specs.Model.{overs, run, total, slots};
 ghost use Rattle.model.specs.Predicates.{All};
 ghost use Rattle.rules.specs.Listing.{decimal, line, freeLine, refusalLine, slotLine, dataLine, listing, listingOf};
+<<<<<<< HEAD
 ghost use Rattle.rules.specs.Reading.{readExtent, readExtents, read, slotAt};
 ghost use Rattle.listing.specs.Text.{Line, Proper, dataText, digit, nameText, volumeText};
+=======
+ghost use Rattle.rules.specs.Reading.{readExtent, readExtents, read};
+ghost use Rattle.listing.specs.Text.{Line, Proper, Written, dataText, digit, nameText, volumeText};
+>>>>>>> rest
 ghost use Rattle.model.specs.Basics.{flat};
 ghost use Rattle.rules.specs.Predicates.{Limits};
 ghost use Rattle.bitmap.specs.Map.{freeFrom};
@@ -203,27 +208,6 @@ fn free_lines(free_tracks: &[u64], n: usize, out: &mut [u8], at: usize) -> usize
 
 // ---- data sets
 
-// a - b, 0 where b is more.
-fn less(a: u32, b: u32) -> u32
-    ensures { λ r. ⌜ (r ≡ a - b) × (r ≤ a) ⌝ }
-{
-    if a < b {
-        return 0;
-    }
-    a - b
-}
-
-// The slot of the format 3 of a format 1; 0 where it has none.
-fn third(f1: &[u8], g: Geometry) -> usize
-    requires { ⌜ (length (now f1) ≡ 140) × Limits (geometryOf g) ⌝ }
-    ensures { λ r. ⌜ r ≡ slotAt (geometryOf g) (now (f1 .entry)) 135 ⌝ }
-{
-    let t = dscb::track_at(f1, DS1PTRDS, g.heads);
-    let d = less(t, g.vtoc_start);
-    let r = rows::wide(f1[139]);
-    less(d * g.records + r, 1) as usize
-}
-
 // Writes the line of a data set by its format 1, its number of tracks and its number of extents.
 fn put_data(f1: &[u8], many: u32, n: u32, out: &mut [u8], at: usize) -> usize
     requires { ⌜ (length (now f1) ≡ 140) × (many < 100000) × (n < 100000) × (at + 64 ≤ length (now out)) ⌝ }
@@ -236,12 +220,12 @@ fn put_data(f1: &[u8], many: u32, n: u32, out: &mut [u8], at: usize) -> usize
 
 // Writes the line of the data set in slot k.
 fn put_label(table: &[u8], k: usize, g: Geometry, out: &mut [u8], at: usize) -> usize
-    requires { ⌜ Limits (geometryOf g) × (length (now table) ≡ 140 * slots (geometryOf g)) × (k < slots (geometryOf g)) × Listable (geometryOf g) (labelAt (geometryOf g) (now table) k) × (at + 64 ≤ length (now out)) ⌝ }
+    requires { ⌜ Limits (geometryOf g) × (length (now table) ≡ 140 * slots (geometryOf g)) × (k < slots (geometryOf g)) × Listable (geometryOf g) (now table) (labelAt (geometryOf g) (now table) k) × (at + 64 ≤ length (now out)) ⌝ }
     ensures { λ r. ⌜ Written at (dataLine (labelAt (geometryOf g) (now (table .entry)) k)) 64 (now (out .entry)) (now (out .exit)) r ⌝ }
 {
     let f1 = dscb::record_at(table, k);
-    let q = third(f1, g);
-    let f3 = dscb::record_at(table, q);
+    let slot3 = dscb::link(f1, g);
+    let f3 = dscb::record_at(table, slot3);
     let n = rows::wide(f1[DS1NOEPV]);
     let many = tracks_of(f1, f3, n as usize, g.heads);
     put_data(f1, many, n, out, at)
@@ -249,7 +233,7 @@ fn put_label(table: &[u8], k: usize, g: Geometry, out: &mut [u8], at: usize) -> 
 
 // Writes the line of slot k, if it has a label.
 fn put_slot(table: &[u8], k: usize, g: Geometry, out: &mut [u8], at: usize) -> usize
-    requires { ⌜ Limits (geometryOf g) × (length (now table) ≡ 140 * slots (geometryOf g)) × (k < slots (geometryOf g)) × All (Listable (geometryOf g)) (atSlot (geometryOf g) (now table) k) × (at + 64 ≤ length (now out)) ⌝ }
+    requires { ⌜ Limits (geometryOf g) × (length (now table) ≡ 140 * slots (geometryOf g)) × (k < slots (geometryOf g)) × All (Listable (geometryOf g) (now table)) (atSlot (geometryOf g) (now table) k) × (at + 64 ≤ length (now out)) ⌝ }
     ensures { λ r. ⌜ Written at (flat dataLine (atSlot (geometryOf g) (now (table .entry)) k)) 64 (now (out .entry)) (now (out .exit)) r ⌝ }
 {
     let rec = dscb::record_at(table, k);
@@ -261,7 +245,7 @@ fn put_slot(table: &[u8], k: usize, g: Geometry, out: &mut [u8], at: usize) -> u
 
 // Writes the lines of the data sets, by slot.
 fn data_lines(table: &[u8], g: Geometry, out: &mut [u8], at: usize) -> usize
-    requires { ⌜ Limits (geometryOf g) × (length (now table) ≡ 140 * slots (geometryOf g)) × All (Listable (geometryOf g)) (labelsBelow (geometryOf g) (now table) (slots (geometryOf g))) × (at + 29952 ≤ length (now out)) ⌝ }
+    requires { ⌜ Limits (geometryOf g) × (length (now table) ≡ 140 * slots (geometryOf g)) × All (Listable (geometryOf g) (now table)) (labelsBelow (geometryOf g) (now table) (slots (geometryOf g))) × (at + 29952 ≤ length (now out)) ⌝ }
     ensures { λ r. ⌜ Written at (flat dataLine (labelsBelow (geometryOf g) (now (table .entry)) (slots (geometryOf g)))) 29952 (now (out .entry)) (now (out .exit)) r ⌝ }
 {
     let n = dscb::slots(g);

@@ -27,7 +27,7 @@ loop-holds : tie.Need-loop-holds Inv-loop μ-loop
 loop-holds c = (omega arith, c .slots .ensures .0, refl, data-start (geometryOf (c .before .before .before .args .g)) (c .before .before .before .args .table .now) (c .before .before .before .args .at) (c .before .before .before .args .out .now))
 
 put-slot-requires : tie.Need-put-slot-requires Inv-loop μ-loop
-put-slot-requires c κs = let l = c .before .before .loop .inv in (c .before .before .before .before .before .before .pre .0, c .before .before .before .before .before .before .pre .1, omega (arith, l .1, c .before .loop-test .taken), slot-labels (geometryOf (c .before .before .before .before .before .before .args .g)) (c .before .before .before .before .before .before .args .table .now) (Listable (geometryOf (c .before .before .before .before .before .before .args .g))) (slots (geometryOf (c .before .before .before .before .before .before .args .g))) (c .before .before .loop .k) (c .before .before .before .before .before .before .pre .2) (omega (arith, l .1, c .before .loop-test .taken)), omega (arith, l .1, l .2, l .3 .end, c .before .loop-test .taken, c .before .before .before .before .before .before .pre .0 .most, c .before .before .before .before .before .before .pre .3))
+put-slot-requires c κs = let l = c .before .before .loop .inv in (c .before .before .before .before .before .before .pre .0, c .before .before .before .before .before .before .pre .1, omega (arith, l .1, c .before .loop-test .taken), slot-labels (geometryOf (c .before .before .before .before .before .before .args .g)) (c .before .before .before .before .before .before .args .table .now) (Listable (geometryOf (c .before .before .before .before .before .before .args .g)) (c .before .before .before .before .before .before .args .table .now)) (slots (geometryOf (c .before .before .before .before .before .before .args .g))) (c .before .before .loop .k) (c .before .before .before .before .before .before .pre .2) (omega (arith, l .1, c .before .loop-test .taken)), omega (arith, l .1, l .2, l .3 .end, c .before .loop-test .taken, c .before .before .before .before .before .before .pre .0 .most, c .before .before .before .before .before .before .pre .3))
 
 add-k : tie.Need-add-k Inv-loop μ-loop
 add-k c = search needs

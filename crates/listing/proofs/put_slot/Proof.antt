@@ -18,7 +18,7 @@ returns c =
     none-at (geometryOf (top .args .g)) (top .args .table .now) (top .args .k) (top .args .at) (top .args .out .now) (not-label (geometryOf (top .args .g)) (top .args .table .now) (top .args .k) (c .before .before .record-at .result .now) (c .before .before .record-at .ensures .0) (c .if1 .taken))
 
 put-label-requires : tie.Need-put-label-requires
-put-label-requires c κs = (c .before .before .before .before .before .before .pre .0, c .before .before .before .before .before .before .pre .1, c .before .before .before .before .before .before .pre .2, label-of (geometryOf (c .before .before .before .before .before .before .args .g)) (c .before .before .before .before .before .before .args .table .now) (Listable (geometryOf (c .before .before .before .before .before .before .args .g))) (c .before .before .before .before .before .before .args .k) (is-label (geometryOf (c .before .before .before .before .before .before .args .g)) (c .before .before .before .before .before .before .args .table .now) (c .before .before .before .before .before .before .args .k) (c .before .before .before .record-at .result .now) (c .before .before .before .record-at .ensures .0) (c .before .if1 .left)) (c .before .before .before .before .before .before .pre .3), omega (arith, c .before .before .before .before .before .before .pre .4))
+put-label-requires c κs = (c .before .before .before .before .before .before .pre .0, c .before .before .before .before .before .before .pre .1, c .before .before .before .before .before .before .pre .2, label-of (geometryOf (c .before .before .before .before .before .before .args .g)) (c .before .before .before .before .before .before .args .table .now) (Listable (geometryOf (c .before .before .before .before .before .before .args .g)) (c .before .before .before .before .before .before .args .table .now)) (c .before .before .before .before .before .before .args .k) (is-label (geometryOf (c .before .before .before .before .before .before .args .g)) (c .before .before .before .before .before .before .args .table .now) (c .before .before .before .before .before .before .args .k) (c .before .before .before .record-at .result .now) (c .before .before .before .record-at .ensures .0) (c .before .if1 .left)) (c .before .before .before .before .before .before .pre .3), omega (arith, c .before .before .before .before .before .before .pre .4))
 
 same-length : tie.Need-same-length
 same-length c = search needs
