@@ -8,13 +8,8 @@ ghost use lib.ListN.{length, take};
 ghost use Rattle.model.specs.Model.{overs, run, total, slots};
 ghost use Rattle.model.specs.Predicates.{All};
 ghost use Rattle.rules.specs.Listing.{decimal, line, freeLine, refusalLine, slotLine, dataLine, listing, listingOf};
-<<<<<<< HEAD
-ghost use Rattle.rules.specs.Reading.{readExtent, readExtents, read, slotAt};
-ghost use Rattle.listing.specs.Text.{Line, Proper, dataText, digit, nameText, volumeText};
-=======
 ghost use Rattle.rules.specs.Reading.{readExtent, readExtents, read};
-ghost use Rattle.listing.specs.Text.{Line, Proper, Written, dataText, digit, nameText, volumeText};
->>>>>>> rest
+ghost use Rattle.listing.specs.Text.{Line, Proper, dataText, digit, nameText, volumeText};
 ghost use Rattle.model.specs.Basics.{flat};
 ghost use Rattle.rules.specs.Predicates.{Limits};
 ghost use Rattle.bitmap.specs.Map.{freeFrom};
