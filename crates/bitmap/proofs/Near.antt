@@ -146,7 +146,7 @@ module _ (x : ℕ) (some : x ≡ 0 → ⊥) (fits : x < 2 ^ 64) where
             shown = λ i u v w. left-high (i % 64) (omega arith) ∙ seen .shown i (omega arith) v (omega arith);
           }
 
--- ---- the map map-lent on as a part of itself
+-- ---- the map lent on as a part of itself
 
 whole : (m : List ℕ) → take (length m - 0) m ≡ m
 whole m = take-all (length m - 0) m (omega arith)

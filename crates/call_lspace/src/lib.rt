@@ -74,7 +74,7 @@ fn add_all(table: &[u8], g: Geometry) -> Sums
     s
 }
 
-// The six numbers; `empty` is the number of format 0s.
+// The six numbers; `format0s` is the number of format 0s.
 fn space(table: &[u8], g: Geometry, format0s: u32) -> [u32; 6]
     requires { ⌜ Limits (geometryOf g) × (length (now table) ≡ 140 * slots (geometryOf g)) × (format0s < 65536) × ((f : List Run) × Listed (geometryOf g) (now table) f) ⌝ }
     ensures { λ r. ⌜ ((f : List Run) → Listed (geometryOf g) (now (table .entry)) f → r ≡ spaceNumbers (g .heads) f format0s) × All (λ x. x < 65536) r ⌝ }

@@ -62,7 +62,7 @@ pub extents-none : (h : ℕ) (f1 f3 : List ℕ) → readExtents h f1 f3 0 ≡ []
 unfolding readExtents
 extents-none h f1 f3 = refl
 
--- held-fewer extents hold no more
+-- fewer extents hold no more
 fewer-by : (h : ℕ) (f1 f3 : List ℕ) (e d t : ℕ) → times t (overs (readExtents h f1 f3 e)) ≤ times t (overs (readExtents h f1 f3 (e + d)))
 fewer-by h f1 f3 e zero t = let q : e + 0 ≡ e = omega arith in rw q (le-refl _)
 fewer-by h f1 f3 e (suc d) t =

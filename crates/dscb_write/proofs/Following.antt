@@ -22,7 +22,7 @@ pub same-extents : (g : Geometry) (l m : Label) → l .extents ≡ m .extents �
 unfolding format3
 same-extents g l m e = rw e
 
--- ---- extents withExtent one after the other
+-- ---- extents added one after the other
 
 pub added-none : (l : Label) (es : List Extent) → withExtents (l .extents ++ take 0 es) (l .ttr) l ≡ l
 added-none l es = ap (λ (x : List Extent). withExtents x (l .ttr) l) (append-nil (l .extents))

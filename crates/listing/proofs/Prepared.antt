@@ -1,4 +1,4 @@
--- A taken table is ready-to-list to be listed, and its parts make the listing. Assumes nothing.
+-- A taken table is ready to be listed, and its parts make the listing. Assumes nothing.
 use mathlib.Core.Path.{_≡_, refl, sym, ap, _∙_, subst}
 use mathlib.Core.Bool.{true, false}
 use mathlib.Core.List.{List, [], _∷_}

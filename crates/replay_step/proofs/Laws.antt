@@ -1,4 +1,4 @@
--- From the calls' equations, on lent bytes, to the buffers wholeTable. Assumes nothing.
+-- From the calls' equations, on lent bytes, to the buffers whole. Assumes nothing.
 use mathlib.Core.Path.{_≡_, refl, sym, ap, ap₂, _∙_}
 use mathlib.Core.List.{List, [], _++_}
 use Prim.Native.Nat.{ℕ, _≤_}

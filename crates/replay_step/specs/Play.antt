@@ -1,5 +1,5 @@
--- What is playDone with a record (docs/REPLAY.md): its result, the buffers after it, and its line. `Lent` holds the three
--- buffers wholeTable here: the table, the answer and the labels. Assumes nothing.
+-- What is done with a record (docs/REPLAY.md): its result, the buffers after it, and its line. `Lent` holds the three
+-- buffers whole here: the table, the answer and the labels. Assumes nothing.
 use mathlib.Core.Path.{_≡_}
 use Prim.Native.Nat.{ℕ}
 use mathlib.Core.Bool.{cond}
@@ -21,7 +21,7 @@ requestOf r = request (nameAsked r) (otherOf r) (get4 r 8) (get4 r 12) (get4 r 1
 abbrev pub lentOf : List ℕ → Lent → List ℕ → Lent
 lentOf r b l = lent (take (tableLent r) (b .table)) (take (answerLent r) (b .answer)) l
 
--- the buffers wholeTable, from the lent bytes after the call
+-- the buffers whole, from the lent bytes after the call
 abbrev pub wholeTable : List ℕ → Lent → Result → List ℕ → Result
 wholeTable r b p l =
     result (p .number) (lent (p .after .table ++ drop (tableLent r) (b .table)) (p .after .answer ++ drop (answerLent r) (b .answer)) l)

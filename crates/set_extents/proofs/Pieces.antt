@@ -1,4 +1,4 @@
--- Pieces taken out of the map and withExtent to the records, one after the other. Assumes nothing.
+-- Pieces taken out of the map and added to the records, one after the other. Assumes nothing.
 use mathlib.Core.Path.{_≡_, refl, sym, ap, _∙_, subst}
 use mathlib.Core.Bool.{Bool}
 use mathlib.Core.List.{List, [], _∷_, _++_, map}
