@@ -1,5 +1,5 @@
 -- The map against what is held. Assumes nothing.
-use mathlib.Core.Path.{_≡_, sym, _∙_, subst}
+use mathlib.Core.Path.{_≡_, _∙_}
 use mathlib.Core.Bool.{Bool, true}
 use mathlib.Core.Logic.{_⊎_, inl, inr, ⊎-elim}
 use mathlib.Core.List.{List, [], _∷_}
@@ -7,7 +7,7 @@ use Prim.Native.Nat.{ℕ, _+_, _-_, _≤_, _<_}
 use native.Mathlib.Omega.{arith}
 use lib.Dec.{eqb}
 use Rattle.model.specs.Basics.{bit}
-use Rattle.model.specs.Model.{Run, run, runs, covers, times, gaps, Separate}
+use Rattle.model.specs.Model.{Run, run, runs, covers, times, gaps}
 use Rattle.model.proofs.Lists.{by}
 use Rattle.model.proofs.Runs.{canonical, runs-separate, runs-times, hit-in, hit-below, hit-above, bit-zero}
 use Rattle.model.specs.Predicates.{Once}
@@ -95,12 +95,6 @@ map-gaps m n hs h =
 -- the same of the runs that the functions speak of
 pub free-gaps : (m : List ℕ) (n : ℕ) (hs : List Run) → Shows m n hs → freeFrom m n 0 ≡ gaps hs n
 free-gaps m n hs h = free-from-zero m n ∙ map-gaps m n hs h
-
--- no two of them touch
-pub shown-apart : (m : List ℕ) (n : ℕ) → Separate 0 n (freeFrom m n 0)
-shown-apart m n =
-    let z : 0 + n ≡ n = omega arith in
-    subst (Separate 0 n) (sym (free-from-zero m n)) (subst (λ (x : ℕ). Separate 0 x (runs (isFree m) 0 n)) z (runs-separate (isFree m) 0 n))
 
 -- ---- taking runs that are known to be free, one after the other
 

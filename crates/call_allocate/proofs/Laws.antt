@@ -17,7 +17,7 @@ use Rattle.rules.specs.Table.{goodName, named}
 use Rattle.dscb.specs.Forms.{geometryOf}
 use Rattle.names.specs.Find.{findSlot, isNothing}
 use Rattle.open_table.specs.Opening.{Known, KnownMaps, Opened}
-use Rattle.open_table.proofs.Calls.{Asks, answer-long, arguments-long, passed}
+use Rattle.open_table.proofs.Calls.{AsksTable, answer-long, arguments-long, passed}
 use Rattle.open_table.proofs.Lookup.{on-volume-is}
 use Rattle.open_table.proofs.Numbers.{known}
 use Rattle.request.proofs.Laws.{unknown-kind}
@@ -36,7 +36,7 @@ module _ (t name at : List ℕ) (kind start amount sec : ℕ) (a : List ℕ) (ok
   abbrev own : Volume → Outcome
   own v = given (amountOf kind start amount) 7 (allocateAmount v asked)
 
-  pub allocates : Asks (lent t a []) call ok (goodName name) own
+  pub allocates : AsksTable (lent t a []) call ok (goodName name) own
   unfolding rule
   allocates = record { lengths = lengths; rules = λ v. refl }
 

@@ -21,7 +21,7 @@ use Rattle.dscb.specs.Forms.{geometryOf}
 use Rattle.free_extents.specs.FreeList.{Listed}
 use Rattle.free_extents.proofs.Chain.{runs-listed}
 use Rattle.open_table.specs.Opening.{Opened}
-use Rattle.open_table.proofs.Calls.{Asks, passed}
+use Rattle.open_table.proofs.Calls.{AsksTable, passed}
 use Rattle.open_table.proofs.Numbers.{known}
 use Rattle.call_lspace.specs.Totals.{Below, Summed, none}
 
@@ -170,7 +170,7 @@ and-true true = refl
 and-true false = refl
 
 module _ (t a : List ℕ) (ok : Bool) (long : ok ≡ eqb (length a) 24) where
-  pub inquires : Asks (lent t a []) lspace ok true inquire
+  pub inquires : AsksTable (lent t a []) lspace ok true inquire
   unfolding rule
   inquires = record { lengths = long ∙ and-true (eqb (length a) 24); rules = λ v. refl }
 

@@ -1,15 +1,11 @@
 -- The length that a table can have. Assumes nothing.
-use mathlib.Core.Path.{_≡_, sym}
-use mathlib.Core.Bool.{true, false}
+use mathlib.Core.Path.{_≡_}
+use mathlib.Core.Bool.{false}
 use mathlib.Core.List.{List}
 use Prim.Native.Nat.{ℕ, _/_, _%_, _≤_, _<_}
-use native.Mathlib.Nat.{lt-of-not-le}
-use native.Mathlib.Decide.{decLe, ℕ-discrete}
-use native.Mathlib.Omega.{arith}
 use borrow.Author.Tests.{eq-eqb, le-leb, lt-leb, ne-eqb}
 use lib.Dec.{leb}
 use lib.ListN.{length}
-use Rattle.model.proofs.Lists.{clash}
 use Rattle.rules.specs.Table.{goodLength}
 
 pub odd-length : (t : List ℕ) → (length t % 140 ≡ 0 → ⊥) → false ≡ goodLength t
@@ -23,14 +19,3 @@ few-records t e u = rw (eq-eqb (length t % 140) 0 e, lt-leb 3 (length t / 140) u
 pub some-records : (t : List ℕ) → length t % 140 ≡ 0 → 3 ≤ length t / 140 → leb (length t / 140) 468 ≡ goodLength t
 unfolding goodLength
 some-records t e u = rw (eq-eqb (length t % 140) 0 e, le-leb 3 (length t / 140) u)
-
-pub good-long : (t : List ℕ) → goodLength t ≡ true → 140 ≤ length t
-good-long t h =
-    elim (decLe 140 (length t)) [
-      | yes u ↦ u
-      | no u ↦
-          elim (ℕ-discrete (length t % 140) 0) [
-            | yes e ↦ clash h (sym (few-records t e (let w = lt-of-not-le u in omega arith)))
-            | no e ↦ clash h (sym (odd-length t e))
-          ]
-    ]

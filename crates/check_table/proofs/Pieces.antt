@@ -28,7 +28,7 @@ use Rattle.check_table.proofs.Scan.{unit-tally}
 use Rattle.check_chain.specs.Chain.{ChainGone, chainFrom}
 use Rattle.check_chain.proofs.Laws.{chain-head, chain-length}
 use Rattle.check_table.specs.declared.Verdict.{Verdict}
-use Rattle.check_table.specs.Check.{Contents, MapsBegun, Rest, RestTold, Tells, volumeAt}
+use Rattle.check_table.specs.Check.{Contents, MapsBegun, Rest, RestTold, TellsVolume, volumeAt}
 use Rattle.check_table.proofs.Read.{all-long, differ-names, highest-is, names-differ}
 
 -- ---- slots in the table
@@ -227,7 +227,7 @@ module _ (g : Geometry) (limit : Limits g) (t : List ℕ) (len : length t ≡ 14
                 four = ap (λ (k : ℕ). format4 g k (length (unused N (used ls ks)))) (sym (highest-is g t N)) ∙ y .four ∙ chop-slot N t 0 zero-in;
               }
 
-          numbers : o .taken ≡ true → Tells (volumeAt g t) (geometryOf (o .geometry)) (o .format0s) (o .highest)
+          numbers : o .taken ≡ true → TellsVolume (volumeAt g t) (geometryOf (o .geometry)) (o .format0s) (o .highest)
           unfolding format0s
           numbers p = record {
             geometryIs = last .geometryIs p;

@@ -26,7 +26,7 @@ use Rattle.check_table.proofs.Scan.{unit-tally}
 use Rattle.check_table.specs.Spare.{Spared, highestSlot}
 use Rattle.check_table.proofs.Unused.{count-unused}
 use Rattle.check_table.specs.declared.Verdict.{Verdict}
-use Rattle.check_table.specs.Check.{Checked, Contents, MapsBegun, RestTold, Shown, Tells, volumeAt}
+use Rattle.check_table.specs.Check.{Checked, Contents, MapsBegun, RestTold, Shown, TellsVolume, volumeAt}
 use Rattle.check_table.proofs.Read.{records-are, volume-is}
 
 -- ---- the maps
@@ -175,7 +175,7 @@ contents-decide t m m′ s s′ g r limit e len x =
           (λ q. q ∙ sym (is-true (sound-taken t (let z : length t % 140 ≡ 0 = omega arith in z) (rw (v, c) (x .yes q)))))
           (λ q. q ∙ refused t (λ y. x .no q (let z = taken-sound t y in rw (v, c) at z)));
       shown = λ q. subst (λ (w : Volume). Shown w m′ s′) (sym v) (x .shown q);
-      tells = λ q. subst (λ (w : Volume). Tells w (geometryOf (r .geometry)) (r .format0s) (r .highest)) (sym v) (x .tells q);
+      tells = λ q. subst (λ (w : Volume). TellsVolume w (geometryOf (r .geometry)) (r .format0s) (r .highest)) (sym v) (x .tells q);
     }
 
 pub no-label : (t rec : List ℕ) → rec ≡ slotBytes t 0 → getD rec 44 0 ≡ 0xF4 → Rattle.names.specs.Find.isLabel (slotBytes t 0) ≡ false

@@ -61,7 +61,7 @@ pub record Shown (v : Volume) (m s : List ℕ) : Type 0 where
   pub freeSlots : Shows s (slots (v .geometry)) (units (used (v .labels) (v .chain)))
 
 -- the numbers are the volume's: its geometry, how many format 0s it has, and the highest slot of a format 1, 0 for none
-pub record Tells (v : Volume) (g : Geometry) (count top : ℕ) : Type 0 where
+pub record TellsVolume (v : Volume) (g : Geometry) (count top : ℕ) : Type 0 where
   pub geometryIs : g ≡ v .geometry
   pub countIs : count ≡ length (format0s v)
   pub countMost : count ≤ slots (v .geometry)
@@ -73,7 +73,7 @@ pub record Contents (g : Geometry) (t m m′ s s′ : List ℕ) (r : Verdict) : 
   pub longSlots : length s′ ≡ length s
   pub yes : r .taken ≡ true → Sound (chop (slots g) t) (volumeAt g t)
   pub shown : r .taken ≡ true → Shown (volumeAt g t) m′ s′
-  pub tells : r .taken ≡ true → Tells (volumeAt g t) (geometryOf (r .geometry)) (r .format0s) (r .highest)
+  pub tells : r .taken ≡ true → TellsVolume (volumeAt g t) (geometryOf (r .geometry)) (r .format0s) (r .highest)
   pub no : r .taken ≡ false → Sound (chop (slots g) t) (volumeAt g t) → ⊥
 
 -- THE CHECK: whether the table is taken, and then what is free and what its numbers are
@@ -82,4 +82,4 @@ pub record Checked (t m m′ s s′ : List ℕ) (r : Verdict) : Type 0 where
   pub longSlots : length s′ ≡ length s
   pub told : r .taken ≡ taken t
   pub shown : r .taken ≡ true → Shown (read t) m′ s′
-  pub tells : r .taken ≡ true → Tells (read t) (geometryOf (r .geometry)) (r .format0s) (r .highest)
+  pub tells : r .taken ≡ true → TellsVolume (read t) (geometryOf (r .geometry)) (r .format0s) (r .highest)

@@ -35,7 +35,7 @@ set-read g t k label one three count third e f c h u x =
 -- ---- the label
 
 -- the label l, in its records
-pub record Known (g : Geometry) (l : Label) (one three : List ℕ) (count third : ℕ) : Type 0 where
+pub record KnownSet (g : Geometry) (l : Label) (one three : List ℕ) (count third : ℕ) : Type 0 where
   pub records : InRecords g l one three
   pub many : count ≡ length (l .extents)
   pub extents : extentsIn g one three count ≡ l .extents
@@ -91,7 +91,7 @@ module _ (t : List ℕ) (v : Volume) (h : Ready t v) (name : List ℕ) (k : ℕ)
       })
 
 module _ (t : List ℕ) (v : Volume) (h : Ready t v) (name : List ℕ) (k : ℕ) (f : FoundAt t v name k) (one three : List ℕ) (count third : ℕ) where
-  known-there : SetAt (v .geometry) t k one three count third → Known (v .geometry) (f .label) one three count third
+  known-there : SetAt (v .geometry) t k one three count third → KnownSet (v .geometry) (f .label) one three count third
   known-there x =
       let g = v .geometry in
       let l = f .label in
@@ -110,5 +110,5 @@ module _ (t : List ℕ) (v : Volume) (h : Ready t v) (name : List ℕ) (k : ℕ)
       }
 
   -- with the geometry that the code has
-  pub known : (g : Geometry) → g ≡ v .geometry → SetAt g t k one three count third → Known g (f .label) one three count third
-  known g e = subst (λ (u : Geometry). SetAt u t k one three count third → Known u (f .label) one three count third) (sym e) known-there
+  pub known : (g : Geometry) → g ≡ v .geometry → SetAt g t k one three count third → KnownSet g (f .label) one three count third
+  known g e = subst (λ (u : Geometry). SetAt u t k one three count third → KnownSet u (f .label) one three count third) (sym e) known-there

@@ -27,7 +27,7 @@ use Rattle.request.specs.Request.{piecesOf, typeOf}
 use Rattle.request.proofs.Laws.{Fulfilled, accepted, refused, secondary-asks}
 use Rattle.set_extents.specs.Change.{granted as more}
 use Rattle.data_set.specs.Held.{SetAt}
-use Rattle.data_set.proofs.Stored.{Known, known}
+use Rattle.data_set.proofs.Stored.{KnownSet, known}
 use Rattle.open_table.specs.Opening.{Ready}
 use Rattle.open_table.proofs.Laws.{ready}
 use Rattle.free_extents.specs.FreeList.{Listed}
@@ -107,7 +107,7 @@ module _ {t m s a : List ℕ} {g : Geometry} {k : ℕ} (d : Longer t m s a g k) 
       (held-apart v (is-ready .valid) name l (d .there .same))
 
   module _ {one three : List ℕ} {count third : ℕ} (x : SetAt g t k one three count third) where
-    it : Known g l one three count third
+    it : KnownSet g l one three count third
     it = known t v is-ready name k (d .there) one three count third g (d .geometryIs) x
 
     pub third-inside : third < slots g

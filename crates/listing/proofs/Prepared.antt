@@ -33,7 +33,7 @@ use Rattle.rows.proofs.Text.{then}
 use Rattle.listing.specs.Text.{volumeText}
 use Rattle.listing.proofs.Extents.{good-proper, tracks-most}
 use Rattle.listing.proofs.Volumes.{volume-text}
-use Rattle.check_table.specs.Check.{Shown, Tells, volumeAt}
+use Rattle.check_table.specs.Check.{Shown, TellsVolume, volumeAt}
 use Rattle.check_table.proofs.Free.{free-shown}
 use Rattle.check_table.proofs.Pieces.{in-table, third-below}
 use Rattle.check_table.proofs.Read.{volume-is}
@@ -64,7 +64,7 @@ linked-so g t l lim many x =
     named (suc k) u = slot-found g (slots g) (link g (suc k)) (lim .heads) (lim .records) (suc k) (omega arith) u refl
 
 module _ (g : Geometry) (t m s : List ℕ) (len : length t ≡ 140 * slots g) (v : read t ≡ volumeAt g t) (valid : Valid (volumeAt g t)) (sound : Sound (recordsOf t) (volumeAt g t)) (shown : Shown (volumeAt g t) m s)
-    (count top : ℕ) (tells : Tells (volumeAt g t) g count top) where
+    (count top : ℕ) (tells : TellsVolume (volumeAt g t) g count top) where
   ready-so : ReadyToList g count t m
   ready-so =
       let rs = recordsOf t in
@@ -87,7 +87,7 @@ module _ (g : Geometry) (t m s : List ℕ) (len : length t ≡ 140 * slots g) (v
         countMost = tells .countMost;
       }
 
-pub ready-to-list : (t m s : List ℕ) (g : Geometry) (count top : ℕ) → T (taken t) → Shown (read t) m s → Tells (read t) g count top → ReadyToList g count t m
+pub ready-to-list : (t m s : List ℕ) (g : Geometry) (count top : ℕ) → T (taken t) → Shown (read t) m s → TellsVolume (read t) g count top → ReadyToList g count t m
 ready-to-list t m s g count top x w tells =
     let p = taken-is t x in
     let y = taken-sound t x in
@@ -98,7 +98,7 @@ ready-to-list t m s g count top x w tells =
     let len : length t ≡ 140 * slots g = omega arith in
     let v : read t ≡ volumeAt g t = volume-is g t len (omega arith) (q ∙ geometry-read t (omega arith)) in
     ready-so g t m s len v (subst Valid v (p .0)) (subst (Sound (recordsOf t)) v y) (subst (λ (u : Volume). Shown u m s) v w) count top
-    (subst (λ (u : Volume). Tells u g count top) v tells)
+    (subst (λ (u : Volume). TellsVolume u g count top) v tells)
 
 -- ---- its listing
 

@@ -105,7 +105,7 @@ fn is_other(table: &[u8], k: usize, tags: &[u16], t: u16, name: &[u8]) -> bool
 }
 
 // Whether no slot before k has this name, whose tag is t; the tags of the labels before k are at hand, and a mark for each
-// remainder of them by 4,096. The marks are bits, in a map of crate tracks, where what is marked is called free.
+// remainder of them by 4,096. The marks are bits, in a map of crate bitmap, where what is marked is called free.
 fn is_new<'a>(table: &[u8], k: usize, tags: &'a [u16], seen: &'a [u64], t: u16, name: &[u8]) -> bool
     requires { ⌜ (140 * k ≤ length (now table)) × (length (now tags) ≡ k) × Tagged (now table) k (now tags) × (t ≡ tagOf (now name)) × (length (now seen) ≡ 64) × Seen (now table) k (now seen) ⌝ }
     ensures { λ r. ⌜ r ≡ isNothing (findSlot (now (table .entry)) (now (name .entry)) k) ⌝ }

@@ -23,7 +23,7 @@ use Rattle.open_table.proofs.Lookup.{not-there, there, there-inside}
 use Rattle.open_table.proofs.Numbers.{known}
 
 -- the call c on the buffers b: `ok` are its other lengths, `good` its names, and `own` is its rule behind those
-pub record Asks (b : Lent) (c : Call) (ok good : Bool) (own : Volume → Outcome) : Type 0 where
+pub record AsksTable (b : Lent) (c : Call) (ok good : Bool) (own : Volume → Outcome) : Type 0 where
   pub lengths : ok ≡ otherLengths c (length (b .answer)) (length (b .extra))
   pub rules : (v : Volume) → rule v c ≡ unless good 4 (own v)
 
@@ -51,7 +51,7 @@ module _ (o : Outcome) (n : ℕ) where
 
 -- ---- the call
 
-module _ {b : Lent} {c : Call} {ok good : Bool} {own : Volume → Outcome} (y : Asks b c ok good own) {o : Opening} (x : Opened (b .table) ok good o) where
+module _ {b : Lent} {c : Call} {ok good : Bool} {own : Volume → Outcome} (y : AsksTable b c ok good own) {o : Opening} (x : Opened (b .table) ok good o) where
   abbrev v : Volume
   v = read (b .table)
 
@@ -84,7 +84,7 @@ module _ {b : Lent} {c : Call} {ok good : Bool} {own : Volume → Outcome} (y : 
 -- ---- a call on one data set
 
 module _ {b : Lent} {c : Call} {ok good : Bool} {name : List ℕ} {own : Volume → Label → Outcome} (y : AsksSet b c ok good name own) where
-  pub asks : Asks b c ok good (λ v. given (found v name) 5 (own v))
+  pub asks : AsksTable b c ok good (λ v. given (found v name) 5 (own v))
   asks = record { lengths = y .lengths; rules = y .rules }
 
   module _ {o : Opening} (x : Opened (b .table) ok good o) (z : o .refusal ≡ 0) where

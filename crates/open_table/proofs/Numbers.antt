@@ -13,7 +13,7 @@ use Rattle.model.proofs.Lists.{and-r, by, clash, is-true, true-is}
 use Rattle.rules.specs.Reading.{read}
 use Rattle.rules.specs.Table.{goodLength, tableRefusal, taken}
 use Rattle.dscb.specs.Forms.{geometryOf}
-use Rattle.check_table.specs.Check.{Checked, Roomy, Tells}
+use Rattle.check_table.specs.Check.{Checked, Roomy, TellsVolume}
 use Rattle.open_table.specs.Opening.{AndNamed, Known, KnownMaps, Mapped, Opened, firstRefusal, nameRefusal}
 use Rattle.open_table.proofs.Laws.{ready}
 use Rattle.open_table.proofs.Lookup.{limits-of, table-long}
@@ -42,7 +42,7 @@ module _ (t : List ℕ) (ok : Bool) (m s : List ℕ) (o : Opening) where
           record { longMap = x .longMap; longSlots = x .longSlots; shown = λ q. absurd (omega arith) },
         )
 
-    pub sound : o .refusal ≡ 0 → v .taken ≡ true → Tells (read t) (geometryOf (o .geometry)) (o .format0s) (o .highest) → Opened t ok true o × Mapped t m m′ s s′ (o .refusal)
+    pub sound : o .refusal ≡ 0 → v .taken ≡ true → TellsVolume (read t) (geometryOf (o .geometry)) (o .format0s) (o .highest) → Opened t ok true o × Mapped t m m′ s s′ (o .refusal)
     sound e f tells =
         let q : taken t ≡ true = sym (x .told) ∙ f in (
           record { number = e ∙ rw (h, k, q); tells = λ _. tells },
@@ -67,7 +67,7 @@ module _ {t : List ℕ} {ok good more : Bool} {o r : Opening} (x : Opened t ok g
         number = y .number ∙ ap (λ (k : ℕ). firstRefusal k (nameRefusal more)) (x .number) ∙ both (cond (goodLength t && ok) (tableRefusal t) 2) good more;
         tells = λ z.
             let e = y .same z in
-            subst (λ (p : Opening). Tells (read t) (geometryOf (p .geometry)) (p .format0s) (p .highest)) (sym e) (x .tells (sym (ap (λ (p : Opening). p .refusal) e) ∙ z));
+            subst (λ (p : Opening). TellsVolume (read t) (geometryOf (p .geometry)) (p .format0s) (p .highest)) (sym e) (x .tells (sym (ap (λ (p : Opening). p .refusal) e) ∙ z));
       }
 
   pub map-named : {m m′ s s′ : List ℕ} → Mapped t m m′ s s′ (o .refusal) → Mapped t m m′ s s′ (r .refusal)

@@ -17,7 +17,7 @@ use Rattle.rules.specs.Sound.{Sound}
 use Rattle.dscb.specs.Records.{slotBytes}
 use Rattle.names.specs.Find.{Answer, inSlot, notFound}
 use Rattle.dscb.specs.Forms.{geometryOf}
-use Rattle.check_table.specs.Check.{Shown, Tells}
+use Rattle.check_table.specs.Check.{Shown, TellsVolume}
 
 -- ---- what refuses a call before its own rules do
 
@@ -38,7 +38,7 @@ openNumber t ok good = firstRefusal (cond (goodLength t && ok) (tableRefusal t) 
 
 pub record Opened (t : List ℕ) (ok good : Bool) (o : Opening) : Type 0 where
   pub number : o .refusal ≡ openNumber t ok good
-  pub tells : o .refusal ≡ 0 → Tells (read t) (geometryOf (o .geometry)) (o .format0s) (o .highest)
+  pub tells : o .refusal ≡ 0 → TellsVolume (read t) (geometryOf (o .geometry)) (o .format0s) (o .highest)
 
 -- the maps m of free tracks and s of free slots show what the volume holds, where nothing refuses the call
 pub record Mapped (t m m′ s s′ : List ℕ) (refusal : ℕ) : Type 0 where
