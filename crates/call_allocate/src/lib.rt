@@ -12,11 +12,12 @@ fn allocate_in(
     start: u32,
     amount: u32,
     secondary: u32,
+    option: u32,
     answer: &mut [u8],
     free_tracks: &mut [u64],
 ) -> u32
     requires { ⌜ Roomy (now table) (now «free_tracks») ⌝ }
-    ensures { λ r. ⌜ Allocates (now (table .entry)) (now (name .entry)) (now (attributes .entry)) kind start amount secondary (now (answer .entry)) r (now (table .exit)) (now (answer .exit)) ⌝ }
+    ensures { λ r. ⌜ Allocates (now (table .entry)) (now (name .entry)) (now (attributes .entry)) kind start amount secondary option (now (answer .entry)) r (now (table .exit)) (now (answer .exit)) ⌝ }
 {
     let mut free_slots = [0u64; 8];
     let lengths = open_table::and_another(answer.len(), name.len(), attributes.len(), 52);
@@ -24,10 +25,10 @@ fn allocate_in(
     if opened.refusal != 0 {
         return opened.refusal;
     }
-    if kind > 2 {
+    if request::is_known(kind, option) {} else {
         return E_AMOUNT;
     }
-    let request = request::read_request(kind, start, amount, secondary);
+    let request = request::read_request(kind, start, amount, secondary, option);
     let g = opened.geometry;
     if request::in_range(request, g) {} else {
         return E_AMOUNT;
@@ -56,9 +57,10 @@ pub fn allocate(
     start: u32,
     amount: u32,
     secondary: u32,
+    option: u32,
     answer: &mut [u8],
 ) -> u32
-    ensures { λ r. ⌜ Allocates (now (table .entry)) (now (name .entry)) (now (attributes .entry)) kind start amount secondary (now (answer .entry)) r (now (table .exit)) (now (answer .exit)) ⌝ }
+    ensures { λ r. ⌜ Allocates (now (table .entry)) (now (name .entry)) (now (attributes .entry)) kind start amount secondary option (now (answer .entry)) r (now (table .exit)) (now (answer .exit)) ⌝ }
 {
     if open_table::is_small(table) {
         let mut free_tracks = [u64::MAX; 64];
@@ -70,6 +72,7 @@ pub fn allocate(
             start,
             amount,
             secondary,
+            option,
             answer,
             &mut free_tracks,
         );
@@ -83,6 +86,7 @@ pub fn allocate(
         start,
         amount,
         secondary,
+        option,
         answer,
         &mut free_tracks,
     )

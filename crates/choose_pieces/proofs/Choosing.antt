@@ -18,7 +18,7 @@ use Rattle.model.proofs.Choose.{sorted-All}
 use Rattle.choose_pieces.specs.Grant.{grantedRuns, row, noPieces, grantOf}
 use Rattle.choose_pieces.specs.Pass.{noRun, runOrNone, padded, Surveyed, Within, Small}
 use Rattle.choose_pieces.proofs.Bounds.{small}
-use Rattle.choose_pieces.proofs.Gathering.{gather-padded, gather-short}
+use Rattle.choose_pieces.proofs.Gathering.{gather-padded}
 
 -- ---- where the candidates lie
 
@@ -66,14 +66,11 @@ module _ (f : List Run) (n : ℕ) {u k : ℕ} {best : Run} {five : List Run} (ap
       (padded-at u n 5 (longestFirst c) (sorted-All (Ends u n) c (candidates-end u 0 n f apart)) j))
       fits
 
-  pub five-small : best .count ≡ 0 → 1 ≤ u → Small five
-  five-small e h = small u five h (five-within e)
-
-  found : 1 ≤ best .count → shortest (serving k (candidates u f)) ≡ some best
+  pub found : 1 ≤ best .count → shortest (serving k (candidates u f)) ≡ some best
   unfolding runOrNone
   found h = sym (s .fit) ∙ rw (le-leb 1 (best .count) h)
 
-  not-found : best .count ≡ 0 → shortest (serving k (candidates u f)) ≡ none
+  pub not-found : best .count ≡ 0 → shortest (serving k (candidates u f)) ≡ none
   unfolding runOrNone
   not-found e = sym (s .fit) ∙ rw (lt-leb 1 (best .count) (omega arith))
 
@@ -87,23 +84,9 @@ module _ (f : List Run) (n : ℕ) {u k : ℕ} {best : Run} {five : List Run} (ap
       let l = mul-le-mul-right u (leb→le k (best .count) (b .1)) in
       (omega arith, omega arith)
 
-  -- the one piece
-  pub granted-one : 1 ≤ best .count → set noPieces 0 (row (scale u (run (best .start) k))) ≡ grantOf (grantedRuns u k f)
-  unfolding grantedRuns choose grantOf
-  granted-one h = rw (found h)
-
   -- several
-  pub granted-more : best .count ≡ 0 → mapOption (map (scale u)) (gather k five) ≡ grantedRuns u k f
-  unfolding grantedRuns choose
-  granted-more e =
+  pub several-of : best .count ≡ 0 → gather k five ≡ choose k (candidates u f)
+  unfolding choose
+  several-of e =
       let c = candidates u f in
-      let q : oneOrFive k c (shortest (serving k c)) ≡ gather k five =
-      ap (oneOrFive k c) (not-found e) ∙ sym (gather-padded 5 k (longestFirst c) pos) ∙ ap (gather k) (sym (s .longest e)) in
-      ap (mapOption (map (scale u))) (sym q)
-
-  -- none
-  pub granted-none : best .count ≡ 0 → total five < k → noPieces ≡ grantOf (grantedRuns u k f)
-  unfolding grantOf
-  granted-none e t =
-      let q : grantedRuns u k f ≡ none = sym (granted-more e) ∙ ap (mapOption (map (scale u))) (gather-short k five t) in
-      sym (ap grantOf q)
+      sym (ap (oneOrFive k c) (not-found e) ∙ sym (gather-padded 5 k (longestFirst c) pos) ∙ ap (gather k) (sym (s .longest e)))

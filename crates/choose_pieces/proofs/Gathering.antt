@@ -32,11 +32,15 @@ gather-padded (suc k) n (d ∷ ds) h =
     let l : d .count < n = leb-false _ _ q in
     rw q (ap (mapOption (λ ps. d ∷ ps)) (gather-padded k (n - d .count) ds (omega arith))))
 
-pub gather-short : (n : ℕ) (ds : List Run) → total ds < n → gather n ds ≡ none
+gather-short : (n : ℕ) (ds : List Run) → total ds < n → gather n ds ≡ none
 gather-short n [] h = refl
 gather-short n (d ∷ ds) h =
     let k : leb n (d .count) ≡ false = lt-leb n (d .count) (omega arith) in
     rw (k, gather-short (n - d .count) ds (omega arith))
+
+pub gathered-none : (u n : ℕ) (ds : List Run) → total ds < n → noPieces ≡ grantOf (mapOption (map (scale u)) (gather n ds))
+unfolding grantOf
+gathered-none u n ds h = rw (gather-short n ds h)
 
 pub total-five : (rs : List (List ℕ)) → length rs ≡ 5
     → getD (getD rs 0 []) 1 0 + getD (getD rs 1 []) 1 0 + getD (getD rs 2 []) 1 0 + getD (getD rs 3 []) 1 0 + getD (getD rs 4 []) 1 0 ≡ total (toRuns rs)
@@ -51,12 +55,38 @@ total-five (a ∷ b ∷ c ∷ d ∷ e ∷ f ∷ rs) h = absurd (omega arith)
 -- ---- the turns
 
 -- the rows that pieces of whole candidates have
-abbrev rows : ℕ → List Run → List (List ℕ)
+abbrev pub rows : ℕ → List Run → List (List ℕ)
 rows u ps = map row (map (scale u) ps)
 
-rows-snoc : (u : ℕ) (ps : List Run) (p : Run) (g : List (List ℕ)) → rows u (ps ++ (p ∷ [])) ++ g ≡ rows u ps ++ (row (scale u p) ∷ g)
+pub rows-snoc : (u : ℕ) (ps : List Run) (p : Run) (g : List (List ℕ)) → rows u (ps ++ (p ∷ [])) ++ g ≡ rows u ps ++ (row (scale u p) ∷ g)
 rows-snoc u [] p g = refl
 rows-snoc u (q ∷ ps) p g = ap (λ (x : List (List ℕ)). row (scale u q) ∷ x) (rows-snoc u ps p g)
+
+-- the first k of five candidates, and the places that their pieces have: here and where whole candidates are taken (Options)
+module _ (u k : ℕ) (five g : List (List ℕ)) (h : k < 5) (l : length five ≡ 5) where
+  -- the next candidate and those behind it
+  pub next-of : toRuns (drop k five) ≡ toRun (getD five k []) ∷ toRuns (drop (suc k) five)
+  next-of = ap toRuns (drop-cons five k [] (omega arith))
+
+  -- one more candidate in front
+  pub one-more-of : toRuns (take (suc k) five) ≡ toRuns (take k five) ++ (toRun (getD five k []) ∷ [])
+  one-more-of = ap toRuns (take-suc five k [] (omega arith)) ∙ map-append toRun (take k five) (getD five k [] ∷ [])
+
+  module _ (places : g ≡ rows u (toRuns (take k five)) ++ drop k noPieces) where
+    -- a row stored at place k
+    pub stored-at : (r : List ℕ) → set g k r ≡ rows u (toRuns (take k five)) ++ (r ∷ drop (suc k) noPieces)
+    stored-at r =
+        let w = toRuns (take k five) in
+        let n : length (rows u w) ≡ k = length-map (map (scale u) w) row ∙ length-map w (scale u) ∙ length-map (take k five) toRun ∙ length-take k five ∙ omega arith in
+        let e : g ≡ rows u w ++ (getD noPieces k [] ∷ drop (suc k) noPieces) = places ∙ ap (λ (x : List (List ℕ)). rows u w ++ x) (drop-cons noPieces k [] (omega arith)) in
+        ap (λ (x : List (List ℕ)). set x k r) e ∙ set-at (rows u w) (getD noPieces k []) (drop (suc k) noPieces) r k n
+
+    -- the piece of candidate k, whole
+    pub stored-whole : set g k (row (scale u (toRun (getD five k [])))) ≡ rows u (toRuns (take (suc k) five)) ++ drop (suc k) noPieces
+    stored-whole =
+        let d = toRun (getD five k []) in
+        stored-at (row (scale u d)) ∙ sym (rows-snoc u (toRuns (take k five)) d (drop (suc k) noPieces))
+        ∙ sym (ap (λ (x : List Run). rows u x ++ drop (suc k) noPieces) one-more-of)
 
 -- the first k candidates were taken whole; the rest is to be had of the others
 pub record PiecesFilling (u n : ℕ) (five : List (List ℕ)) (rest : ℕ) (g : List (List ℕ)) (k : ℕ) : Type 0 where
@@ -74,24 +104,11 @@ pub filling-none : (u n : ℕ) (five : List (List ℕ)) → 1 ≤ n → n ≤ to
 filling-none u n five h l = record { few = omega arith; some = h; enough = l; so-far = map-nothing (gather n (toRuns five)); places = refl }
 
 module _ {u n : ℕ} {five : List (List ℕ)} {rest : ℕ} {g : List (List ℕ)} {k : ℕ} (f : PiecesFilling u n five rest g k) (l : length five ≡ 5) where
-  inside : k < length five
-  inside = let a = f .few in omega arith
-
-  rows-length : length (rows u (toRuns (take k five))) ≡ k
-  rows-length =
-      let a = f .few in
-      length-map (map (scale u) (toRuns (take k five))) row ∙ length-map (toRuns (take k five)) (scale u) ∙ length-map (take k five) toRun ∙ length-take k five ∙ omega arith
-
-  -- a row stored at place k
   stored : (r : List ℕ) → set g k r ≡ rows u (toRuns (take k five)) ++ (r ∷ drop (suc k) noPieces)
-  stored r =
-      let a = f .few in
-      let e : g ≡ rows u (toRuns (take k five)) ++ (getD noPieces k [] ∷ drop (suc k) noPieces) = f .places ∙ ap (λ (x : List (List ℕ)). rows u (toRuns (take k five)) ++ x) (drop-cons noPieces k [] (omega arith)) in
-      ap (λ (x : List (List ℕ)). set x k r) e ∙ set-at (rows u (toRuns (take k five))) (getD noPieces k []) (drop (suc k) noPieces) r k rows-length
+  stored r = stored-at u k five g (f .few) l (f .places) r
 
-  -- the next candidate and those behind it
   next : toRuns (drop k five) ≡ toRun (getD five k []) ∷ toRuns (drop (suc k) five)
-  next = ap toRuns (drop-cons five k [] inside)
+  next = next-of u k five g (f .few) l
 
   module _ (h : getD (getD five k []) 1 0 < rest) where
     left-over : rest - getD (getD five k []) 1 0 ≤ total (toRuns (drop (suc k) five))
@@ -104,9 +121,8 @@ module _ {u n : ℕ} {five : List (List ℕ)} {rest : ℕ} {g : List (List ℕ)}
         go [] e t = absurd (omega arith)
         go (d ∷ ds) e t = omega arith
 
-    -- one more candidate in front
     one-more : toRuns (take (suc k) five) ≡ toRuns (take k five) ++ (toRun (getD five k []) ∷ [])
-    one-more = ap toRuns (take-suc five k [] inside) ∙ map-append toRun (take k five) (getD five k [] ∷ [])
+    one-more = one-more-of u k five g (f .few) l
 
     taken-whole : gather n (toRuns five) ≡ mapOption (λ ps. toRuns (take (suc k) five) ++ ps) (gather (rest - getD (getD five k []) 1 0) (toRuns (drop (suc k) five)))
     taken-whole =
@@ -123,17 +139,8 @@ module _ {u n : ℕ} {five : List (List ℕ)} {rest : ℕ} {g : List (List ℕ)}
 
     pub filling-next : PiecesFilling u n five (rest - getD (getD five k []) 1 0) (set g k (row (scale u (toRun (getD five k []))))) (k + 1)
     filling-next =
-        let d = toRun (getD five k []) in
         rw (add-one k)
-        (record {
-          few = further;
-          some = omega arith;
-          enough = left-over;
-          so-far = taken-whole;
-          places =
-              stored (row (scale u d)) ∙ sym (rows-snoc u (toRuns (take k five)) d (drop (suc k) noPieces))
-              ∙ sym (ap (λ (x : List Run). rows u x ++ drop (suc k) noPieces) one-more);
-        })
+        (record { few = further; some = omega arith; enough = left-over; so-far = taken-whole; places = stored-whole u k five g (f .few) l (f .places) })
 
   module _ (h : rest ≤ getD (getD five k []) 1 0) where
     -- the last piece is the first part of candidate k

@@ -6,5 +6,6 @@ pub mod Passing
 pub mod PassingOver
 pub mod Gathering
 pub mod Choosing
+pub mod Options
 pub mod Reply
 pub mod Examples

@@ -12,16 +12,16 @@ use lib.ListN.{length, getD, drop, replicate, drop-of-length-le}
 use lib.Seq.{drop-cons}
 use Rattle.model.specs.Basics.{mapOption}
 use Rattle.model.specs.Model.{Run, run, Extent, extent, overs, total}
-use Rattle.model.specs.Choice.{candidates, choose, scale, piece, pieces}
+use Rattle.model.specs.Choice.{SpaceOption, candidates, chooseBy, scale, piece, pieces}
 use Rattle.model.specs.Predicates.{All}
 use Rattle.choose_pieces.specs.Grant.{grantedRuns, row, noPieces, grantOf, rowsIn}
 
 -- ---- the pieces as extents of a data set
 
 -- the rules' extents of type b
-pub granted-pieces : (b u n : ℕ) (f : List Run) → pieces b u n f ≡ mapOption (map (extent b)) (grantedRuns u n f)
+pub granted-pieces : (o : SpaceOption) (b u n : ℕ) (f : List Run) → pieces o b u n f ≡ mapOption (map (extent b)) (grantedRuns o u n f)
 unfolding grantedRuns
-granted-pieces b u n f = go (choose n (candidates u f))
+granted-pieces o b u n f = go (chooseBy o n (candidates u f))
   where
     each : (ps : List Run) → map (piece b u) ps ≡ map (extent b) (map (scale u) ps)
     each [] = refl

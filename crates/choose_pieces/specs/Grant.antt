@@ -7,11 +7,11 @@ use lib.Dec.{eqb}
 use lib.ListN.{length, drop, getD, replicate}
 use Rattle.model.specs.Basics.{mapOption}
 use Rattle.model.specs.Model.{Run, run}
-use Rattle.model.specs.Choice.{candidates, choose, scale}
+use Rattle.model.specs.Choice.{SpaceOption, candidates, chooseBy, scale}
 
--- the pieces, in tracks, for n units of u tracks out of the free extents f; none: the five longest candidates are too few
-unfoldable pub grantedRuns : ℕ → ℕ → List Run → Option (List Run)
-grantedRuns u n f = mapOption (map (scale u)) (choose n (candidates u f))
+-- the pieces, in tracks, for n units of u tracks out of the free extents f, by an option; none: there is no space
+unfoldable pub grantedRuns : SpaceOption → ℕ → ℕ → List Run → Option (List Run)
+grantedRuns o u n f = mapOption (map (scale u)) (chooseBy o n (candidates u f))
 
 -- a piece as the code holds it: start and count
 abbrev pub row : Run → List ℕ

@@ -1,2 +1,3 @@
 pub mod Grant
+pub mod Options
 pub mod Pass

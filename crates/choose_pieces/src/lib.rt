@@ -6,14 +6,15 @@ ghost use mathlib.Core.Path.{_≡_};
 ghost use mathlib.Core.Bool.{true};
 ghost use mathlib.Core.List.{List, [], map};
 ghost use Prim.Native.Nat.{_-_, _*_, _≤_, _<_};
-ghost use lib.ListN.{length};
+ghost use lib.ListN.{length, take};
 ghost use Rattle.model.specs.Basics.{mapOption};
 ghost use Rattle.model.specs.Model.{Run, run, slots, total};
-ghost use Rattle.model.specs.Choice.{wholeIn, firstPart, gather, scale};
+ghost use Rattle.model.specs.Choice.{wholeIn, firstPart, gather, orNone, scale};
 ghost use Rattle.rules.specs.Predicates.{Limits};
 ghost use Rattle.dscb.specs.Forms.{geometryOf};
 ghost use Rattle.free_extents.specs.FreeList.{Entries, Listed};
 ghost use Rattle.choose_pieces.specs.Grant.{grantedRuns, row, grantOf, rowsIn};
+ghost use Rattle.choose_pieces.specs.Options.{serveFirst, sought, toOption};
 ghost use Rattle.choose_pieces.specs.Pass.{toRun, toRuns, padded, better, fitsBetter, entered, LookedOver, Shorter, Surveyed, Within, Small};
 
 // Units that follow each other: the first, and how many; none where the count is 0.
@@ -257,25 +258,80 @@ fn fill(five: [[u32; 2]; 5], u: u32, amount: u32) -> [[u16; 2]; 5]
     pieces
 }
 
-// The pieces for an amount of units of u tracks, out of the free extents that the table lists; none where the five longest
-// candidates are too few.
-pub fn choose(table: &[u8], g: Geometry, u: u32, amount: u32) -> [[u16; 2]; 5]
+// The pieces out of the five longest candidates for an amount that none of them has; none where they are too few.
+fn several_pieces(five: [[u32; 2]; 5], u: u32, amount: u32) -> [[u16; 2]; 5]
+    requires { ⌜ (1 ≤ u) × (u ≤ 255) × (1 ≤ amount) × Within u (toRuns five) ⌝ }
+    ensures { λ r. ⌜ r ≡ grantOf (mapOption (map (scale u)) (gather amount (toRuns five))) ⌝ }
+{
+    if sum(five) < amount {
+        return [[0u16; 2]; 5];
+    }
+    fill(five, u, amount)
+}
+
+// ---- the options of a request
+
+// CONTIG: one piece or nothing. MXIG: the longest candidate whole. ALX: every candidate that serves whole, five at most.
+pub enum SpaceOption {
+    NoOption,
+    Contig,
+    Mxig,
+    Alx,
+}
+
+// The amount that the survey looks for. MXIG and ALX want the longest: no candidate has 65,536 units, so that the survey finds
+// no fit and goes to its end.
+fn amount_sought(option: SpaceOption, amount: u32) -> u32
+    ensures { λ r. ⌜ r ≡ sought (toOption option) amount ⌝ }
+{
+    match option {
+        SpaceOption::NoOption => amount,
+        SpaceOption::Contig => amount,
+        SpaceOption::Mxig => 65536,
+        SpaceOption::Alx => 65536,
+    }
+}
+
+// Takes whole candidates, `most` at most, up to one that is shorter than the amount.
+fn whole_pieces(five: [[u32; 2]; 5], u: u32, amount: u32, most: usize) -> [[u16; 2]; 5]
+    requires { ⌜ (most ≤ 5) × Within u (toRuns five) ⌝ }
+    ensures { λ r. ⌜ r ≡ grantOf (mapOption (map (scale u)) (orNone (take most (serveFirst amount (toRuns five))))) ⌝ }
+{
+    let mut pieces = [[0u16; 2]; 5];
+    let mut k: usize = 0;
+    while k < most {
+        let c = five[k];
+        if c[1] < amount {
+            return pieces;
+        }
+        let all = piece(u, c, c[1]);
+        pieces[k] = all;
+        k += 1;
+    }
+    pieces
+}
+
+// The pieces for an amount of units of u tracks, by an option, out of the free extents that the table lists; none where there
+// is no space.
+pub fn choose(table: &[u8], g: Geometry, option: SpaceOption, u: u32, amount: u32) -> [[u16; 2]; 5]
     requires { ⌜ Limits (geometryOf g) × (length (now table) ≡ 140 * slots (geometryOf g)) × (1 ≤ u) × (u ≤ 255) ⌝ }
     requires { ⌜ (1 ≤ amount) × ((f : List Run) × Listed (geometryOf g) (now table) f) ⌝ }
-    ensures { λ r. ⌜ ((f : List Run) → Listed (geometryOf g) (now (table .entry)) f → r ≡ grantOf (grantedRuns u amount f)) ⌝ }
+    ensures { λ r. ⌜ ((f : List Run) → Listed (geometryOf g) (now (table .entry)) f → r ≡ grantOf (grantedRuns (toOption option) u amount f)) ⌝ }
 {
     let mut five = [[0u32; 2]; 5];
-    let best = survey_for(table, g, u, amount, &mut five);
+    let best = survey_for(table, g, u, amount_sought(option, amount), &mut five);
     if best.count != 0 {
         let part = piece(u, [best.start, best.count], amount);
         let mut pieces = [[0u16; 2]; 5];
         pieces[0] = part;
         return pieces;
     }
-    if sum(five) < amount {
-        return [[0u16; 2]; 5];
+    match option {
+        SpaceOption::NoOption => several_pieces(five, u, amount),
+        SpaceOption::Contig => [[0u16; 2]; 5],
+        SpaceOption::Mxig => whole_pieces(five, u, amount, 1),
+        SpaceOption::Alx => whole_pieces(five, u, amount, 5),
     }
-    fill(five, u, amount)
 }
 
 // What is granted: how many pieces, none where it is 0, and their tracks.

@@ -9,6 +9,7 @@ use borrow.Author.Tests.{le-leb, lt-leb}
 use lib.Dec.{eqb, leb}
 use lib.ListN.{length, take, getD, length-map}
 use Rattle.model.specs.Basics.{get3, upFrom}
+use Rattle.model.specs.Choice.{noOption}
 use Rattle.model.specs.Model.{Extent, Geometry, Label, Run, Volume, extent, free, held, overs, runsOf, slots, times, total, tracks}
 use Rattle.rules.specs.Calls.{Amount, answer, extendPieces, extendSet, given, granted, inCylinders, inTracks, refuse, secondaryOf, settled, grant as granting}
 use Rattle.rules.specs.Entries.{lent, written}
@@ -143,27 +144,27 @@ module _ {t m s a : List ℕ} {g : Geometry} {k : ℕ} (d : Longer t m s a g k) 
         asks = subst (Asks g) (sym eq) (secondary-asks g unit sec positive)
 
         abbrev chosen : Option (List Extent)
-        chosen = granting (v .geometry) (v .labels) q
+        chosen = granting (v .geometry) (v .labels) noOption q
 
         rule-is : extendSet v name l ≡ given chosen 9 (extendPieces v name l)
         rule-is =
             let e : leb 1 (l .secondary) ≡ true = le-leb 1 (l .secondary) (let z = sec-is in let w = positive in omega arith) in
-            rw e (ap (λ (y : Amount). given (granting (v .geometry) (v .labels) y) 9 (extendPieces v name l)) (sym amount-is))
+            rw e (ap (λ (y : Amount). given (granting (v .geometry) (v .labels) noOption y) 9 (extendPieces v name l)) (sym amount-is))
 
-        module _ (p : List (List ℕ)) (f : (ls : List Label) → Shows m (tracks g) (held g ls) → Listed g t (free g ls) → p ≡ grantOf (piecesOf g ls q))
+        module _ (p : List (List ℕ)) (f : (ls : List Label) → Shows m (tracks g) (held g ls) → Listed g t (free g ls) → p ≡ grantOf (piecesOf g ls noOption q))
             (n sum : ℕ) (c : (n ≡ length (rowsIn p)) × (sum ≡ total (rowsIn p))) where
-          pieces-are : p ≡ grantOf (piecesOf (v .geometry) (v .labels) q)
-          pieces-are = f (v .labels) shows lists ∙ ap (λ (y : Geometry). grantOf (piecesOf y (v .labels) q)) (d .geometryIs)
+          pieces-are : p ≡ grantOf (piecesOf (v .geometry) (v .labels) noOption q)
+          pieces-are = f (v .labels) shows lists ∙ ap (λ (y : Geometry). grantOf (piecesOf y (v .labels) noOption q)) (d .geometryIs)
 
           asks-there : Asks (v .geometry) q
           asks-there = subst (λ (y : Geometry). Asks y q) (d .geometryIs) asks
 
           pub no-space : n ≡ 0 → Extended d 9 t a
-          no-space z = sym (ap (written (lent t a [])) (rule-is ∙ ap (λ (o : Option (List Extent)). given o 9 (extendPieces v name l)) (refused v (is-ready .valid) q asks-there p pieces-are n sum c z)))
+          no-space z = sym (ap (written (lent t a [])) (rule-is ∙ ap (λ (o : Option (List Extent)). given o 9 (extendPieces v name l)) (refused v (is-ready .valid) noOption q asks-there p pieces-are n sum c z)))
 
           module _ (nz : n ≡ 0 → ⊥) where
-            got : Fulfilled v q n sum p
-            got = accepted v (is-ready .valid) q asks-there p pieces-are n sum c nz
+            got : Fulfilled v noOption q n sum p
+            got = accepted v (is-ready .valid) noOption q asks-there p pieces-are n sum c nz
 
             pub pieces-most : n ≤ 5
             pieces-most = let a = got .number in let b = got .good .most in omega arith

@@ -7,16 +7,17 @@ use Prim.Native.Nat.{ℕ, _*_, _≤_, _<_}
 use native.Mathlib.Omega.{arith}
 use lib.Dec.{T, eqb, eqb→eq, leb, leb→le}
 use lib.ListN.{length, take}
+use Rattle.model.specs.Choice.{SpaceOption}
 use Rattle.model.specs.Model.{Extent, Geometry, Label, Run, Volume, extent, free, held, overs, slots, total, tracks}
 use Rattle.model.proofs.Lists.{and-l, and-r, is-true}
-use Rattle.rules.specs.Calls.{Amount, absolute, allocateAmount, allocatePieces, answer, given, granted, inCylinders, inRange, inTracks, newSet, settled, unitOf, grant as granting}
+use Rattle.rules.specs.Calls.{Amount, absolute, allocateBy, allocatePieces, answer, given, granted, inCylinders, inRange, inTracks, newSet, settled, unitOf, grant as granting}
 use Rattle.rules.specs.Entries.{lent, written}
 use Rattle.rules.specs.Ledger.{adds}
 use Rattle.rules.specs.Reading.{read}
 use Rattle.rules.specs.Slots.{settleWith}
 use Rattle.rules.proofs.Grant.{range-asks}
 use Rattle.rules.specs.Predicates.{Asks, Limits, Valid}
-use Rattle.rules.proofs.Grants.{allocate-keeps}
+use Rattle.rules.proofs.Grants.{allocate-by-keeps}
 use Rattle.rules.proofs.Kept.{Keeps}
 use Rattle.rules.proofs.Settle.{used-tally}
 use Rattle.bitmap.specs.Map.{Shows}
@@ -43,7 +44,7 @@ range-secondary g sec (inTracks n) r = let p : T (leb sec 16777215) = search (an
 range-secondary g sec (inCylinders n) r = let p : T (leb sec 16777215) = search (and-l, and-r) depth 9 in let q = leb→le sec 16777215 p in omega arith
 range-secondary g sec (absolute s n) r = let p : T (eqb sec 0) = search (and-l, and-r) depth 9 in let q = eqb→eq sec 0 p in omega arith
 
-module _ {t m s name at a : List ℕ} {g : Geometry} {amount : Amount} {sec : ℕ} (d : Asking t m s name at a g amount sec) where
+module _ {t m s name at a : List ℕ} {g : Geometry} {o : SpaceOption} {amount : Amount} {sec : ℕ} (d : Asking t m s name at a g o amount sec) where
   abbrev v : Volume
   v = read t
 
@@ -78,9 +79,9 @@ module _ {t m s name at a : List ℕ} {g : Geometry} {amount : Amount} {sec : �
   -- ---- the rule, as far as it goes
 
   abbrev chosen : Option (List Extent)
-  chosen = granting (v .geometry) ls amount
+  chosen = granting (v .geometry) ls o amount
 
-  rule-is : allocateAmount v (asking name at sec) amount ≡ given chosen 9 (allocatePieces v (asking name at sec) amount)
+  rule-is : allocateBy v (asking name at sec) amount o ≡ given chosen 9 (allocatePieces v (asking name at sec) amount)
   rule-is =
       let p : inRange (v .geometry) sec amount ≡ true = is-true (subst (λ (y : Geometry). T (inRange y sec amount)) (d .geometryIs) (d .ranges)) in
       let q = d .nameNew in
@@ -92,25 +93,25 @@ module _ {t m s name at a : List ℕ} {g : Geometry} {amount : Amount} {sec : �
   new-valid : (es : List Extent) → chosen ≡ some es → (w : Volume) → settleWith v ls (new es) ≡ some w → Valid w
   new-valid es c w e =
       subst (Keeps v (adds name))
-      (rule-is ∙ ap (λ (o : Option (List Extent)). given o 9 (allocatePieces v (asking name at sec) amount)) c ∙ ap (settled (granted (overs es))) e)
-      (allocate-keeps v (is-ready .valid) (asking name at sec) (d .longName) (d .nameGood) (d .longAttributes) amount) .valid
+      (rule-is ∙ ap (λ (x : Option (List Extent)). given x 9 (allocatePieces v (asking name at sec) amount)) c ∙ ap (settled (granted (overs es))) e)
+      (allocate-by-keeps v (is-ready .valid) (asking name at sec) (d .longName) (d .nameGood) (d .longAttributes) amount o) .valid
 
   -- ---- the choice
 
-  module _ (p : List (List ℕ)) (f : (ls : List Label) → Shows m (tracks g) (held g ls) → Listed g t (free g ls) → p ≡ grantOf (piecesOf g ls amount))
+  module _ (p : List (List ℕ)) (f : (ls : List Label) → Shows m (tracks g) (held g ls) → Listed g t (free g ls) → p ≡ grantOf (piecesOf g ls o amount))
       (count sum : ℕ) (c : (count ≡ length (rowsIn p)) × (sum ≡ total (rowsIn p))) where
-    pieces-are : p ≡ grantOf (piecesOf (v .geometry) ls amount)
-    pieces-are = f ls shows lists ∙ ap (λ (y : Geometry). grantOf (piecesOf y ls amount)) (d .geometryIs)
+    pieces-are : p ≡ grantOf (piecesOf (v .geometry) ls o amount)
+    pieces-are = f ls shows lists ∙ ap (λ (y : Geometry). grantOf (piecesOf y ls o amount)) (d .geometryIs)
 
     asks-there : Asks (v .geometry) amount
     asks-there = subst (λ (y : Geometry). Asks y amount) (d .geometryIs) asks
 
-    pub no-space : count ≡ 0 → Chooses t name at a amount sec 9 t a
-    no-space z = sym (ap (λ (o : Option (List Extent)). written (lent t a []) (given o 9 (allocatePieces v (asking name at sec) amount))) (refused v (is-ready .valid) amount asks-there p pieces-are count sum c z))
+    pub no-space : count ≡ 0 → Chooses t name at a o amount sec 9 t a
+    no-space z = sym (ap (λ (x : Option (List Extent)). written (lent t a []) (given x 9 (allocatePieces v (asking name at sec) amount))) (refused v (is-ready .valid) o amount asks-there p pieces-are count sum c z))
 
     module _ (nz : count ≡ 0 → ⊥) where
-      it : Fulfilled v amount count sum p
-      it = accepted v (is-ready .valid) amount asks-there p pieces-are count sum c nz
+      it : Fulfilled v o amount count sum p
+      it = accepted v (is-ready .valid) o amount asks-there p pieces-are count sum c nz
 
       pub count-most : count ≤ 5
       count-most = let a = it .number in let b = it .good .most in omega arith
@@ -157,10 +158,10 @@ module _ {t m s name at a : List ℕ} {g : Geometry} {amount : Amount} {sec : �
         chosen-is : written (lent t a []) (settled (granted (it .ps)) (settleWith v ls (more kind (it .ps) bare))) ≡ written (lent t a []) (given chosen 9 (allocatePieces v (asking name at sec) amount))
         chosen-is =
             ap₂ (λ (ps : List Run) (l : Label). written (lent t a []) (settled (granted ps) (settleWith v ls l))) (sym (it .runs)) label-is
-            ∙ sym (ap (λ (o : Option (List Extent)). written (lent t a []) (given o 9 (allocatePieces v (asking name at sec) amount))) (it .granted))
+            ∙ sym (ap (λ (x : Option (List Extent)). written (lent t a []) (given x 9 (allocatePieces v (asking name at sec) amount))) (it .granted))
 
         module _ {m′ s′ chain : List ℕ} {plan : Plan} (x : GrantPlans g t m m′ s s′ chain holder (take count p) plan) where
-          pub full : plan .fits ≡ false → Chooses t name at a amount sec 11 t a
+          pub full : plan .fits ≡ false → Chooses t name at a o amount sec 11 t a
           unfolding grants
           full e = not-fitting t a _ (granted (it .ps)) (grant-full grants x e) ∙ chosen-is
 
@@ -184,6 +185,6 @@ module _ {t m s name at a : List ℕ} {g : Geometry} {amount : Amount} {sec : �
                 }
 
             pub put : (t′ a′ : List ℕ) → ((y : GrantWrites g t m′ chain plan holder (take count p) f1 f3) → Leaves (grown (y .grants)) t′)
-                → ((ps : List Run) → length ps ≡ count → total ps ≡ sum → take count p ≡ map row ps → a′ ≡ answer (granted ps)) → Chooses t name at a amount sec 0 t′ a′
+                → ((ps : List Run) → length ps ≡ count → total ps ≡ sum → take count p ≡ map row ps → a′ ≡ answer (granted ps)) → Chooses t name at a o amount sec 0 t′ a′
             unfolding grants writes
             put t′ a′ y z = is-granted t a _ (it .ps) t′ a′ (y writes) (z (it .ps) (it .number) (it .adds) (it .first)) ∙ chosen-is

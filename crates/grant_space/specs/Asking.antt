@@ -6,6 +6,7 @@ use mathlib.Core.List.{List, []}
 use lib.Dec.{T}
 use lib.ListN.{length}
 use Rattle.model.specs.Basics.{any}
+use Rattle.model.specs.Choice.{SpaceOption}
 use Rattle.model.specs.Model.{Geometry, tracks}
 use Rattle.rules.specs.Calls.{Amount, Request, allocatePieces, given, grant, inRange, request}
 use Rattle.rules.specs.Entries.{lent, result, written}
@@ -14,7 +15,7 @@ use Rattle.rules.specs.Table.{goodName, named, taken}
 use Rattle.check_table.specs.Check.{Shown}
 
 -- m and s are the maps of free tracks and of free slots, a is the answer before the call
-pub record Asking (t m s name at a : List ℕ) (g : Geometry) (amount : Amount) (secondary : ℕ) : Type 0 where
+pub record Asking (t m s name at a : List ℕ) (g : Geometry) (option : SpaceOption) (amount : Amount) (secondary : ℕ) : Type 0 where
   pub isTaken : T (taken t)
   pub geometryIs : g ≡ read t .geometry
   pub shown : Shown (read t) m s
@@ -29,11 +30,11 @@ pub record Asking (t m s name at a : List ℕ) (g : Geometry) (amount : Amount) 
 
 -- what is left of a request once its amount is read: the numbers that told it matter no more
 abbrev pub asking : (name at : List ℕ) (secondary : ℕ) → Request
-asking name at secondary = request name at 0 0 0 secondary
+asking name at secondary = request name at 0 0 0 secondary 0
 
 -- the result, the table and the answer are those of the choice of pieces
-abbrev pub Chooses : (t name at a : List ℕ) (amount : Amount) (secondary r : ℕ) (t′ a′ : List ℕ) → Type 0
-Chooses t name at a amount secondary r t′ a′ =
+abbrev pub Chooses : (t name at a : List ℕ) (option : SpaceOption) (amount : Amount) (secondary r : ℕ) (t′ a′ : List ℕ) → Type 0
+Chooses t name at a option amount secondary r t′ a′ =
     result r (lent t′ a′ [])
     ≡ written (lent t a [])
-    (given (grant (read t .geometry) (read t .labels) amount) 9 (allocatePieces (read t) (asking name at secondary) amount))
+    (given (grant (read t .geometry) (read t .labels) option amount) 9 (allocatePieces (read t) (asking name at secondary) amount))

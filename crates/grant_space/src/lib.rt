@@ -1,5 +1,6 @@
 // What allocate and extend do after the lookup: pieces are chosen, leave the map, and the slots are planned; where they fit, the data
 // set's records get the pieces and the table is written.
+use choose_pieces::SpaceOption;
 use dscb::Geometry;
 use dscb::places::*;
 use refusals::*;
@@ -15,6 +16,7 @@ ghost use Rattle.rules.specs.Predicates.{Limits};
 ghost use Rattle.dscb.specs.Forms.{geometryOf};
 ghost use Rattle.update.specs.Commit.{Leaves};
 ghost use Rattle.grant_space.specs.Granting.{GrantPlans, GrantWrites, Grants, grown};
+ghost use Rattle.choose_pieces.specs.Options.{toOption};
 ghost use Rattle.request.specs.Request.{toAmount};
 ghost use Rattle.grant_space.specs.Asking.{Asking, Chooses};
 ghost use Rattle.grant_space.specs.Longer.{Extended, Longer};
@@ -94,11 +96,12 @@ pub fn place(
     request: Request,
     answer: &mut [u8],
 ) -> u32
-    requires { ⌜ Asking (now table) (now «free_tracks») (now «free_slots») (now name) (now attributes) (now answer) (geometryOf g) (toAmount (request .amount)) (request .secondary) ⌝ }
-    ensures { λ r. ⌜ Chooses (now (table .entry)) (now (name .entry)) (now (attributes .entry)) (now (answer .entry)) (toAmount (request .amount)) (request .secondary) r (now (table .exit)) (now (answer .exit)) ⌝ }
+    requires { ⌜ Asking (now table) (now «free_tracks») (now «free_slots») (now name) (now attributes) (now answer) (geometryOf g) (toOption (request .option)) (toAmount (request .amount)) (request .secondary) ⌝ }
+    ensures { λ r. ⌜ Chooses (now (table .entry)) (now (name .entry)) (now (attributes .entry)) (now (answer .entry)) (toOption (request .option)) (toAmount (request .amount)) (request .secondary) r (now (table .exit)) (now (answer .exit)) ⌝ }
 {
     let amount = request.amount;
-    let pieces = request::fulfil(table, free_tracks, g, amount);
+    let option = request.option;
+    let pieces = request::fulfil(table, free_tracks, g, option, amount);
     let got = choose_pieces::count_pieces(pieces);
     if got.count == 0 {
         return E_NO_SPACE;
@@ -143,7 +146,7 @@ pub fn lengthen(
         return E_NO_SECONDARY;
     }
     let amount = request::secondary_of(f1[DS1SCALO], secondary);
-    let pieces = request::fulfil(table, free_tracks, g, amount);
+    let pieces = request::fulfil(table, free_tracks, g, SpaceOption::NoOption, amount);
     let got = choose_pieces::count_pieces(pieces);
     if got.count == 0 {
         return E_NO_SPACE;

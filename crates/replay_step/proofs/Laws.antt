@@ -127,9 +127,10 @@ step-done {line} {t′} {a′} {l′} {r} asked t a l e f h k =
 pub lent-long : (n m : ℕ) (t : List ℕ) → length t ≡ m → n ≤ m → n ≡ length (take n t)
 lent-long n m t h k = sym (length-take-le n t (omega arith))
 
-pub same-request : {n n′ at at′ : List ℕ} {k k′ s s′ a a′ v v′ : ℕ} → n ≡ n′ → at ≡ at′ → k ≡ k′ → s ≡ s′ → a ≡ a′ → v ≡ v′
-    → allocate (request n at k s a v) ≡ allocate (request n′ at′ k′ s′ a′ v′)
-same-request {n} {n′} {at} {at′} {k} {k′} {s} {s′} {a} {a′} {v} {v′} e₁ e₂ e₃ e₄ e₅ e₆ =
-    ap₂ (λ (x y : List ℕ). allocate (request x y k s a v)) e₁ e₂
-    ∙ ap₂ (λ (x y : ℕ). allocate (request n′ at′ x y a v)) e₃ e₄
-    ∙ ap₂ (λ (x y : ℕ). allocate (request n′ at′ k′ s′ x y)) e₅ e₆
+pub same-request : {n n′ at at′ : List ℕ} {k k′ s s′ a a′ v v′ o o′ : ℕ} → n ≡ n′ → at ≡ at′ → k ≡ k′ → s ≡ s′ → a ≡ a′ → v ≡ v′ → o ≡ o′
+    → allocate (request n at k s a v o) ≡ allocate (request n′ at′ k′ s′ a′ v′ o′)
+same-request {n} {n′} {at} {at′} {k} {k′} {s} {s′} {a} {a′} {v} {v′} {o} {o′} e₁ e₂ e₃ e₄ e₅ e₆ e₇ =
+    ap₂ (λ (x y : List ℕ). allocate (request x y k s a v o)) e₁ e₂
+    ∙ ap₂ (λ (x y : ℕ). allocate (request n′ at′ x y a v o)) e₃ e₄
+    ∙ ap₂ (λ (x y : ℕ). allocate (request n′ at′ k′ s′ x y o)) e₅ e₆
+    ∙ ap (λ (x : ℕ). allocate (request n′ at′ k′ s′ a′ v′ x)) e₇

@@ -14,7 +14,7 @@ use Rattle.replay_record.specs.Line.{digest, lineOf}
 
 -- what allocate is asked for
 abbrev pub requestOf : List ℕ → Request
-requestOf r = request (nameAsked r) (otherOf r) (get4 r 8) (get4 r 12) (get4 r 16) (get4 r 20)
+requestOf r = request (nameAsked r) (otherOf r) (get4 r 8) (get4 r 12) (get4 r 16) (get4 r 20) (get4 r 24)
 
 -- ---- a call, with the lent first bytes of the buffers; the bytes behind them stay. Only obtain is lent labels
 

@@ -32,6 +32,7 @@ fn do_allocate(asked: &[u8], table: &mut [u8], answer: &mut [u8]) -> u32
     let start = replay_record::four(asked, 12);
     let amount = replay_record::four(asked, 16);
     let secondary = replay_record::four(asked, 20);
+    let option = replay_record::four(asked, 24);
     let name = replay_record::name_of(asked);
     let attributes = replay_record::other_of(asked);
     vtoc::vtoc_allocate(
@@ -42,6 +43,7 @@ fn do_allocate(asked: &[u8], table: &mut [u8], answer: &mut [u8]) -> u32
         start,
         amount,
         secondary,
+        option,
         &mut answer[..k],
     )
 }

@@ -9,7 +9,7 @@ use lib.Dec.{eqb}
 use lib.ListN.{set}
 use Rattle.model.specs.Basics.{all, mapOption, upFrom}
 use Rattle.model.specs.Model.{Geometry, Label, Run, extent, free, held, overs, run, times, tracks}
-use Rattle.model.specs.Choice.{pieces}
+use Rattle.model.specs.Choice.{SpaceOption, pieces}
 use Rattle.rules.specs.Calls.{exactly, grant as granting}
 use Rattle.rules.specs.Predicates.{Asks}
 use Rattle.bitmap.specs.Map.{Shows, isFree}
@@ -55,8 +55,8 @@ runs-back b none = refl
 runs-back b (some ps) = ap (λ (x : List Run). some x) (sym (overs-extents b ps))
 
 module _ (m : List ℕ) (g : Geometry) (ls : List Label) (h : Shows m (tracks g) (held g ls)) where
-  by-units : (b u n : ℕ) → grantedRuns u n (free g ls) ≡ mapOption overs (pieces b u n (free g ls))
-  by-units b u n = runs-back b (grantedRuns u n (free g ls)) ∙ ap (mapOption overs) (sym (granted-pieces b u n (free g ls)))
+  by-units : (o : SpaceOption) (b u n : ℕ) → grantedRuns o u n (free g ls) ≡ mapOption overs (pieces o b u n (free g ls))
+  by-units o b u n = runs-back b (grantedRuns o u n (free g ls)) ∙ ap (mapOption overs) (sym (granted-pieces o b u n (free g ls)))
 
   exact-runs : (s n : ℕ) → s + n ≤ tracks g → exactRuns m s n ≡ mapOption overs (exactly (run s n) (held g ls))
   unfolding exactRuns
@@ -66,15 +66,15 @@ module _ (m : List ℕ) (g : Geometry) (ls : List Label) (h : Shows m (tracks g)
       go true = refl
       go false = refl
 
-  module _ (a : Asked) (x : List (List ℕ)) where
-    pub tracks-reply : (n : ℕ) → a ≡ Tracks n → x ≡ grantOf (grantedRuns 1 n (free g ls)) → x ≡ grantOf (piecesOf g ls (toAmount a))
+  module _ (o : SpaceOption) (a : Asked) (x : List (List ℕ)) where
+    pub tracks-reply : (n : ℕ) → a ≡ Tracks n → x ≡ grantOf (grantedRuns o 1 n (free g ls)) → x ≡ grantOf (piecesOf g ls o (toAmount a))
     unfolding piecesOf granting
-    tracks-reply n e q = q ∙ ap grantOf (by-units 0x01 1 n ∙ ap (λ (b : Asked). piecesOf g ls (toAmount b)) (sym e))
+    tracks-reply n e q = q ∙ ap grantOf (by-units o 0x01 1 n ∙ ap (λ (b : Asked). piecesOf g ls o (toAmount b)) (sym e))
 
-    pub cylinders-reply : (n : ℕ) → a ≡ Cylinders n → x ≡ grantOf (grantedRuns (g .heads) n (free g ls)) → x ≡ grantOf (piecesOf g ls (toAmount a))
+    pub cylinders-reply : (n : ℕ) → a ≡ Cylinders n → x ≡ grantOf (grantedRuns o (g .heads) n (free g ls)) → x ≡ grantOf (piecesOf g ls o (toAmount a))
     unfolding piecesOf granting
-    cylinders-reply n e q = q ∙ ap grantOf (by-units 0x81 (g .heads) n ∙ ap (λ (b : Asked). piecesOf g ls (toAmount b)) (sym e))
+    cylinders-reply n e q = q ∙ ap grantOf (by-units o 0x81 (g .heads) n ∙ ap (λ (b : Asked). piecesOf g ls o (toAmount b)) (sym e))
 
-    pub absolute-reply : (s n : ℕ) → a ≡ Absolute s n → s + n ≤ tracks g → x ≡ grantOf (exactRuns m s n) → x ≡ grantOf (piecesOf g ls (toAmount a))
+    pub absolute-reply : (s n : ℕ) → a ≡ Absolute s n → s + n ≤ tracks g → x ≡ grantOf (exactRuns m s n) → x ≡ grantOf (piecesOf g ls o (toAmount a))
     unfolding piecesOf granting
-    absolute-reply s n e l q = q ∙ ap grantOf (exact-runs s n l ∙ ap (λ (b : Asked). piecesOf g ls (toAmount b)) (sym e))
+    absolute-reply s n e l q = q ∙ ap grantOf (exact-runs s n l ∙ ap (λ (b : Asked). piecesOf g ls o (toAmount b)) (sym e))

@@ -1,9 +1,11 @@
 -- A request as the code holds it, and document 01's numbers and values for each kind of amount. Assumes nothing.
 use Prim.Native.Nat.{ℕ, _+_, _≤_}
-use mathlib.Core.Bool.{cond}
+use mathlib.Core.Bool.{Bool, cond, _&&_}
 use mathlib.Core.Option.{Option, none, some}
 use mathlib.Core.List.{List, [], _∷_, _++_}
+use lib.Dec.{eqb, leb}
 use Rattle.model.specs.Basics.{all, mapOption, upFrom}
+use Rattle.model.specs.Choice.{SpaceOption}
 use Rattle.model.specs.Model.{Geometry, Label, Run, overs, run, Volume, held, total, tracks}
 use Rattle.rules.specs.Calls.{Amount, absolute, grant, inCylinders, inTracks}
 use Rattle.bitmap.specs.Map.{isFree}
@@ -19,15 +21,19 @@ toAmount (Tracks n) = inTracks n
 toAmount (Cylinders n) = inCylinders n
 toAmount (Absolute s n) = absolute s n
 
+-- the numbers of a kind and of an option for it: neither is unknown, and an absolute request has no option
+abbrev pub isKnown : (kind option : ℕ) → Bool
+isKnown kind option = leb kind 2 && leb option (cond (eqb kind 2) 0 3)
+
 -- "Cylinder pieces have type X'81', others X'01'"
 abbrev pub typeOf : Amount → ℕ
 typeOf (inTracks n) = 0x01
 typeOf (inCylinders n) = 0x81
 typeOf (absolute s n) = 0x01
 
--- the pieces that an amount is granted, or 9
-unfoldable pub piecesOf : Geometry → List Label → Amount → Option (List Run)
-piecesOf g ls a = mapOption overs (grant g ls a)
+-- the pieces that an amount is granted by an option, or 9
+unfoldable pub piecesOf : Geometry → List Label → SpaceOption → Amount → Option (List Run)
+piecesOf g ls o a = mapOption overs (grant g ls o a)
 
 -- "Absolute: exactly those tracks", off the map: one piece, or none where one of the tracks is not free
 unfoldable pub exactRuns : List ℕ → ℕ → ℕ → Option (List Run)

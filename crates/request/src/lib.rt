@@ -1,7 +1,8 @@
-// A request for space: its amount in one of three kinds, the range of its numbers, and what it is granted.
+// A request for space: its amount in one of three kinds, its option, the range of its numbers, and what it is granted.
+use choose_pieces::SpaceOption;
 use dscb::Geometry;
 ghost use mathlib.Core.Path.{_≡_};
-ghost use mathlib.Core.Bool.{cond, _&&_};
+ghost use mathlib.Core.Bool.{cond, true, _&&_};
 ghost use mathlib.Core.Option.{some};
 ghost use mathlib.Core.List.{List};
 ghost use Prim.Native.Nat.{_+_, _-_, _*_, _≤_, _<_};
@@ -9,13 +10,14 @@ ghost use lib.Dec.{eqb, leb};
 ghost use lib.ListN.{length};
 ghost use Rattle.model.specs.Basics.{all, upFrom, within};
 ghost use Rattle.model.specs.Model.{Label, Run, free, held, slots, tracks};
-ghost use Rattle.rules.specs.Calls.{amountOf, inCylinders, inRange, inTracks, unitOf};
+ghost use Rattle.rules.specs.Calls.{amountOf, inCylinders, inRange, inTracks, optionFor, optionOf, unitOf};
 ghost use Rattle.rules.specs.Predicates.{Asks, Limits};
 ghost use Rattle.bitmap.specs.Map.{Shows, isFree};
 ghost use Rattle.free_extents.specs.FreeList.{Listed};
 ghost use Rattle.choose_pieces.specs.Grant.{grantOf};
+ghost use Rattle.choose_pieces.specs.Options.{toOption};
 ghost use Rattle.dscb.specs.Forms.{geometryOf};
-ghost use Rattle.request.specs.Request.{exactRuns, piecesOf, toAmount, typeOf};
+ghost use Rattle.request.specs.Request.{exactRuns, isKnown, piecesOf, toAmount, typeOf};
 
 // An amount: how many tracks, how many cylinders, or from which track on how many.
 pub enum Amount {
@@ -24,31 +26,66 @@ pub enum Amount {
     Absolute(u32, u32),
 }
 
-// What is asked for now, and how much each extend will ask for, in the same unit.
+// What is asked for now, by which option, and how much each extend will ask for, in the same unit.
 pub struct Request {
     pub amount: Amount,
+    pub option: SpaceOption,
     pub secondary: u32,
 }
 
-// The request that the host's numbers make; an unknown kind is refused before.
-pub fn read_request(kind: u32, start: u32, amount: u32, secondary: u32) -> Request
-    requires { ⌜ kind < 3 ⌝ }
-    ensures { λ r. ⌜ (some (toAmount (r .amount)) ≡ amountOf kind start amount) × (r .secondary ≡ secondary) ⌝ }
+// Whether there is such a kind, and such an option for it: an absolute request has none.
+pub fn is_known(kind: u32, option: u32) -> bool
+    ensures { λ r. ⌜ r ≡ isKnown kind option ⌝ }
 {
+    if kind > 2 {
+        return false;
+    }
+    if kind == 2 {
+        return option == 0;
+    }
+    option <= 3
+}
+
+// The option that the host's number tells.
+fn read_option(option: u32) -> SpaceOption
+    requires { ⌜ option ≤ 3 ⌝ }
+    ensures { λ r. ⌜ some (toOption r) ≡ optionOf option ⌝ }
+{
+    if option == 0 {
+        return SpaceOption::NoOption;
+    }
+    if option == 1 {
+        return SpaceOption::Contig;
+    }
+    if option == 2 {
+        return SpaceOption::Mxig;
+    }
+    SpaceOption::Alx
+}
+
+// The request that the host's numbers make; an unknown kind or option is refused before.
+pub fn read_request(kind: u32, start: u32, amount: u32, secondary: u32, option: u32) -> Request
+    requires { ⌜ isKnown kind option ≡ true ⌝ }
+    ensures { λ r. ⌜ (some (toAmount (r .amount)) ≡ amountOf kind start amount) × (some (toOption (r .option)) ≡ optionFor (toAmount (r .amount)) option) × (r .secondary ≡ secondary) ⌝ }
+{
+    let space_option = read_option(option);
     if kind == 0 {
         return Request {
             amount: Amount::Tracks(amount),
+            option: space_option,
             secondary,
         };
     }
     if kind == 1 {
         return Request {
             amount: Amount::Cylinders(amount),
+            option: space_option,
             secondary,
         };
     }
     Request {
         amount: Amount::Absolute(start, amount),
+        option: space_option,
         secondary,
     }
 }
@@ -159,20 +196,21 @@ fn exact(free_tracks: &[u64], start: u32, n: u32) -> [[u16; 2]; 5]
     pieces
 }
 
-// The pieces that an amount is granted out of the free tracks, which the table lists and the map shows, whatever labels hold
-// the others; none where there is no space.
+// The pieces that an amount is granted by an option out of the free tracks, which the table lists and the map shows, whatever
+// labels hold the others; none where there is no space.
 pub fn fulfil<'a>(
     table: &'a [u8],
     free_tracks: &'a [u64],
     g: Geometry,
+    option: SpaceOption,
     amount: Amount,
 ) -> [[u16; 2]; 5]
     requires { ⌜ Limits (geometryOf g) × (tracks (geometryOf g) ≤ 64 * length (now «free_tracks»)) × Asks (geometryOf g) (toAmount amount) × (length (now table) ≡ 140 * slots (geometryOf g)) × ((f : List Run) × Listed (geometryOf g) (now table) f) ⌝ }
-    ensures { λ r. ⌜ ((ls : List Label) → Shows (now («free_tracks» .entry)) (tracks (geometryOf g)) (held (geometryOf g) ls) → Listed (geometryOf g) (now (table .entry)) (free (geometryOf g) ls) → r ≡ grantOf (piecesOf (geometryOf g) ls (toAmount amount))) ⌝ }
+    ensures { λ r. ⌜ ((ls : List Label) → Shows (now («free_tracks» .entry)) (tracks (geometryOf g)) (held (geometryOf g) ls) → Listed (geometryOf g) (now (table .entry)) (free (geometryOf g) ls) → r ≡ grantOf (piecesOf (geometryOf g) ls (toOption option) (toAmount amount))) ⌝ }
 {
     match amount {
-        Amount::Tracks(k) => choose_pieces::choose(table, g, 1, k),
-        Amount::Cylinders(k) => choose_pieces::choose(table, g, g.heads, k),
+        Amount::Tracks(k) => choose_pieces::choose(table, g, option, 1, k),
+        Amount::Cylinders(k) => choose_pieces::choose(table, g, option, g.heads, k),
         Amount::Absolute(start, k) => exact(free_tracks, start, k),
     }
 }

@@ -6,9 +6,10 @@ use mathlib.Core.List.{List, _∷_, _++_}
 use Prim.Native.Nat.{ℕ, _+_, _-_, _*_, _/_}
 use lib.ListN.{length}
 use lib.Dec.{eqb, leb}
+use Rattle.model.specs.Choice.{noOption}
 use Rattle.model.specs.Model.{Geometry, Label, Volume, overs, runsOf, slots, total}
 use Rattle.model.proofs.Lists.{by, clash, true-is}
-use Rattle.rules.specs.Calls.{Call, Outcome, Reply, accept, allocate, allocateAmount, allocatePieces, amountOf, extend, extendPieces, extendSet, given, givenBack, goodTtr, grant, granted, inRange, keep, lspace, newSet, obtain, obtainSet, refuse, release, releaseSet, removeSet, rename, renameSet, rule, scratch, secondaryOf, settled, unless}
+use Rattle.rules.specs.Calls.{Call, Outcome, Reply, accept, allocate, allocateAmount, allocateBy, allocatePieces, amountOf, extend, extendPieces, extendSet, given, givenBack, goodTtr, grant, granted, inRange, keep, lspace, newSet, obtain, obtainSet, optionFor, refuse, release, releaseSet, removeSet, rename, renameSet, rule, scratch, secondaryOf, settled, unless}
 use Rattle.rules.specs.Entries.{Lent, goodLengths, initialise, perform, written}
 use Rattle.rules.specs.Reading.{read}
 use Rattle.rules.specs.Refusals.{OneOf, ZeroOr, refusals, refusalsOfInitialise}
@@ -59,15 +60,17 @@ rule-listed v h (allocate q) =
     listed-unless (goodName (q .name)) _ _ refl
     (listed-given (amountOf (q .kind) (q .start) (q .amount)) _ (allocateAmount v q) (λ _. refl)
     (λ a e.
+    listed-given (optionFor a (q .option)) _ (allocateBy v q a) (λ _. refl)
+    (λ o e.
     listed-unless (inRange (v .geometry) (q .secondary) a) _ _ refl
     (listed-unless (isNew v (q .name)) _ _ refl
-    (listed-given (grant (v .geometry) (v .labels) a) _ (allocatePieces v q a) (λ _. refl)
-    (λ es e. listed-settled (granted (overs es)) (added v (newSet q a es)) (λ _. refl))))))
+    (listed-given (grant (v .geometry) (v .labels) o a) _ (allocatePieces v q a) (λ _. refl)
+    (λ es e. listed-settled (granted (overs es)) (added v (newSet q a es)) (λ _. refl)))))))
 rule-listed v h (extend n) =
     listed-named v (extend n) n (extendSet v n) refl refl
     (λ l e.
     listed-unless (leb 1 (l .secondary)) _ _ refl
-    (listed-given (grant (v .geometry) (v .labels) (secondaryOf l)) _ (extendPieces v n l) (λ _. refl)
+    (listed-given (grant (v .geometry) (v .labels) noOption (secondaryOf l)) _ (extendPieces v n l) (λ _. refl)
     (λ es e.
     listed-unless (leb (length (l .extents) + length es) 16) _ _ refl
     (listed-settled (granted (overs es)) (changed v n (withExtents (l .extents ++ es) (l .ttr) l)) (λ _. refl)))))

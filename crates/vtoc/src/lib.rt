@@ -22,9 +22,9 @@ pub extern "C" fn vtoc_initialise(
     call_initialise::initialise(table, c, h, d, s, v, answer)
 }
 
-// Allocates tracks to a new data set. The refusals, in the order of `perform` and `rule`: 2 length, 3 VTOC unsound,
-// 4 name, 7 amount, 6 duplicate, 9 no space, 11 VTOC full. The pieces are those of `grant`, the table that of the volume
-// which `added` leaves, the answer `answer (granted pieces)`.
+// Allocates tracks to a new data set, by an option: 0 none, 1 CONTIG, 2 MXIG, 3 ALX. The refusals, in the order of `perform` and
+// `rule`: 2 length, 3 VTOC unsound, 4 name, 7 amount, 6 duplicate, 9 no space, 11 VTOC full. The pieces are those of `grant`, the
+// table that of the volume which `added` leaves, the answer `answer (granted pieces)`.
 #[no_mangle]
 pub extern "C" fn vtoc_allocate(
     table: &mut [u8],
@@ -34,9 +34,10 @@ pub extern "C" fn vtoc_allocate(
     start: u32,
     amount: u32,
     secondary: u32,
+    option: u32,
     answer: &mut [u8],
 ) -> u32
-    ensures { λ r. ⌜ Allocates (now (table .entry)) (now (name .entry)) (now (attributes .entry)) kind start amount secondary (now (answer .entry)) r (now (table .exit)) (now (answer .exit)) ⌝ }
+    ensures { λ r. ⌜ Allocates (now (table .entry)) (now (name .entry)) (now (attributes .entry)) kind start amount secondary option (now (answer .entry)) r (now (table .exit)) (now (answer .exit)) ⌝ }
 {
     call_allocate::allocate(
         table,
@@ -46,6 +47,7 @@ pub extern "C" fn vtoc_allocate(
         start,
         amount,
         secondary,
+        option,
         answer,
     )
 }

@@ -1,4 +1,5 @@
 use mathlib.Core.Path.{refl, sym, _∙_}
+use Rattle.choose_pieces.specs.Options.{toOption}
 use Rattle.request.specs.Request.{toAmount}
 use Rattle.open_table.proofs.Calls.{refused}
 use Rattle.open_table.proofs.Numbers.{known, known-maps}
@@ -27,7 +28,10 @@ returns c =
     let at-open-named = c .before .before .before .before .before in
     let at-and-another = at-open-named .before .before .before .before in
     let top = at-and-another .before .before .before .before .before .before in
-    refused (allocates (top .args .table .now) (top .args .name .now) (top .args .attributes .now) (top .args .kind) (top .args .start) (top .args .amount) (top .args .secondary) (top .args .answer .now) _ (at-and-another .and-another .ensures)) (at-open-named .open-named .ensures .0) (c .if1 .taken)
+    refused (allocates (top .args .table .now) (top .args .name .now) (top .args .attributes .now) (top .args .kind) (top .args .start) (top .args .amount) (top .args .secondary) (top .args .option) (top .args .answer .now) _ (at-and-another .and-another .ensures)) (at-open-named .open-named .ensures .0) (c .if1 .taken)
+
+is-known-requires : tie.Need-is-known-requires
+is-known-requires c κs = search needs
 
 same-length-3 : tie.Need-same-length-3
 same-length-3 c = search needs
@@ -37,17 +41,19 @@ same-length-4 c = search needs
 
 returns-2 : tie.Need-returns-2
 returns-2 c =
-    let at-open-named = c .before .before .before .before .before .before in
+    let at-is-known = c .before in
+    let at-if1 = at-is-known .before in
+    let at-open-named = at-if1 .before .before .before .before .before in
     let at-and-another = at-open-named .before .before .before .before in
     let top = at-and-another .before .before .before .before .before .before in
-    unknown (top .args .table .now) (top .args .name .now) (top .args .attributes .now) (top .args .kind) (top .args .start) (top .args .amount) (top .args .secondary) (top .args .answer .now) _ (at-and-another .and-another .ensures) (at-open-named .open-named .ensures .0) (c .before .if1 .left) (c .if2 .taken)
+    unknown (top .args .table .now) (top .args .name .now) (top .args .attributes .now) (top .args .kind) (top .args .start) (top .args .amount) (top .args .secondary) (top .args .option) (top .args .answer .now) _ (at-and-another .and-another .ensures) (at-open-named .open-named .ensures .0) (at-if1 .if1 .left) (sym (at-is-known .is-known .ensures) ∙ c .if2 .left)
 
 read-request-requires : tie.Need-read-request-requires
-read-request-requires c κs = search needs
+read-request-requires c κs = sym (c .before .is-known .ensures) ∙ c .if2 .taken
 
 in-range-requires : tie.Need-in-range-requires
 in-range-requires c κs =
-    let at-if1 = c .before .before .before in
+    let at-if1 = c .before .before .before .before in
     let at-open-named = at-if1 .before .before .before .before .before in
     known (at-open-named .open-named .ensures .0) (at-if1 .if1 .left) .limits
 
@@ -60,15 +66,15 @@ same-length-6 c = search needs
 returns-3 : tie.Need-returns-3
 returns-3 c =
     let at-read-request = c .before .before .before in
-    let at-if1 = at-read-request .before .before in
+    let at-if1 = at-read-request .before .before .before in
     let at-open-named = at-if1 .before .before .before .before .before in
     let at-and-another = at-open-named .before .before .before .before in
     let top = at-and-another .before .before .before .before .before .before in
-    out-of-range (top .args .table .now) (top .args .name .now) (top .args .attributes .now) (top .args .kind) (top .args .start) (top .args .amount) (top .args .secondary) (top .args .answer .now) _ (at-and-another .and-another .ensures) (at-open-named .open-named .ensures .0) (at-if1 .if1 .left) (toAmount (at-read-request .read-request .result .amount)) (at-read-request .read-request .ensures .0) _ (at-read-request .read-request .ensures .1) (sym (c .before .in-range .ensures) ∙ c .if3 .left)
+    out-of-range (top .args .table .now) (top .args .name .now) (top .args .attributes .now) (top .args .kind) (top .args .start) (top .args .amount) (top .args .secondary) (top .args .option) (top .args .answer .now) _ (at-and-another .and-another .ensures) (at-open-named .open-named .ensures .0) (at-if1 .if1 .left) (toAmount (at-read-request .read-request .result .amount)) (at-read-request .read-request .ensures .0) (toOption (at-read-request .read-request .result .option)) (at-read-request .read-request .ensures .1) _ (at-read-request .read-request .ensures .2) (sym (c .before .in-range .ensures) ∙ c .if3 .left)
 
 on-volume-requires : tie.Need-on-volume-requires
 on-volume-requires c κs =
-    let at-if1 = c .before .before .before .before .before .before in
+    let at-if1 = c .before .before .before .before .before .before .before in
     let at-open-named = at-if1 .before .before .before .before .before in
     let w = known (at-open-named .open-named .ensures .0) (at-if1 .if1 .left) in
     (w .limits, w .long)
@@ -84,11 +90,11 @@ returns-4 c =
     let at-if3 = c .before .before .before in
     let at-in-range = at-if3 .before in
     let at-read-request = at-in-range .before .before in
-    let at-if1 = at-read-request .before .before in
+    let at-if1 = at-read-request .before .before .before in
     let at-open-named = at-if1 .before .before .before .before .before in
     let at-and-another = at-open-named .before .before .before .before in
     let top = at-and-another .before .before .before .before .before .before in
-    duplicate (top .args .table .now) (top .args .name .now) (top .args .attributes .now) (top .args .kind) (top .args .start) (top .args .amount) (top .args .secondary) (top .args .answer .now) _ (at-and-another .and-another .ensures) (at-open-named .open-named .ensures .0) (at-if1 .if1 .left) (toAmount (at-read-request .read-request .result .amount)) (at-read-request .read-request .ensures .0) _ (at-read-request .read-request .ensures .1) (sym (at-in-range .in-range .ensures) ∙ at-if3 .if3 .taken) _ (c .before .on-volume .ensures) (c .if4 .taken)
+    duplicate (top .args .table .now) (top .args .name .now) (top .args .attributes .now) (top .args .kind) (top .args .start) (top .args .amount) (top .args .secondary) (top .args .option) (top .args .answer .now) _ (at-and-another .and-another .ensures) (at-open-named .open-named .ensures .0) (at-if1 .if1 .left) (toAmount (at-read-request .read-request .result .amount)) (at-read-request .read-request .ensures .0) (toOption (at-read-request .read-request .result .option)) (at-read-request .read-request .ensures .1) _ (at-read-request .read-request .ensures .2) (sym (at-in-range .in-range .ensures) ∙ at-if3 .if3 .taken) _ (c .before .on-volume .ensures) (c .if4 .taken)
 
 slice-aggregate-place : tie.Need-slice-aggregate-place
 slice-aggregate-place c = search needs
@@ -100,11 +106,11 @@ place-requires c κs =
     let at-if3 = at-on-volume .before .before in
     let at-in-range = at-if3 .before in
     let at-read-request = at-in-range .before .before in
-    let at-if1 = at-read-request .before .before in
+    let at-if1 = at-read-request .before .before .before in
     let at-open-named = at-if1 .before .before .before .before .before in
     let at-and-another = at-open-named .before .before .before .before in
     let top = at-and-another .before .before .before .before .before .before in
-    asking (top .args .table .now) (top .args .name .now) (top .args .attributes .now) (top .args .kind) (top .args .start) (top .args .amount) (top .args .secondary) (top .args .answer .now) _ (at-and-another .and-another .ensures) (at-open-named .open-named .ensures .0) (at-if1 .if1 .left) (toAmount (at-read-request .read-request .result .amount)) (at-read-request .read-request .ensures .0) _ (at-read-request .read-request .ensures .1) (sym (at-in-range .in-range .ensures) ∙ at-if3 .if3 .taken) _ (at-on-volume .on-volume .ensures) (at-if4 .if4 .left) (known-maps (at-open-named .open-named .ensures .0) (at-if1 .if1 .left) (at-open-named .open-named .ensures .1) (top .pre) refl)
+    asking (top .args .table .now) (top .args .name .now) (top .args .attributes .now) (top .args .kind) (top .args .start) (top .args .amount) (top .args .secondary) (top .args .option) (top .args .answer .now) _ (at-and-another .and-another .ensures) (at-open-named .open-named .ensures .0) (at-if1 .if1 .left) (toAmount (at-read-request .read-request .result .amount)) (at-read-request .read-request .ensures .0) (toOption (at-read-request .read-request .result .option)) (at-read-request .read-request .ensures .1) _ (at-read-request .read-request .ensures .2) (sym (at-in-range .in-range .ensures) ∙ at-if3 .if3 .taken) _ (at-on-volume .on-volume .ensures) (at-if4 .if4 .left) (known-maps (at-open-named .open-named .ensures .0) (at-if1 .if1 .left) (at-open-named .open-named .ensures .1) (top .pre) refl)
 
 same-length-9 : tie.Need-same-length-9
 same-length-9 c = search needs
@@ -123,11 +129,11 @@ returns-5 c =
     let at-if3 = at-on-volume .before .before in
     let at-in-range = at-if3 .before in
     let at-read-request = at-in-range .before .before in
-    let at-if1 = at-read-request .before .before in
+    let at-if1 = at-read-request .before .before .before in
     let at-open-named = at-if1 .before .before .before .before .before in
     let at-and-another = at-open-named .before .before .before .before in
     let top = at-and-another .before .before .before .before .before .before in
-    placed (top .args .table .now) (top .args .name .now) (top .args .attributes .now) (top .args .kind) (top .args .start) (top .args .amount) (top .args .secondary) (top .args .answer .now) _ (at-and-another .and-another .ensures) (at-open-named .open-named .ensures .0) (at-if1 .if1 .left) (toAmount (at-read-request .read-request .result .amount)) (at-read-request .read-request .ensures .0) _ (at-read-request .read-request .ensures .1) (sym (at-in-range .in-range .ensures) ∙ at-if3 .if3 .taken) _ (at-on-volume .on-volume .ensures) (at-if4 .if4 .left) _ _ _ (at-place .place .ensures)
+    placed (top .args .table .now) (top .args .name .now) (top .args .attributes .now) (top .args .kind) (top .args .start) (top .args .amount) (top .args .secondary) (top .args .option) (top .args .answer .now) _ (at-and-another .and-another .ensures) (at-open-named .open-named .ensures .0) (at-if1 .if1 .left) (toAmount (at-read-request .read-request .result .amount)) (at-read-request .read-request .ensures .0) (toOption (at-read-request .read-request .result .option)) (at-read-request .read-request .ensures .1) _ (at-read-request .read-request .ensures .2) (sym (at-in-range .in-range .ensures) ∙ at-if3 .if3 .taken) _ (at-on-volume .on-volume .ensures) (at-if4 .if4 .left) _ _ _ (at-place .place .ensures)
 
 pub allocate-in-spec : {M : Type 1} → statement M
 allocate-in-spec =
@@ -139,6 +145,7 @@ allocate-in-spec =
     same-length
     same-length-2
     returns
+    is-known-requires
     same-length-3
     same-length-4
     returns-2

@@ -24,6 +24,9 @@ four-requires-3 c κs = search needs
 four-requires-4 : tie.Need-four-requires-4
 four-requires-4 c κs = search needs
 
+four-requires-5 : tie.Need-four-requires-5
+four-requires-5 c κs = search needs
+
 name-of-requires : tie.Need-name-of-requires
 name-of-requires c κs = search needs
 
@@ -34,14 +37,17 @@ slice-relend-prefix-vtoc-allocate : tie.Need-slice-relend-prefix-vtoc-allocate
 slice-relend-prefix-vtoc-allocate c = search needs
 
 slice-aggregate-vtoc-allocate : tie.Need-slice-aggregate-vtoc-allocate
-slice-aggregate-vtoc-allocate c = lent-long _ 65536 (c .before .before .before .before .before .before .before .before .before .before .before .before .args .table .now) (c .before .before .before .before .before .before .before .before .before .before .before .before .pre .1) (let h = c .before .before .before .before .before .before .before .before .table-lent .ensures .1 in omega arith)
+slice-aggregate-vtoc-allocate c =
+    let at-table-lent = c .before .before .before .before .before .before .before .before .before in
+    let top = at-table-lent .before .before .before .before in
+    lent-long _ 65536 (top .args .table .now) (top .pre .1) (let h = at-table-lent .table-lent .ensures .1 in omega arith)
 
 slice-relend-prefix-vtoc-allocate-2 : tie.Need-slice-relend-prefix-vtoc-allocate-2
 slice-relend-prefix-vtoc-allocate-2 c = search needs
 
 slice-aggregate-vtoc-allocate-2 : tie.Need-slice-aggregate-vtoc-allocate-2
 slice-aggregate-vtoc-allocate-2 c =
-    let at-answer-lent = c .before .before .before .before .before .before .before .before in
+    let at-answer-lent = c .before .before .before .before .before .before .before .before .before in
     let top = at-answer-lent .before .before .before .before .before in
     lent-long _ 32 (top .args .answer .now) (top .pre .2) (at-answer-lent .answer-lent .ensures .1)
 
@@ -59,14 +65,15 @@ returns c =
     let at-vtoc-allocate = c .before .before .before .before in
     let at-other-of = at-vtoc-allocate .before .before .before in
     let at-name-of = at-other-of .before in
-    let at-four4 = at-name-of .before in
+    let at-four5 = at-name-of .before in
+    let at-four4 = at-four5 .before in
     let at-four3 = at-four4 .before in
     let at-four2 = at-four3 .before in
     let at-four = at-four2 .before in
     let at-answer-lent = at-four .before in
     let at-table-lent = at-answer-lent .before in
     let top = at-table-lent .before .before .before .before in
-    does-call (allocate (requestOf (top .args .asked .now))) (top .args .asked .now) (top .args .table .now) (top .args .answer .now) _ _ (same-request (at-name-of .name-of .ensures) (at-other-of .other-of .ensures) (at-four .four .ensures) (at-four2 .four2 .ensures) (at-four3 .four3 .ensures) (at-four4 .four4 .ensures)) (at-table-lent .table-lent .ensures .0) (at-answer-lent .answer-lent .ensures .0) (at-vtoc-allocate .vtoc-allocate .ensures)
+    does-call (allocate (requestOf (top .args .asked .now))) (top .args .asked .now) (top .args .table .now) (top .args .answer .now) _ _ (same-request (at-name-of .name-of .ensures) (at-other-of .other-of .ensures) (at-four .four .ensures) (at-four2 .four2 .ensures) (at-four3 .four3 .ensures) (at-four4 .four4 .ensures) (at-four5 .four5 .ensures)) (at-table-lent .table-lent .ensures .0) (at-answer-lent .answer-lent .ensures .0) (at-vtoc-allocate .vtoc-allocate .ensures)
 
 pub do-allocate-spec : {M : Type 1} → statement M
 do-allocate-spec =
@@ -78,6 +85,7 @@ do-allocate-spec =
     four-requires-2
     four-requires-3
     four-requires-4
+    four-requires-5
     name-of-requires
     other-of-requires
     slice-relend-prefix-vtoc-allocate

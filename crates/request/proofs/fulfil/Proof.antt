@@ -1,5 +1,6 @@
 use Rattle.request.proofs.Granting.{absolute-asked, absolute-reply, cylinders-asked, cylinders-reply, tracks-asked, tracks-reply}
 use Rattle.dscb.specs.Forms.{geometryOf}
+use Rattle.choose_pieces.specs.Options.{toOption}
 use native.Mathlib.Omega.{arith}
 use borrow.Author.Needs.{needs}
 use Rattle.request.proofs.fulfil.Statement.{statement}
@@ -42,21 +43,21 @@ returns c =
     let top = c .before .before .before .before .before .before in
     λ ls h d.
     let a = top .args in
-    tracks-reply (a .free-tracks .now) (geometryOf (a .g)) ls h (a .amount) _ _ (c .before .before .amount .given .1) (c .choose .ensures _ d)
+    tracks-reply (a .free-tracks .now) (geometryOf (a .g)) ls h (toOption (a .option)) (a .amount) _ _ (c .before .before .amount .given .1) (c .choose .ensures _ d)
 
 returns-2 : tie.Need-returns-2
 returns-2 c =
     let top = c .before .before .before .before .before .before in
     λ ls h d.
     let a = top .args in
-    cylinders-reply (a .free-tracks .now) (geometryOf (a .g)) ls h (a .amount) _ _ (c .before .before .amount2 .given .1) (c .choose2 .ensures _ d)
+    cylinders-reply (a .free-tracks .now) (geometryOf (a .g)) ls h (toOption (a .option)) (a .amount) _ _ (c .before .before .amount2 .given .1) (c .choose2 .ensures _ d)
 
 returns-3 : tie.Need-returns-3
 returns-3 c = λ ls h d.
     let top = c .before .before .before .before .before .before in
     let a = top .args in
     let e = c .before .before .amount3 .given .1 in
-    absolute-reply (a .free-tracks .now) (geometryOf (a .g)) ls h (a .amount) _ _ _ e (absolute-asked (geometryOf (a .g)) (a .amount) (top .pre .2) _ _ e .1) (c .exact .ensures)
+    absolute-reply (a .free-tracks .now) (geometryOf (a .g)) ls h (toOption (a .option)) (a .amount) _ _ _ e (absolute-asked (geometryOf (a .g)) (a .amount) (top .pre .2) _ _ e .1) (c .exact .ensures)
 
 pub fulfil-spec : {M : Type 1} → statement M
 fulfil-spec =
