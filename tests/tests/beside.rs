@@ -46,6 +46,8 @@ fn every_fault_is_noticed() {
             Fault::NameByte => "name: byte",
             Fault::SecondByte => "second name or attributes: byte",
             Fault::ReadTableByte => "table: byte",
+            Fault::MxigAmountOnly => "table: byte",
+            Fault::AlxShortestFirst => "answer: byte",
         };
         assert!(text.contains(expected), "{fault:?} {call:?}: {text}");
     }
