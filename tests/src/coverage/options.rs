@@ -1,6 +1,8 @@
 //! The paths of an allocate with an option, worked out from the candidates as the table had them.
 
-use crate::call::{ALX, CONTIG, MXIG, NO_OPTION};
+use std::cmp::Reverse;
+
+use crate::call::{ALX, CONTIG, MXIG};
 use crate::generate::glance::Glance;
 
 /// The paths that a run must see.
@@ -64,12 +66,16 @@ pub struct Numbers {
     pub option: u32,
 }
 
-/// A candidate: the hole it lies in, and its length in units.
+/// A candidate: its length in units, that of its hole in tracks, and the holes it would leave there.
 #[derive(Clone, Copy)]
 struct Candidate {
-    hole: u32,
     length: u32,
+    hole: u32,
+    rests: usize,
 }
+
+/// Paths with whether they were taken.
+type Facts = Vec<(bool, String)>;
 
 impl Numbers {
     fn option_and_kind(&self) -> Option<(&'static str, &'static str)> {
@@ -102,12 +108,13 @@ impl Numbers {
     /// The candidates, longest first.
     fn candidates(&self, table: &Glance) -> Vec<Candidate> {
         let unit = if self.kind == 1 { table.geometry.heads } else { 1 };
-        let whole = |&(start, length): &(u32, u32)| {
-            let units = ((start + length) / unit).saturating_sub(start.div_ceil(unit));
-            (units > 0).then_some(Candidate { hole: length, length: units })
+        let whole = |&(start, hole): &(u32, u32)| {
+            let (first, end) = (start.div_ceil(unit), (start + hole) / unit);
+            let rests = usize::from(first * unit > start) + usize::from(end * unit < start + hole);
+            (first < end).then(|| Candidate { length: end - first, hole, rests })
         };
         let mut candidates: Vec<_> = table.holes.iter().filter_map(whole).collect();
-        candidates.sort_by_key(|candidate| std::cmp::Reverse(candidate.length));
+        candidates.sort_by_key(|candidate| Reverse(candidate.length));
         candidates
     }
 
@@ -123,78 +130,106 @@ impl Numbers {
 pub fn granted(numbers: Numbers, before: &Glance, after: &Glance) -> Vec<&'static str> {
     let Some((option, kind)) = numbers.option_and_kind() else { return vec![] };
     let serving = numbers.serving(before);
-    let lengths: Vec<u32> = serving.iter().map(|candidate| candidate.length).collect();
-    let exact = lengths.last() == Some(&numbers.amount);
-    let taken = lengths.len().min(if numbers.option == ALX { 5 } else { 1 });
     let longest_hole = before.holes.iter().map(|&(_, length)| length).max().unwrap_or(0);
-    let unit = if numbers.kind == 1 { before.geometry.heads } else { 1 };
-    let rest = serving[..taken].iter().any(|candidate| candidate.hole > candidate.length * unit);
-    let made_3 = after.sets.iter().filter(|set| set.format_3.is_some()).count()
-        > before.sets.iter().filter(|set| set.format_3.is_some()).count();
-    let (fives, fives_after) = (before.format_5s.len(), after.format_5s.len());
-    let pieces = format!("{taken} piece{}", if taken == 1 { "" } else { "s" });
-    let mut facts: Vec<(bool, String)> = vec![];
-    let mut note = |fact: bool, path: &str| facts.push((fact, format!("{option}, {kind}: {path}")));
-    match numbers.option {
-        CONTIG => note(true, if exact { "a whole candidate" } else { "part of a candidate" }),
-        MXIG => {
-            let just = lengths[0] == numbers.amount;
-            note(true, if just { "just the amount" } else { "more than the amount" });
-            note(lengths.get(1) == Some(&lengths[0]), "tie");
-            note(rest, "rest of a free extent left");
-            note(serving[0].hole < longest_hole, "another free extent is longer");
-        }
-        _ => {
-            note(true, &pieces);
-            note(lengths[..taken].last() == Some(&numbers.amount), "just the amount");
-            note(lengths[..taken].windows(2).any(|two| two[0] == two[1]), "tie");
-            note(lengths.len() > 5, "more than five serve");
-            let sixth = lengths.get(5);
-            note(sixth.is_some() && sixth == lengths.get(4), "tie of the fifth with the sixth");
-            note(rest, "rest of a free extent left");
-            let rises = serving[..taken].windows(2).any(|two| two[0].hole < two[1].hole);
-            note(rises, "a longer free extent after a shorter one");
-            facts.push((made_3, "ALX: format 3 made".into()));
-            facts.push((fives_after > fives, "ALX: format 5 made".into()));
-            facts.push((fives_after < fives, "ALX: format 5 freed".into()));
-        }
+    let paths = match numbers.option {
+        CONTIG => contig(numbers.amount, &serving),
+        MXIG => mxig(numbers.amount, &serving, longest_hole),
+        _ => alx(numbers.amount, &serving),
+    };
+    let named = paths.into_iter().map(|(fact, path)| (fact, format!("{option}, {kind}: {path}")));
+    let mut facts: Facts = named.collect();
+    if numbers.option == ALX {
+        facts.extend(records(before, after));
     }
     listed(facts)
+}
+
+fn contig(amount: u32, serving: &[Candidate]) -> Facts {
+    let exact = serving.iter().any(|candidate| candidate.length == amount);
+    vec![(exact, "a whole candidate".into()), (!exact, "part of a candidate".into())]
+}
+
+fn mxig(amount: u32, serving: &[Candidate], longest_hole: u32) -> Facts {
+    let longest = serving[0];
+    let tie = serving.get(1).is_some_and(|next| next.length == longest.length);
+    vec![
+        (longest.length == amount, "just the amount".into()),
+        (longest.length > amount, "more than the amount".into()),
+        (tie, "tie".into()),
+        (longest.rests > 0, "rest of a free extent left".into()),
+        (longest.hole < longest_hole, "another free extent is longer".into()),
+    ]
+}
+
+fn alx(amount: u32, serving: &[Candidate]) -> Facts {
+    let count = serving.len().min(5);
+    let (taken, left) = serving.split_at(count);
+    let pieces = format!("{count} piece{}", if count == 1 { "" } else { "s" });
+    let sixth_ties = left.first().is_some_and(|sixth| sixth.length == taken[4].length);
+    let in_turn = |fact: fn(&Candidate, &Candidate) -> bool| {
+        taken.windows(2).any(|two| fact(&two[0], &two[1]))
+    };
+    vec![
+        (true, pieces),
+        (taken[count - 1].length == amount, "just the amount".into()),
+        (in_turn(|one, next| one.length == next.length), "tie".into()),
+        (!left.is_empty(), "more than five serve".into()),
+        (sixth_ties, "tie of the fifth with the sixth".into()),
+        (taken.iter().any(|one| one.rests > 0), "rest of a free extent left".into()),
+        (
+            in_turn(|one, next| one.hole < next.hole),
+            "a longer free extent after a shorter one".into(),
+        ),
+    ]
+}
+
+/// Format 3s and 5s of an ALX.
+fn records(before: &Glance, after: &Glance) -> Facts {
+    let threes = |table: &Glance| table.sets.iter().filter(|set| set.format_3.is_some()).count();
+    let fives = |table: &Glance| table.format_5s.len();
+    vec![
+        (threes(after) > threes(before), "ALX: format 3 made".into()),
+        (fives(after) > fives(before), "ALX: format 5 made".into()),
+        (fives(after) < fives(before), "ALX: format 5 freed".into()),
+    ]
 }
 
 /// What a refused allocate with an option shows.
 pub fn refused(numbers: Numbers, before: &Glance, result: u32) -> Vec<&'static str> {
-    let mut facts: Vec<(bool, String)> = vec![];
-    match (result, numbers.option_and_kind()) {
+    let fact = match (result, numbers.option_and_kind()) {
         (7, _) if numbers.option > ALX => {
             let on = if numbers.kind == 2 { "absolute" } else { "tracks or cylinders" };
-            facts.push((numbers.otherwise_right(before), format!("option unknown on {on}")));
+            (numbers.otherwise_right(before), format!("option unknown on {on}"))
         }
-        (7, None) if numbers.option != NO_OPTION => {
-            facts.push((numbers.otherwise_right(before), "option on absolute".into()));
-        }
+        (7, None) => (numbers.otherwise_right(before), "option on absolute".into()),
         (9, Some((option, kind))) => {
             let five: u32 = numbers.candidates(before).iter().take(5).map(|c| c.length).sum();
-            let path = format!("{option}, {kind}: 9 though pieces would do");
-            facts.push((five >= numbers.amount, path));
+            (five >= numbers.amount, format!("{option}, {kind}: 9 though pieces would do"))
         }
         (11, Some(("ALX", _))) => {
-            // A slot for the format 1, and where there is none left for it a format 3 or 5.
-            let (open, pieces) = (before.open.len(), numbers.serving(before).len().min(5));
-            let path = match open {
-                0 => "1",
-                1 if pieces > 3 => "3",
-                _ => "5",
-            };
-            facts.push((true, format!("ALX: 11 for a format {path}")));
+            let format = without_slot(before, &numbers.serving(before));
+            (true, format!("ALX: 11 for a format {format}"))
         }
-        _ => {}
-    }
-    listed(facts)
+        _ => return vec![],
+    };
+    listed(vec![fact])
 }
 
-/// The paths of the facts that hold and are on the list.
-fn listed(facts: Vec<(bool, String)>) -> Vec<&'static str> {
+/// The format of the first new record of an ALX for which there is no slot.
+fn without_slot(before: &Glance, serving: &[Candidate]) -> u8 {
+    let taken = &serving[..serving.len().min(5)];
+    let rests: usize = taken.iter().map(|candidate| candidate.rests).sum();
+    let holes = before.holes.len() + rests - taken.len();
+    let freed = before.format_5s.len().saturating_sub(holes.div_ceil(26).max(1));
+    match before.open.len() + freed {
+        0 => 1,
+        1 if taken.len() > 3 => 3,
+        _ => 5,
+    }
+}
+
+/// The paths that were taken, those on the list.
+fn listed(facts: Facts) -> Vec<&'static str> {
     let find = |path: &str| OPTIONS.iter().find(|&&on_list| on_list == path).copied();
     facts.iter().filter(|(fact, _)| *fact).filter_map(|(_, path)| find(path)).collect()
 }
