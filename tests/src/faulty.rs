@@ -2,7 +2,7 @@
 
 use std::hint::black_box;
 
-use crate::call::Manager;
+use crate::call::{Manager, ALX, CONTIG, MXIG};
 
 /// What goes wrong, wherever it can.
 #[derive(Clone, Copy, Debug, PartialEq, Eq)]
@@ -33,9 +33,13 @@ pub enum Fault {
     SecondByte,
     /// The last byte of the table of an obtain or LSPACE, which only read it.
     ReadTableByte,
+    /// MXIG gives the amount and no more, as CONTIG does.
+    MxigAmountOnly,
+    /// The answer of an ALX has its pieces the other way round.
+    AlxShortestFirst,
 }
 
-pub const FAULTS: [Fault; 13] = [
+pub const FAULTS: [Fault; 15] = [
     Fault::RefusesAll,
     Fault::AcceptsAll,
     Fault::OtherRefusal,
@@ -49,6 +53,8 @@ pub const FAULTS: [Fault; 13] = [
     Fault::NameByte,
     Fault::SecondByte,
     Fault::ReadTableByte,
+    Fault::MxigAmountOnly,
+    Fault::AlxShortestFirst,
 ];
 
 pub struct Faulty<'a, M> {
@@ -60,6 +66,13 @@ fn flip_last(bytes: &mut [u8]) {
     if let Some(byte) = bytes.last_mut() {
         *byte ^= 1;
     }
+}
+
+/// Turns the pieces of an answer round.
+fn reverse_pieces(answer: &mut [u8]) {
+    let end = 3 + 4 * usize::from(answer[2]);
+    let (pieces, _) = answer[3..end].as_chunks_mut::<4>();
+    pieces.reverse();
 }
 
 /// Writes a buffer that was lent for reading, as a library in another language could.
@@ -106,10 +119,18 @@ impl<M: Manager> Manager for Faulty<'_, M> {
     }
     fn allocate(
         &self, table: &mut [u8], name: &[u8], attributes: &[u8], kind: u32, start: u32,
-        amount: u32, secondary: u32, answer: &mut [u8],
+        amount: u32, secondary: u32, option: u32, answer: &mut [u8],
     ) -> u32 {
-        let result =
-            self.manager.allocate(table, name, attributes, kind, start, amount, secondary, answer);
+        let taken_for = match (self.fault, option) {
+            (Fault::MxigAmountOnly, MXIG) => CONTIG,
+            _ => option,
+        };
+        let result = self
+            .manager
+            .allocate(table, name, attributes, kind, start, amount, secondary, taken_for, answer);
+        if (self.fault, option, result) == (Fault::AlxShortestFirst, ALX, 0) {
+            reverse_pieces(answer);
+        }
         self.spoil_read(Fault::NameByte, name);
         self.spoil_read(Fault::SecondByte, attributes);
         self.spoil(result, table, answer)

@@ -1,7 +1,7 @@
 //! Recordings: the scripted sequences, and lives of volumes from a seed, with hostile calls and
 //! damaged tables.
 
-use crate::call::{Call, Reference};
+use crate::call::{Call, Reference, NO_OPTION};
 use crate::cases::stories;
 use crate::coverage::Coverage;
 use crate::desk::Row;
@@ -53,25 +53,15 @@ impl Recording {
         let mut before = self.table().to_vec();
         let line = String::from_utf8(self.enter(record)).expect("ASCII");
         let result = line[3..5].parse().expect("a number");
-        match origin {
-            Origin::Changed => self.coverage.count_changed(call, result),
-            Origin::Live | Origin::Probe => self.coverage.count(call, result),
+        let digits = &line[6..54];
+        let byte = |i: usize| u8::from_str_radix(&digits[2 * i..2 * i + 2], 16).expect("hex");
+        let answer: Vec<u8> = (0..24).map(byte).collect();
+        if let Call::Initialise { .. } = call {
+            // What was there before need not be a table.
+            before = self.table().to_vec();
         }
-        if result == 0 && origin != Origin::Changed {
-            let digits = &line[6..54];
-            let byte = |i: usize| u8::from_str_radix(&digits[2 * i..2 * i + 2], 16).expect("hex");
-            let answer: Vec<u8> = (0..24).map(byte).collect();
-            if let Call::Initialise { .. } = call {
-                // What was there before need not be a table.
-                before = self.table().to_vec();
-            }
-            self.coverage.count_effect(
-                call,
-                &before,
-                &self.player.table[..self.table_len],
-                &answer,
-            );
-        }
+        let after = &self.player.table[..self.table_len];
+        self.coverage.count(call, origin, result, &before, after, &answer);
     }
 
     /// A call with buffers of the right lengths.
@@ -136,6 +126,7 @@ impl Recording {
             start: 0,
             amount: 1,
             secondary: 0,
+            option: NO_OPTION,
         };
         for (at, bytes) in [
             (0, vec![0]),

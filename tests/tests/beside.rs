@@ -46,6 +46,8 @@ fn every_fault_is_noticed() {
             Fault::NameByte => "name: byte",
             Fault::SecondByte => "second name or attributes: byte",
             Fault::ReadTableByte => "table: byte",
+            Fault::MxigAmountOnly => "table: byte",
+            Fault::AlxShortestFirst => "answer: byte",
         };
         assert!(text.contains(expected), "{fault:?} {call:?}: {text}");
     }
@@ -55,7 +57,9 @@ fn every_fault_is_noticed() {
 #[test]
 fn grids_are_not_all_refused() {
     let mut rooms = Rooms::new();
-    for rows in [grids::lengths(), grids::amounts(), grids::ttrs(), grids::geometries()] {
+    let grids =
+        [grids::lengths(), grids::amounts(), grids::options(), grids::ttrs(), grids::geometries()];
+    for rows in grids {
         let mut accepted = 0;
         for (call, buffers) in &rows {
             let answered = both(&Reference, call, buffers, &mut rooms, 0).expect("itself");

@@ -20,9 +20,9 @@ fn digests() {
 fn all_is_covered() {
     let sequences = sequences();
     assert_eq!(coverage(&sequences).missing(&[]), [""; 0]);
-    assert!((20..=32).contains(&sequences.len()));
+    assert!((20..=36).contains(&sequences.len()));
     let rows: usize = sequences.iter().map(|sequence| sequence.desk.rows.len()).sum();
-    assert!((300..=550).contains(&rows), "{rows} rows");
+    assert!((300..=660).contains(&rows), "{rows} rows");
     let small = sequences.iter().filter(|s| size(s).0 <= 60 && size(s).1 <= 16).count();
     assert!(small + 2 >= sequences.len(), "more than two sequences on large volumes");
 }
@@ -58,7 +58,7 @@ fn rows_as_agreed() {
     assert_eq!(lines[4], "    begin 0 5 4 1 2 1 0x0");
     assert!(lines[5].starts_with("    ∷ begin 4 5 4 1 2 0 0x"));
     let granted = "0x401000300040000000000000000000000000000000000";
-    let ok = "    ∷ ok (allocate (request (nm (0xC1 ∷ 0xC2 ∷ [])) (attr 2) 0 0 4 1))";
+    let ok = "    ∷ ok (allocate (request (nm (0xC1 ∷ 0xC2 ∷ [])) (attr 2) 0 0 4 1 0))";
     assert!(lines[6].starts_with(&format!("{ok} {granted} 0x")), "{}", lines[6]);
     assert!(lines[7].contains("(release (nm (0xC1 ∷ 0xC2 ∷ [])) 0x102)"));
     assert_eq!(lines[8], "    ∷ no (scratch (nm [])) 4");

@@ -19,10 +19,8 @@ fn run(mut session: Session, calls: usize, coverage: &mut Coverage) {
         let mut buffers = trial.buffers.clone();
         let result = trial.call.run(&Reference, &mut buffers);
         let before = &trial.buffers.table;
-        match trial.origin {
-            Origin::Changed => coverage.count_changed(&trial.call, result),
-            Origin::Live | Origin::Probe => coverage.count(&trial.call, result),
-        }
+        let (after, answer) = (&buffers.table, &buffers.answer);
+        coverage.count(&trial.call, trial.origin, result, before, after, answer);
         if result != 0 {
             assert_eq!(buffers, trial.buffers, "{result} {:?}", trial.call);
             let initialising = matches!(trial.call, Call::Initialise { .. });
@@ -34,9 +32,6 @@ fn run(mut session: Session, calls: usize, coverage: &mut Coverage) {
         assert!(taken(&buffers.table));
         if !matches!(trial.call, Call::Obtain { .. }) {
             assert_eq!(buffers.labels, trial.buffers.labels);
-        }
-        if trial.origin != Origin::Changed {
-            coverage.count_effect(&trial.call, before, &buffers.table, &buffers.answer);
         }
         if trial.origin == Origin::Live {
             ledger.enter(&trial.call, result, &buffers.answer);

@@ -1,6 +1,6 @@
 //! Refusals 6 to 12, and which comes first where several apply.
 
-use vtoc_tests::call::Call;
+use vtoc_tests::call::{Call, ALX, CONTIG, MXIG};
 use vtoc_tests::desk::Desk;
 use vtoc_tests::volumes::name;
 
@@ -38,6 +38,41 @@ fn amounts() {
     // Before 6.
     desk.allocate("A", 0, 0, 0, 0).refused(7);
     desk.allocate("A", 2, 17, 1, 1).refused(7);
+}
+
+#[test]
+fn options() {
+    let mut desk = full();
+    for option in [4, 5, 255, 256, 257, 65_536, 65_537, 1 << 31, u32::MAX] {
+        // Unknown ones, whatever the kind.
+        for kind in [0, 1, 2, 3] {
+            desk.allocate_by(option, "C", kind, 17, 1, 0).refused(7);
+        }
+    }
+    for option in [CONTIG, MXIG, ALX] {
+        // On absolute tracks, and the other numbers as without an option.
+        desk.allocate_by(option, "C", 2, 17, 1, 0).refused(7);
+        desk.allocate_by(option, "C", 3, 17, 1, 0).refused(7);
+        for kind in [0, 1] {
+            for amount in [0, 65_536, u32::MAX] {
+                desk.allocate_by(option, "C", kind, 0, amount, 0).refused(7);
+            }
+            desk.allocate_by(option, "C", kind, 0, 1, 16_777_216).refused(7);
+            desk.allocate_by(option, "C", kind, u32::MAX, 65_535, 16_777_215).refused(9);
+        }
+        // 6 before 9 before 11; three tracks are free, and no slot.
+        desk.tracks_by(option, "A", 4, 0).refused(6);
+        desk.tracks_by(option, "C", 4, 0).refused(9);
+        desk.cylinders_by(option, "C", 1, 0).refused(9);
+        desk.tracks_by(option, "C", 3, 0).refused(11);
+    }
+    // 4 before 7, and 7 before 6 and 9.
+    desk.tracks_by(4, "", 1, 0).refused(4);
+    desk.allocate_by(ALX, "", 2, 17, 1, 0).refused(4);
+    desk.tracks_by(4, "A", 1, 0).refused(7);
+    desk.allocate_by(CONTIG, "A", 2, 17, 1, 0).refused(7);
+    desk.tracks_by(4, "C", 4, 0).refused(7);
+    desk.allocate_by(MXIG, "C", 2, 16, 1, 0).refused(7);
 }
 
 #[test]

@@ -1,6 +1,6 @@
 //! Records and lines of docs/REPLAY.md.
 
-use vtoc_tests::call::{Call, Reference};
+use vtoc_tests::call::{Call, Reference, ALX, NO_OPTION};
 use vtoc_tests::desk::attributes;
 use vtoc_tests::recording::recording;
 use vtoc_tests::replay::{adler, puts, record, Player, LINE, RECORD};
@@ -35,10 +35,41 @@ fn volume_a() {
         start: 0,
         amount: 4,
         secondary: 0,
+        option: NO_OPTION,
     };
     assert_eq!(record(&call, 1120, 24, 280), Some(second));
     let line = String::from_utf8(player.play(&second)).unwrap();
     assert!(line.starts_with("02 00 0004010003000400"), "{line}");
+}
+
+/// The option is the fifth number of an allocate, bytes 24 to 27.
+#[test]
+fn an_option_in_its_record() {
+    let mut player = Player::new(&Reference);
+    let first = Call::Initialise { c: 4, h: 5, d: 4, s: 1, v: 2 };
+    player.play(&record(&first, 1120, 24, 280).expect("it fits"));
+    let mut second = [0; RECORD];
+    second[..8].copy_from_slice(&[2, 44, 52, 24, 1, 24, 4, 96]);
+    second[8..28].copy_from_slice(&[0, 0, 0, 1, 0, 0, 0, 0, 0, 0, 0, 2, 0, 0, 0, 0, 0, 0, 0, 3]);
+    second[28..72].copy_from_slice(&name("FLT.A"));
+    second[74..126].copy_from_slice(&attributes(1));
+    let call = Call::Allocate {
+        name: name("FLT.A").to_vec(),
+        attributes: attributes(1),
+        kind: 1,
+        start: 0,
+        amount: 2,
+        secondary: 0,
+        option: ALX,
+    };
+    assert_eq!(record(&call, 1120, 24, 280), Some(second));
+    let mut unknown = second;
+    unknown[24] = 1;
+    let line = String::from_utf8(player.play(&unknown)).unwrap();
+    assert!(line.starts_with("02 07 A5A5"), "{line}");
+    // All three whole cylinders, 5–19.
+    let line = String::from_utf8(player.play(&second)).unwrap();
+    assert!(line.starts_with("02 00 000F010005000F00"), "{line}");
 }
 
 #[test]

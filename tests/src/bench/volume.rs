@@ -1,6 +1,6 @@
 //! The volumes of the benchmark, and the calls that are timed on each.
 
-use crate::call::{Buffers, Call, Reference};
+use crate::call::{Buffers, Call, Reference, ALX, CONTIG, MXIG, NO_OPTION};
 use crate::desk::attributes;
 use crate::generate::glance::{glance, Glance, SetGlance};
 use crate::generate::rng::Rng;
@@ -69,8 +69,11 @@ fn irregular(title: &'static str, table: Vec<u8>) -> Volume {
 }
 
 fn can_grow(table: &[u8], set: &SetGlance) -> bool {
-    let extend = Call::Extend { name: set.name.clone() };
-    extend.run(&Reference, &mut Buffers::new(table.to_vec(), 24, 280)) == 0
+    is_accepted(table, &Call::Extend { name: set.name.clone() })
+}
+
+fn is_accepted(table: &[u8], call: &Call) -> bool {
+    call.run(&Reference, &mut Buffers::new(table.to_vec(), 24, 280)) == 0
 }
 
 impl Volume {
@@ -80,8 +83,13 @@ impl Volume {
 
     /// A new set of so many tracks (kind 0) or cylinders (1).
     pub fn allocation(kind: u32, amount: u32) -> Call {
+        Volume::allocation_by(NO_OPTION, kind, amount)
+    }
+
+    /// The same by an option.
+    fn allocation_by(option: u32, kind: u32, amount: u32) -> Call {
         let (name, attributes) = (name("BENCH.FRESH").to_vec(), attributes(3));
-        Call::Allocate { name, attributes, kind, start: 0, amount, secondary: 1 }
+        Call::Allocate { name, attributes, kind, start: 0, amount, secondary: 1, option }
     }
 
     /// The calls to time.
@@ -93,6 +101,11 @@ impl Volume {
         let present = || self.present.clone();
         let accepted = |what, call| Timed { what, call, wanted: 0 };
         let many = |what, call| self.irregular.then(|| accepted(what, call));
+        // Where slots and whole cylinders allow it.
+        let by_option = |what, option, kind, amount| {
+            let call = Volume::allocation_by(option, kind, amount);
+            is_accepted(&self.table, &call).then(|| accepted(what, call))
+        };
         let calls = [
             Some(accepted("initialise", Call::Initialise { c, h, d, s, v })),
             Some(accepted("allocate, tracks", Volume::allocation(0, 1))),
@@ -103,6 +116,10 @@ impl Volume {
                 call: Volume::allocation(0, 65_535),
                 wanted: 9,
             }),
+            by_option("allocate, CONTIG", CONTIG, 0, longest(&glance)),
+            by_option("allocate, MXIG", MXIG, 0, 1),
+            by_option("allocate, ALX", ALX, 0, 1),
+            by_option("allocate, ALX, cylinders", ALX, 1, 1),
             Some(accepted("extend", Call::Extend { name: self.growing.clone() })),
             Some(accepted("release", Call::Release { name: present(), ttr: 1 })),
             many("release, half", Call::Release { name: present(), ttr: self.half(&glance) }),
@@ -145,6 +162,11 @@ pub fn print_volumes(volumes: &[Volume]) {
     for volume in volumes {
         println!("| {} | {} |", volume.title, volume.figures());
     }
+}
+
+/// The tracks of the longest free extent.
+fn longest(glance: &Glance) -> u32 {
+    glance.holes.iter().map(|&(_, length)| length).max().unwrap_or(0)
 }
 
 /// Tracks that five free extents hold and four do not, where there are five.

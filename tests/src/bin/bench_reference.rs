@@ -2,6 +2,7 @@
 
 use std::hint::black_box;
 
+use vtoc_tests::call::{MXIG, NO_OPTION};
 use vtoc_tests::reference::{
     allocate, extend, listing, lspace, obtain, release, rename, scratch, taken,
 };
@@ -29,10 +30,14 @@ fn measure(label: &str, mut table: Vec<u8>, present: &str) {
     }) / 2.0;
     // Pairs that undo each other; shown is the pair, so no call hides behind another.
     let grant = time(|| {
-        accepted(allocate(&mut table, &fresh, &ATTRIBUTES, 0, 0, 1, 1, &mut answer));
+        accepted(allocate(&mut table, &fresh, &ATTRIBUTES, 0, 0, 1, 1, NO_OPTION, &mut answer));
         accepted(scratch(&mut table, &fresh, &mut answer));
     });
-    accepted(allocate(&mut table, &fresh, &ATTRIBUTES, 0, 0, 1, 1, &mut answer));
+    let longest = time(|| {
+        accepted(allocate(&mut table, &fresh, &ATTRIBUTES, 0, 0, 1, 1, MXIG, &mut answer));
+        accepted(scratch(&mut table, &fresh, &mut answer));
+    });
+    accepted(allocate(&mut table, &fresh, &ATTRIBUTES, 0, 0, 1, 1, NO_OPTION, &mut answer));
     let growth = time(|| {
         accepted(extend(&mut table, &fresh, &mut answer));
         accepted(release(&mut table, &fresh, 1, &mut answer));
@@ -40,14 +45,14 @@ fn measure(label: &str, mut table: Vec<u8>, present: &str) {
     accepted(scratch(&mut table, &fresh, &mut answer));
     assert!(table == before, "the benchmark must leave the table as it was");
     println!(
-        "{label:<14}{check:>9.2}{inquiry:>9.2}{read:>9.2}{list:>9.2}{names:>9.2}{grant:>14.2}{growth:>14.2}"
+        "{label:<14}{check:>9.2}{inquiry:>9.2}{read:>9.2}{list:>9.2}{names:>9.2}{grant:>14.2}{longest:>14.2}{growth:>15.2}"
     );
 }
 
 fn main() {
     println!("microseconds per call (pairs: for both calls)");
     println!(
-        "{:<14}{:>9}{:>9}{:>9}{:>9}{:>9}{:>14}{:>14}",
+        "{:<14}{:>9}{:>9}{:>9}{:>9}{:>9}{:>14}{:>14}{:>15}",
         "volume",
         "check",
         "lspace",
@@ -55,6 +60,7 @@ fn main() {
         "listing",
         "rename",
         "alloc+scratch",
+        "MXIG+scratch",
         "extend+release"
     );
     measure("small", small(), "FLT.C");

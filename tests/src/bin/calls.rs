@@ -84,14 +84,9 @@ impl<'a, M: Manager> Beside<'a, M> {
             format!("{difference}\n  {place}, call {}: {call:02X?}", self.calls)
         })?;
         self.calls += 1;
-        match origin {
-            Origin::Changed => self.coverage.count_changed(call, answered.result),
-            Origin::Live | Origin::Probe => self.coverage.count(call, answered.result),
-        }
-        let after = answered.buffers;
-        if answered.result == 0 && origin != Origin::Changed {
-            self.coverage.count_effect(call, &buffers.table, &after.table, &after.answer);
-        }
+        let (result, after) = (answered.result, answered.buffers);
+        let (before, answer) = (&buffers.table, &after.answer);
+        self.coverage.count(call, origin, result, before, &after.table, answer);
         Ok(after.table)
     }
 
@@ -143,6 +138,7 @@ impl<'a, M: Manager> Beside<'a, M> {
             ("lengths", grids::lengths()),
             ("bytes of names", grids::name_bytes()),
             ("amounts", grids::amounts()),
+            ("options", grids::options()),
             ("TTRs", grids::ttrs()),
             ("geometries", grids::geometries()),
         ];

@@ -1,7 +1,7 @@
 //! More than 26 free extents: the chain of format 5s grows and shrinks.
 
 use super::{sequence, Sequence};
-use crate::call::Call;
+use crate::call::{Call, ALX};
 use crate::desk::Desk;
 
 pub fn sequences() -> Vec<Sequence> {
@@ -62,10 +62,16 @@ fn relink(desk: &mut Desk, slot: usize, link: [u8; 5]) -> u32 {
 /// Cylinders out of the middle of holes: two holes for one, and records of all formats.
 fn all_at_once(desk: &mut Desk) {
     desk.cylinders("C", 4, 0).refused(11);
+    desk.cylinders_by(ALX, "C", 1, 0).refused(11);
     desk.scratch("W24").gave_back(1);
     desk.cylinders("C", 4, 0).granted(&[(8, 2), (14, 2), (20, 2), (26, 2)]);
     desk.scratch("C").gave_back(8);
     desk.cylinders("C", 1, 3).granted(&[(8, 2)]);
     desk.extend("C").granted(&[(14, 2), (20, 2), (26, 2)]);
     desk.obtain("C").without_numbers();
+    desk.scratch("C").gave_back(8);
+    // Of six candidates five: 30 free extents and a format 5 more; then 25, and it goes.
+    desk.cylinders_by(ALX, "C", 1, 0).granted(&[(8, 2), (14, 2), (20, 2), (26, 2), (32, 2)]);
+    desk.scratch("W25").gave_back(1);
+    desk.tracks_by(ALX, "D", 1, 0).granted(&[(72, 4), (5, 1), (7, 1), (10, 1), (13, 1)]);
 }

@@ -10,8 +10,9 @@ mod refusals;
 mod volumes;
 
 use crate::coverage::Coverage;
-use crate::desk::{Desk, Row};
+use crate::desk::{Desk, Outcome, Row};
 use crate::generate::glance::glance;
+use crate::generate::session::Origin;
 
 /// A series of calls that begins with an empty table.
 pub struct Sequence {
@@ -50,13 +51,15 @@ pub fn coverage(sequences: &[Sequence]) -> Coverage {
     for row in sequences.iter().flat_map(|sequence| &sequence.desk.rows) {
         match row {
             Row::Made { call, outcome, before, after } => {
-                coverage.count(call, outcome.result);
-                if outcome.result == 0 {
-                    coverage.count_effect(call, before, after, &outcome.answer);
-                }
+                let Outcome { result, answer, .. } = outcome;
+                coverage.count(call, Origin::Live, *result, before, after, answer);
             }
-            Row::Hurt { call, result, .. } => coverage.count_changed(call, *result),
-            Row::Sized { call, result, .. } => coverage.count(call, *result),
+            Row::Hurt { call, result, .. } => {
+                coverage.count(call, Origin::Changed, *result, &[], &[], &[]);
+            }
+            Row::Sized { call, result, .. } => {
+                coverage.count(call, Origin::Probe, *result, &[], &[], &[]);
+            }
             Row::Listed { .. } | Row::Parts { .. } => {}
         }
     }

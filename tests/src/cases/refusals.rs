@@ -1,7 +1,7 @@
 //! Refusals, one by one and in their order.
 
 use super::{sequence, Sequence};
-use crate::call::Call;
+use crate::call::{Call, ALX, CONTIG, MXIG, NO_OPTION};
 use crate::desk::{attributes, attributes_of, Desk};
 use crate::volumes::name;
 
@@ -17,7 +17,8 @@ fn full(desk: &mut Desk) {
 }
 
 fn allocate(name: Vec<u8>, attributes: Vec<u8>) -> Call {
-    Call::Allocate { name, attributes, kind: 0, start: 0, amount: 1, secondary: 0 }
+    let (kind, option) = (0, NO_OPTION);
+    Call::Allocate { name, attributes, kind, start: 0, amount: 1, secondary: 0, option }
 }
 
 /// The seven calls with the name given (in a rename, as the old one).
@@ -97,6 +98,13 @@ fn amounts() -> Sequence {
         desk.allocate("C", 2, 17, 4, 0).refused(7);
         desk.allocate("C", 2, u32::MAX, u32::MAX, 0).refused(7);
         desk.allocate("C", 2, 17, 1, 1).refused(7);
+        for option in [4, u32::MAX] {
+            desk.allocate_by(option, "C", 0, 0, 1, 0).refused(7);
+            desk.allocate_by(option, "C", 2, 17, 1, 0).refused(7);
+        }
+        for option in [CONTIG, MXIG, ALX] {
+            desk.allocate_by(option, "C", 2, 17, 1, 0).refused(7);
+        }
         let mut at = |ttr: u32| desk.call(Call::Release { name: name("B").to_vec(), ttr }).result;
         for ttr in [0x0100_0001, u32::MAX, 0x000A01, 0x000100] {
             assert_eq!(at(ttr), 12);
@@ -116,6 +124,10 @@ fn order() -> Sequence {
         desk.tracks("A", 4, 0).refused(6);
         desk.tracks("C", 4, 0).refused(9);
         desk.tracks("C", 3, 0).refused(11);
+        desk.tracks_by(4, "A", 1, 0).refused(7);
+        desk.tracks_by(CONTIG, "A", 4, 0).refused(6);
+        desk.tracks_by(MXIG, "C", 4, 0).refused(9);
+        desk.tracks_by(ALX, "C", 3, 0).refused(11);
         desk.extend("A").refused(8);
         desk.extend("C").refused(5);
         desk.release("C", 0xFFFF, 0).refused(5);

@@ -3,7 +3,7 @@
 use super::glance::{Glance, SetGlance};
 use super::names;
 use super::rng::Rng;
-use crate::call::Call;
+use crate::call::{Call, ALX, CONTIG, MXIG, NO_OPTION};
 use crate::desk::attributes;
 
 /// Names in use at a time; few, so that lookups hit and duplicates happen.
@@ -55,17 +55,35 @@ impl Aim<'_> {
         }
     }
 
-    fn allocation(&mut self, kind: u32, start: u32, amount: u32, secondary: u32) -> Call {
+    /// An amount and an option for candidates of these lengths: none, or one for which some of
+    /// them just serve or just do not.
+    fn amount_and_option(&mut self, mut lengths: Vec<u32>) -> (u32, u32) {
+        if self.rng.chance(60) {
+            return (self.amount(lengths), NO_OPTION);
+        }
+        let option = [CONTIG, MXIG, ALX, ALX][self.rng.below(4)];
+        if self.rng.chance(20) {
+            return (self.amount(lengths), option);
+        }
+        lengths.sort_unstable_by(|a, b| b.cmp(a));
+        lengths.truncate(7);
+        let near = *self.rng.pick(&lengths).unwrap_or(&1);
+        ((near + self.rng.range(0, 2)).saturating_sub(1).max(1), option)
+    }
+
+    fn allocation(
+        &mut self, kind: u32, start: u32, amount: u32, secondary: u32, option: u32,
+    ) -> Call {
         let name = if self.rng.chance(4) { self.name() } else { names::lawful(self.rng, VARIETY) };
         let attributes = attributes(self.rng.byte());
-        Call::Allocate { name, attributes, kind, start, amount, secondary }
+        Call::Allocate { name, attributes, kind, start, amount, secondary, option }
     }
 
     pub fn tracks(&mut self) -> Call {
         let lengths = self.glance.holes.iter().map(|&(_, length)| length).collect();
-        let amount = self.amount(lengths);
+        let (amount, option) = self.amount_and_option(lengths);
         let (start, secondary) = (self.rng.word() as u32, self.secondary());
-        self.allocation(0, start, amount, secondary)
+        self.allocation(0, start, amount, secondary, option)
     }
 
     pub fn cylinders(&mut self) -> Call {
@@ -74,9 +92,9 @@ impl Aim<'_> {
             ((start + length) / h).saturating_sub(start.div_ceil(h))
         };
         let lengths = self.glance.holes.iter().map(whole).filter(|&n| n > 0).collect();
-        let amount = self.amount(lengths);
+        let (amount, option) = self.amount_and_option(lengths);
         let secondary = self.secondary();
-        self.allocation(1, 0, amount, secondary)
+        self.allocation(1, 0, amount, secondary, option)
     }
 
     /// Tracks at the front, in the middle, at the end or over the edge of a hole.
@@ -90,16 +108,30 @@ impl Aim<'_> {
             3 => (start + length - inner, inner + 1),
             4 => (start - 1, inner),
             5 => (self.rng.range(0, self.glance.geometry.tracks()), self.rng.range(0, 3)),
+            6 | 7 => (self.middle(), 1),
+            8 => (self.longest().0, 1),
             _ => (start + self.rng.range(0, length - 1), 1),
         };
-        self.allocation(2, start, count, 0)
+        self.allocation(2, start, count, 0, NO_OPTION)
+    }
+
+    fn longest(&self) -> (u32, u32) {
+        let longest = self.glance.holes.iter().copied().max_by_key(|&(_, length)| length);
+        longest.unwrap_or((1, 1))
+    }
+
+    /// A track near the middle of the longest hole: of the two holes that a set there leaves, the
+    /// longer one may hold fewer whole cylinders.
+    fn middle(&mut self) -> u32 {
+        let (start, length) = self.longest();
+        let off = self.glance.geometry.heads.min(length / 2);
+        start + (length - off) / 2 + self.rng.range(0, off)
     }
 
     /// One-track sets two apart: each makes one hole more.
     pub fn wall(&mut self) -> Call {
-        let longest = self.glance.holes.iter().copied().max_by_key(|&(_, length)| length);
-        let (start, length) = longest.unwrap_or((1, 1));
-        self.allocation(2, start + u32::from(length > 1), 1, 0)
+        let (start, length) = self.longest();
+        self.allocation(2, start + u32::from(length > 1), 1, 0, NO_OPTION)
     }
 
     pub fn extend(&mut self) -> Call {

@@ -3,7 +3,7 @@
 
 use super::names;
 use super::rng::Rng;
-use crate::call::{Buffers, Call, Reference};
+use crate::call::{Buffers, Call, Reference, NO_OPTION};
 use crate::desk::attributes;
 use crate::volumes::open_slots;
 
@@ -27,12 +27,12 @@ struct Plan {
 /// The table of such a volume.
 pub fn table(rng: &mut Rng) -> Vec<u8> {
     let mut plan = Plan::new(rng);
-    let target = [26, 27, 52, 53][rng.weighted(&[3, 3, 1, 1])];
+    let target = [26, 27, 52, 53][rng.weighted(&[5, 3, 2, 1])];
     plan.stretch(rng);
     plan.walls(rng, target);
     // Once with room for all, to see how many slots it takes; then with hardly more.
     let used = 255 - open_slots(&plan.play(255)) as u32;
-    let spare = rng.weighted(&[3, 2, 2, 3]) as u32;
+    let spare = rng.weighted(&[2, 2, 3, 5]) as u32;
     plan.play(used + spare)
 }
 
@@ -40,14 +40,23 @@ impl Plan {
     fn new(rng: &mut Rng) -> Plan {
         let h = *rng.pick(&[1, 2, 2, 2, 3]).expect("heads");
         let gap = *rng.pick(&[1, 2, 2 * h, 2 * h + 1, 2 * h + 1]).expect("gaps");
-        let cut = h > 1 && rng.chance(40);
+        let cut = h > 1 && rng.chance(70);
         Plan { h, c: 1500 / h, gap, cut, calls: vec![], next: TAKEN, holes: 0 }
     }
 
     fn allocate(&mut self, rng: &mut Rng, kind: u32, start: u32, amount: u32, secondary: u32) {
         let name = names::lawful(rng, 5000);
         let attributes = attributes(rng.byte());
-        self.calls.push(Call::Allocate { name, attributes, kind, start, amount, secondary });
+        let option = NO_OPTION;
+        self.calls.push(Call::Allocate {
+            name,
+            attributes,
+            kind,
+            start,
+            amount,
+            secondary,
+            option,
+        });
     }
 
     /// Two to four sets that grow side by side; one of them may go and leave its gaps.
@@ -78,7 +87,7 @@ impl Plan {
         while self.holes < target {
             let (gap, wall) = match self.cut {
                 true => {
-                    let gap = if rng.chance(70) { 2 * self.h } else { 1 };
+                    let gap = if rng.chance(85) { 2 * self.h } else { 1 };
                     // So long that the next gap begins at HH = 1.
                     let aligned = |wall: &u32| (self.next + gap + wall) % self.h == 1;
                     (gap, (1..=self.h).find(aligned).unwrap_or(1))

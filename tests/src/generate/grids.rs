@@ -2,7 +2,7 @@
 //! numbers at and around their limits.
 
 use super::glance::glance;
-use crate::call::{Buffers, Call};
+use crate::call::{Buffers, Call, ALX, CONTIG, MXIG, NO_OPTION};
 use crate::desk::{attributes, attributes_of};
 use crate::reference::{extend, release, scratch};
 use crate::volumes::{fresh, name, open_slots, place, scattered, small};
@@ -19,7 +19,7 @@ fn accepted() -> Vec<Call> {
     let a = || name("FLT.A").to_vec();
     vec![
         Call::Initialise { c: 4, h: 5, d: 4, s: 1, v: 2 },
-        allocation("FLT.NEW", 0, 0, 3, 1),
+        allocation("FLT.NEW", 0, 0, 3, 1, NO_OPTION),
         Call::Extend { name: name("FLT.B").to_vec() },
         Call::Release { name: a(), ttr: 1 },
         Call::Scratch { name: a() },
@@ -29,9 +29,9 @@ fn accepted() -> Vec<Call> {
     ]
 }
 
-fn allocation(text: &str, kind: u32, start: u32, amount: u32, secondary: u32) -> Call {
+fn allocation(text: &str, kind: u32, start: u32, amount: u32, secondary: u32, option: u32) -> Call {
     let (name, attributes) = (name(text).to_vec(), attributes(7));
-    Call::Allocate { name, attributes, kind, start, amount, secondary }
+    Call::Allocate { name, attributes, kind, start, amount, secondary, option }
 }
 
 /// Volume A's end with one more set, which can be extended.
@@ -74,11 +74,11 @@ fn with_lengths(call: &Call, len: usize) -> Vec<Call> {
         bytes
     };
     match call.clone() {
-        Call::Allocate { name, attributes, kind, start, amount, secondary } => {
+        Call::Allocate { name, attributes, kind, start, amount, secondary, option } => {
             let (short, cut) = (attributes_of(len, 7), cut(&name));
             vec![
-                Call::Allocate { name, attributes: short, kind, start, amount, secondary },
-                Call::Allocate { name: cut, attributes, kind, start, amount, secondary },
+                Call::Allocate { name, attributes: short, kind, start, amount, secondary, option },
+                Call::Allocate { name: cut, attributes, kind, start, amount, secondary, option },
             ]
         }
         Call::Extend { name } => vec![Call::Extend { name: cut(&name) }],
@@ -120,18 +120,70 @@ pub fn name_bytes() -> Vec<Row> {
 pub fn amounts() -> Vec<Row> {
     let table = base();
     let top = u32::MAX;
+    let starts = [0, 7, top, 1, 3, 8, 9, 14, 15, 19, 20, 21, 65_535];
     let mut rows = vec![];
-    for kind in [0, 1, 2, 3, 4, 255, 256, 1 << 31, top] {
-        for start in [0, 1, 3, 7, 8, 9, 14, 15, 19, 20, 21, 65_535, top] {
-            for amount in [0, 1, 2, 6, 7, 8, 9, 12, 20, 21, 65_535, 65_536, 1 << 31, top] {
-                for secondary in [0, 1, 65_536, 16_777_215, 16_777_216, top] {
-                    let call = allocation("FLT.NEW", kind, start, amount, secondary);
-                    rows.push(row(call, &table));
+    for option in [NO_OPTION, CONTIG, MXIG, ALX, 4, top] {
+        for kind in [0, 1, 2, 3, 4, 255, 256, 1 << 31, top] {
+            // A start counts for absolute requests only; that it does, option 0 shows for all kinds.
+            let few = option != NO_OPTION && kind != 2;
+            for &start in if few { &starts[..3] } else { &starts[..] } {
+                for amount in [0, 1, 2, 6, 7, 8, 9, 12, 20, 21, 65_535, 65_536, 1 << 31, top] {
+                    for secondary in [0, 1, 65_536, 16_777_215, 16_777_216, top] {
+                        let call = allocation("FLT.NEW", kind, start, amount, secondary, option);
+                        rows.push(row(call, &table));
+                    }
                 }
             }
         }
     }
     rows
+}
+
+/// Every amount by every option, in tracks and in cylinders, where several candidates serve.
+pub fn options() -> Vec<Row> {
+    let mut rows = vec![];
+    for table in several_candidates() {
+        for option in [NO_OPTION, CONTIG, MXIG, ALX, 4, u32::MAX] {
+            for kind in [0, 1] {
+                for amount in 0..=18 {
+                    rows.push(row(allocation("NEW", kind, 0, amount, 1, option), &table));
+                }
+            }
+        }
+    }
+    rows
+}
+
+/// H = 1 to 4; seven holes, some of them alike, with none to three slots for new records.
+fn several_candidates() -> Vec<Vec<u8>> {
+    let mut tables = vec![];
+    for (h, lengths) in [
+        (1, [1, 2, 3, 4, 5, 6, 7]),
+        (1, [4, 4, 2, 4, 4, 4, 4]),
+        (2, [7, 6, 5, 7, 9, 8, 6]),
+        (3, [9, 12, 11, 16, 10, 9, 13]),
+        (4, [11, 8, 9, 11, 7, 13, 12]),
+    ] {
+        for spare in 0..4 {
+            tables.push(with_holes(h, &lengths, spare));
+        }
+    }
+    tables
+}
+
+/// A table with holes of these lengths, each with a one-track set after it, and so many free slots.
+fn with_holes(h: u32, lengths: &[u32], spare: u32) -> Vec<u8> {
+    let total: u32 = lengths.iter().map(|length| length + 1).sum();
+    let c = (2 + total).div_ceil(h);
+    let mut table = fresh(c, h, 2 + lengths.len() as u32 + spare, 1, 1);
+    let mut at = 2;
+    for (i, length) in lengths.iter().enumerate() {
+        // The last one takes the rest of the volume.
+        let wall = if i + 1 < lengths.len() { 1 } else { c * h - at - length };
+        place(&mut table, &format!("WALL.N{i}"), 2, at + length, wall, 0);
+        at += length + wall;
+    }
+    table
 }
 
 /// Release at every track of every set of a few volumes, and past it.

@@ -91,11 +91,14 @@ fn spoil_name(rng: &mut Rng, call: &mut Call) {
 
 fn spoil_number(rng: &mut Rng, call: &mut Call) {
     match call {
-        Call::Allocate { kind, start, amount, secondary, .. } => match rng.below(4) {
+        Call::Allocate { kind, start, amount, secondary, option, .. } => match rng.below(6) {
             0 => *kind = wild(rng),
             1 => *start = wild(rng),
             2 => *amount = wild(rng),
-            _ => *secondary = wild(rng),
+            3 => *secondary = wild(rng),
+            // On an absolute request each of them is wrong; 0 to 3 are for other kinds.
+            4 => *option = rng.range(1, 4),
+            _ => *option = wild(rng),
         },
         Call::Release { ttr, .. } => {
             *ttr = if rng.chance(50) { rng.word() as u32 } else { wild(rng) }

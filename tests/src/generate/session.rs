@@ -8,7 +8,7 @@ use super::hostile::spoil;
 use super::rng::Rng;
 use super::shapes::{beyond, geometry, Shape, SHAPES};
 use super::shuffle::shuffled;
-use crate::call::{Buffers, Call, Reference};
+use crate::call::{Buffers, Call, Reference, ALX, MXIG};
 
 /// One call to make and the buffers to make it with.
 #[derive(Clone, Debug)]
@@ -47,6 +47,8 @@ pub struct Session {
     table: Vec<u8>,
     /// Whether the table may turn into another sound one without a call.
     shuffles: bool,
+    /// The set that took the longest candidates whole with the last call.
+    greedy: Option<Vec<u8>>,
 }
 
 /// Weights of tracks, cylinders, absolute, wall, extend, release, scratch, rename, obtain,
@@ -58,7 +60,7 @@ fn weights(phase: Phase, shape: Shape) -> [usize; 11] {
         Phase::Wear => [6, 6 * cylinders, 20, 60, 6, 6, 8, 2, 2, 2, 1],
         Phase::Stretch => [6, 2 * cylinders, 4, 4, 70, 10, 4, 2, 4, 2, 0],
         Phase::Drain => [10, 3 * cylinders, 5, 5, 5, 30, 30, 3, 3, 3, 1],
-        Phase::Tip => [20, 25, 6, 3, 25, 25, 12, 1, 2, 1, 0],
+        Phase::Tip => [14, 30, 4, 3, 25, 25, 20, 1, 2, 1, 0],
     }
 }
 
@@ -75,7 +77,11 @@ impl Session {
         let mut rng = Rng::new(seed);
         if shape == Shape::Brink {
             let table = brink::table(&mut rng);
-            return Session { rng, shape, phase: Phase::Tip, table, shuffles: true };
+            return Session {
+                phase: Phase::Tip,
+                shuffles: true,
+                ..Session::with(rng, table, shape)
+            };
         }
         let g = geometry(&mut rng, shape);
         let call = Call::Initialise {
@@ -87,8 +93,7 @@ impl Session {
         };
         let mut buffers = Buffers::new(vec![0; g.table_len()], 24, 280);
         call.run(&Reference, &mut buffers);
-        let mut session =
-            Session { rng, shape, phase: Phase::Fill, table: buffers.table, shuffles: true };
+        let mut session = Session { shuffles: true, ..Session::with(rng, buffers.table, shape) };
         if shape == Shape::Worn || (shape != Shape::Tiny && session.rng.chance(50)) {
             session.phase = Phase::Wear;
             for _ in 0..session.rng.below(g.slots().min(80)) {
@@ -101,8 +106,11 @@ impl Session {
 
     /// A life that goes on from a given sound table, by calls alone.
     pub fn on(seed: u64, table: &[u8], shape: Shape) -> Session {
-        let (rng, table) = (Rng::new(seed), table.to_vec());
-        Session { rng, shape, phase: Phase::Fill, table, shuffles: false }
+        Session::with(Rng::new(seed), table.to_vec(), shape)
+    }
+
+    fn with(rng: Rng, table: Vec<u8>, shape: Shape) -> Session {
+        Session { rng, shape, phase: Phase::Fill, table, shuffles: false, greedy: None }
     }
 
     pub fn table(&self) -> &[u8] {
@@ -153,11 +161,31 @@ impl Session {
     /// Takes the table as the call left it.
     pub fn keep(&mut self, trial: &Trial, table: Vec<u8>) {
         if trial.origin == Origin::Live {
+            self.greedy = match &trial.call {
+                Call::Allocate { name, option: MXIG | ALX, .. } if self.table != table => {
+                    Some(name.clone())
+                }
+                _ => None,
+            };
             self.table = table;
         }
     }
 
+    /// Most sets that took the longest candidates whole give them back, or all but a few tracks, or
+    /// no free extent worth a call would be left.
+    fn give_back(&mut self) -> Option<Call> {
+        let name = self.greedy.take()?;
+        match self.rng.below(8) {
+            0 => None,
+            1..=3 => Some(Call::Release { name, ttr: self.rng.range(0, 3) << 8 | 1 }),
+            _ => Some(Call::Scratch { name }),
+        }
+    }
+
     fn honest_call(&mut self) -> Call {
+        if let Some(call) = self.give_back() {
+            return call;
+        }
         let Some(glance) = glance(&self.table) else {
             return Call::Lspace;
         };

@@ -1,10 +1,15 @@
 //! What a run of calls has touched: results of each call, and paths worth seeing.
 
+mod options;
+
 use std::collections::BTreeMap;
 use std::fmt;
 
-use crate::call::{Call, CALL_NAMES, RESULTS};
+use crate::call::{Call, CALL_NAMES, NO_OPTION, RESULTS};
 use crate::generate::glance::{glance, Glance};
+use crate::generate::session::Origin;
+use options::Numbers;
+pub use options::OPTIONS;
 
 /// The paths that a run must see.
 pub const FEATURES: [&str; 36] = [
@@ -72,23 +77,31 @@ pub struct Coverage {
 }
 
 impl Coverage {
-    /// Counts the result of a call on a table that may have been spoiled.
-    pub fn count(&mut self, call: &Call, result: u32) {
+    /// Counts a call with its result, and what it did to the table or why it did not.
+    pub fn count(
+        &mut self, call: &Call, origin: Origin, result: u32, before: &[u8], after: &[u8],
+        answer: &[u8],
+    ) {
         *self.results.entry((call.index(), result)).or_default() += 1;
-    }
-
-    /// Counts the result of a call on a table that was changed by hand.
-    pub fn count_changed(&mut self, call: &Call, result: u32) {
-        self.count(call, result);
-        match result {
-            3 => self.saw("damaged table refused"),
-            2 => {}
-            _ => self.saw("changed table accepted"),
+        match (origin, result) {
+            (Origin::Changed, 3) => self.saw("damaged table refused"),
+            (Origin::Changed, 2) => {}
+            (Origin::Changed, _) => self.saw("changed table accepted"),
+            (Origin::Live | Origin::Probe, 0) => self.effect(call, before, after, answer),
+            (Origin::Live | Origin::Probe, _) => self.refusal(call, result, before),
         }
     }
 
-    /// Counts an accepted call by what it did to a sound table.
-    pub fn count_effect(&mut self, call: &Call, before: &[u8], after: &[u8], answer: &[u8]) {
+    /// A refused allocate with an option.
+    fn refusal(&mut self, call: &Call, result: u32, before: &[u8]) {
+        let Some(numbers) = numbers_with_option(call) else { return };
+        if let (7 | 9 | 11, Some(table)) = (result, glance(before)) {
+            options::refused(numbers, &table, result).into_iter().for_each(|path| self.saw(path));
+        }
+    }
+
+    /// An accepted call, by what it did to a sound table.
+    fn effect(&mut self, call: &Call, before: &[u8], after: &[u8], answer: &[u8]) {
         let (Some(old), Some(new)) = (glance(before), glance(after)) else { return };
         self.volume(&new);
         if matches!(call, Call::Scratch { .. }) && old.open.is_empty() {
@@ -97,7 +110,13 @@ impl Coverage {
         let pieces = usize::from(answer[2]);
         match call {
             Call::Allocate { kind, .. } => {
-                self.saw(FEATURES[pieces - 1]);
+                match numbers_with_option(call) {
+                    None => self.saw(FEATURES[pieces - 1]),
+                    Some(numbers) => {
+                        let paths = options::granted(numbers, &old, &new);
+                        paths.into_iter().for_each(|path| self.saw(path));
+                    }
+                }
                 match kind {
                     1 => self.saw("cylinders granted"),
                     2 => self.saw("absolute granted"),
@@ -183,7 +202,7 @@ impl Coverage {
         let results = results
             .filter(|key| !self.results.contains_key(key) && !beyond.contains(key))
             .map(|(call, result)| format!("{} {result}", CALL_NAMES[call]));
-        let features = FEATURES.iter().chain(&VOLUMES);
+        let features = FEATURES.iter().chain(&OPTIONS).chain(&VOLUMES);
         let features = features.filter(|&f| !self.features.contains_key(f));
         results.chain(features.map(|f| f.to_string())).collect()
     }
@@ -212,6 +231,16 @@ impl Coverage {
     }
 }
 
+/// The numbers of an allocate that has an option.
+fn numbers_with_option(call: &Call) -> Option<Numbers> {
+    match *call {
+        Call::Allocate { kind, start, amount, secondary, option, .. } if option != NO_OPTION => {
+            Some(Numbers { kind, start, amount, secondary, option })
+        }
+        _ => None,
+    }
+}
+
 impl fmt::Display for Coverage {
     fn fmt(&self, f: &mut fmt::Formatter) -> fmt::Result {
         write!(f, "{:<12}{:>8}", "result", "all")?;
@@ -235,7 +264,7 @@ impl fmt::Display for Coverage {
         write!(f, "{:<12}{:>8}", "all", sum(&|_, _| true))?;
         (0..=12).try_for_each(|result| write!(f, "{:>7}", sum(&|_, of| of == result)))?;
         writeln!(f)?;
-        for feature in FEATURES.iter().chain(&VOLUMES) {
+        for feature in FEATURES.iter().chain(&OPTIONS).chain(&VOLUMES) {
             writeln!(f, "{:>8}  {feature}", self.features.get(feature).unwrap_or(&0))?;
         }
         for feature in WIDE {
