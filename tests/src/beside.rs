@@ -140,8 +140,8 @@ pub fn both(
         let (name, other) = (rooms.name.part(), rooms.second.part());
         match *call {
             Call::Initialise { c, h, d, s, v } => manager.initialise(table, c, h, d, s, v, answer),
-            Call::Allocate { kind, start, amount, secondary, .. } => {
-                manager.allocate(table, name, other, kind, start, amount, secondary, answer)
+            Call::Allocate { kind, start, amount, secondary, option, .. } => {
+                manager.allocate(table, name, other, kind, start, amount, secondary, option, answer)
             }
             Call::Extend { .. } => manager.extend(table, name, answer),
             Call::Release { ttr, .. } => manager.release(table, name, ttr, answer),

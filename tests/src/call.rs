@@ -19,6 +19,7 @@ pub enum Call {
         start: u32,
         amount: u32,
         secondary: u32,
+        option: u32,
     },
     Extend {
         name: Vec<u8>,
@@ -40,6 +41,12 @@ pub enum Call {
     Lspace,
 }
 
+/// Document 02's numbers of the space options.
+pub const NO_OPTION: u32 = 0;
+pub const CONTIG: u32 = 1;
+pub const MXIG: u32 = 2;
+pub const ALX: u32 = 3;
+
 pub const CALL_NAMES: [&str; 8] =
     ["initialise", "allocate", "extend", "release", "scratch", "rename", "obtain", "lspace"];
 
@@ -52,7 +59,7 @@ pub trait Manager {
     #[allow(clippy::too_many_arguments)]
     fn allocate(
         &self, table: &mut [u8], name: &[u8], attributes: &[u8], kind: u32, start: u32,
-        amount: u32, secondary: u32, answer: &mut [u8],
+        amount: u32, secondary: u32, option: u32, answer: &mut [u8],
     ) -> u32;
     fn extend(&self, table: &mut [u8], name: &[u8], answer: &mut [u8]) -> u32;
     fn release(&self, table: &mut [u8], name: &[u8], ttr: u32, answer: &mut [u8]) -> u32;
@@ -73,9 +80,9 @@ impl Manager for Reference {
     }
     fn allocate(
         &self, table: &mut [u8], name: &[u8], attributes: &[u8], kind: u32, start: u32,
-        amount: u32, secondary: u32, answer: &mut [u8],
+        amount: u32, secondary: u32, option: u32, answer: &mut [u8],
     ) -> u32 {
-        reference::allocate(table, name, attributes, kind, start, amount, secondary, answer)
+        reference::allocate(table, name, attributes, kind, start, amount, secondary, option, answer)
     }
     fn extend(&self, table: &mut [u8], name: &[u8], answer: &mut [u8]) -> u32 {
         reference::extend(table, name, answer)
@@ -126,8 +133,16 @@ impl Call {
     ) -> u32 {
         match self {
             &Call::Initialise { c, h, d, s, v } => manager.initialise(table, c, h, d, s, v, answer),
-            Call::Allocate { name, attributes, kind, start, amount, secondary } => manager
-                .allocate(table, name, attributes, *kind, *start, *amount, *secondary, answer),
+            &Call::Allocate {
+                ref name,
+                ref attributes,
+                kind,
+                start,
+                amount,
+                secondary,
+                option,
+            } => manager
+                .allocate(table, name, attributes, kind, start, amount, secondary, option, answer),
             Call::Extend { name } => manager.extend(table, name, answer),
             Call::Release { name, ttr } => manager.release(table, name, *ttr, answer),
             Call::Scratch { name } => manager.scratch(table, name, answer),

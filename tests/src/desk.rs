@@ -1,7 +1,7 @@
 //! A table with the calls in short form, for tests and scripted cases. Each call is kept as
 //! a row, and each is watched: a refused one must not write a byte.
 
-use crate::call::{Buffers, Call, Reference};
+use crate::call::{Buffers, Call, Reference, NO_OPTION};
 use crate::reference::layout::extent_part;
 use crate::reference::listing;
 use crate::volumes::name;
@@ -128,9 +128,17 @@ impl Desk {
     pub fn allocate(
         &mut self, text: &str, kind: u32, start: u32, amount: u32, secondary: u32,
     ) -> Outcome {
+        self.allocate_by(NO_OPTION, text, kind, start, amount, secondary)
+    }
+
+    /// Allocate with an option.
+    #[track_caller]
+    pub fn allocate_by(
+        &mut self, option: u32, text: &str, kind: u32, start: u32, amount: u32, secondary: u32,
+    ) -> Outcome {
         let k = (self.rows.len() % 251) as u8;
         let (name, attributes) = (name(text).to_vec(), attributes(k));
-        self.call(Call::Allocate { name, attributes, kind, start, amount, secondary })
+        self.call(Call::Allocate { name, attributes, kind, start, amount, secondary, option })
     }
 
     #[track_caller]
@@ -141,6 +149,20 @@ impl Desk {
     #[track_caller]
     pub fn cylinders(&mut self, text: &str, amount: u32, secondary: u32) -> Outcome {
         self.allocate(text, 1, 0, amount, secondary)
+    }
+
+    /// Tracks by an option.
+    #[track_caller]
+    pub fn tracks_by(&mut self, option: u32, text: &str, amount: u32, secondary: u32) -> Outcome {
+        self.allocate_by(option, text, 0, 0, amount, secondary)
+    }
+
+    /// Cylinders by an option.
+    #[track_caller]
+    pub fn cylinders_by(
+        &mut self, option: u32, text: &str, amount: u32, secondary: u32,
+    ) -> Outcome {
+        self.allocate_by(option, text, 1, 0, amount, secondary)
     }
 
     #[track_caller]

@@ -39,12 +39,12 @@ pub unsafe extern "C" fn vtoc_initialise(
 #[no_mangle]
 pub unsafe extern "C" fn vtoc_allocate(
     table: *mut u8, table_len: usize, name: *const u8, name_len: usize, attributes: *const u8,
-    attributes_len: usize, kind: u32, start: u32, amount: u32, secondary: u32, answer: *mut u8,
-    answer_len: usize,
+    attributes_len: usize, kind: u32, start: u32, amount: u32, secondary: u32, option: u32,
+    answer: *mut u8, answer_len: usize,
 ) -> u32 {
     let (table, answer) = (lent_mut(table, table_len), lent_mut(answer, answer_len));
     let (name, attributes) = (lent(name, name_len), lent(attributes, attributes_len));
-    reference::allocate(table, name, attributes, kind, start, amount, secondary, answer)
+    reference::allocate(table, name, attributes, kind, start, amount, secondary, option, answer)
 }
 
 /// # Safety

@@ -106,10 +106,11 @@ impl<M: Manager> Manager for Faulty<'_, M> {
     }
     fn allocate(
         &self, table: &mut [u8], name: &[u8], attributes: &[u8], kind: u32, start: u32,
-        amount: u32, secondary: u32, answer: &mut [u8],
+        amount: u32, secondary: u32, option: u32, answer: &mut [u8],
     ) -> u32 {
-        let result =
-            self.manager.allocate(table, name, attributes, kind, start, amount, secondary, answer);
+        let result = self
+            .manager
+            .allocate(table, name, attributes, kind, start, amount, secondary, option, answer);
         self.spoil_read(Fault::NameByte, name);
         self.spoil_read(Fault::SecondByte, attributes);
         self.spoil(result, table, answer)

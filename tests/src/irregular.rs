@@ -174,7 +174,7 @@ impl Pack {
         let secondary = if kind == 2 { 0 } else { amount };
         let attributes = ATTRIBUTES.map(|byte| byte ^ name[0]);
         let (table, answer) = (&mut self.table, &mut [0; ANSWER]);
-        allocate(table, name, &attributes, kind, start, amount, secondary, answer)
+        allocate(table, name, &attributes, kind, start, amount, secondary, 0, answer)
     }
 
     /// `count` sets of up to `most` tracks, each at a random place in its share of the volume; none

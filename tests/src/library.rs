@@ -9,8 +9,8 @@ extern "C" {
     ) -> u32;
     fn vtoc_allocate(
         table: *mut u8, table_len: usize, name: *const u8, name_len: usize, attributes: *const u8,
-        attributes_len: usize, kind: u32, start: u32, amount: u32, secondary: u32, answer: *mut u8,
-        answer_len: usize,
+        attributes_len: usize, kind: u32, start: u32, amount: u32, secondary: u32, option: u32,
+        answer: *mut u8, answer_len: usize,
     ) -> u32;
     fn vtoc_extend(
         table: *mut u8, table_len: usize, name: *const u8, name_len: usize, answer: *mut u8,
@@ -64,7 +64,7 @@ impl Manager for Library {
     }
     fn allocate(
         &self, table: &mut [u8], name: &[u8], attributes: &[u8], kind: u32, start: u32,
-        amount: u32, secondary: u32, answer: &mut [u8],
+        amount: u32, secondary: u32, option: u32, answer: &mut [u8],
     ) -> u32 {
         let (t, a) = (table.len(), answer.len());
         unsafe {
@@ -79,6 +79,7 @@ impl Manager for Library {
                 start,
                 amount,
                 secondary,
+                option,
                 write(answer),
                 a,
             )

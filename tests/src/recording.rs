@@ -1,7 +1,7 @@
 //! Recordings: the scripted sequences, and lives of volumes from a seed, with hostile calls and
 //! damaged tables.
 
-use crate::call::{Call, Reference};
+use crate::call::{Call, Reference, NO_OPTION};
 use crate::cases::stories;
 use crate::coverage::Coverage;
 use crate::desk::Row;
@@ -136,6 +136,7 @@ impl Recording {
             start: 0,
             amount: 1,
             secondary: 0,
+            option: NO_OPTION,
         };
         for (at, bytes) in [
             (0, vec![0]),

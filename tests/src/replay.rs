@@ -28,8 +28,8 @@ pub type Record = [u8; RECORD];
 pub fn record(call: &Call, table: usize, answer: usize, labels: usize) -> Option<Record> {
     let (numbers, name, second): ([u32; 5], &[u8], &[u8]) = match call {
         &Call::Initialise { c, h, d, s, v } => ([c, h, d, s, v], &[], &[]),
-        Call::Allocate { name, attributes, kind, start, amount, secondary } => {
-            ([*kind, *start, *amount, *secondary, 0], name, attributes)
+        Call::Allocate { name, attributes, kind, start, amount, secondary, option } => {
+            ([*kind, *start, *amount, *secondary, *option], name, attributes)
         }
         Call::Release { name, ttr } => ([*ttr, 0, 0, 0, 0], name, &[]),
         Call::Extend { name } | Call::Scratch { name } | Call::Obtain { name } => {
@@ -107,7 +107,7 @@ impl<'a, M: Manager> Player<'a, M> {
         let [a, b, c, d, e] = [0, 1, 2, 3, 4].map(number);
         let result = match record[0] {
             1 => self.manager.initialise(table, a, b, c, d, e, lent_answer),
-            2 => self.manager.allocate(table, name, second, a, b, c, d, lent_answer),
+            2 => self.manager.allocate(table, name, second, a, b, c, d, e, lent_answer),
             3 => self.manager.extend(table, name, lent_answer),
             4 => self.manager.release(table, name, a, lent_answer),
             5 => self.manager.scratch(table, name, lent_answer),

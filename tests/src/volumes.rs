@@ -50,7 +50,7 @@ pub fn place_name(
     table: &mut [u8], name: &[u8; 44], kind: u32, start: u32, amount: u32, secondary: u32,
 ) {
     let mut answer = [0; ANSWER];
-    let result = allocate(table, name, &ATTRIBUTES, kind, start, amount, secondary, &mut answer);
+    let result = allocate(table, name, &ATTRIBUTES, kind, start, amount, secondary, 0, &mut answer);
     assert_eq!(result, 0, "allocate {name:02X?}");
 }
 

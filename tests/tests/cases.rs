@@ -58,7 +58,7 @@ fn rows_as_agreed() {
     assert_eq!(lines[4], "    begin 0 5 4 1 2 1 0x0");
     assert!(lines[5].starts_with("    ∷ begin 4 5 4 1 2 0 0x"));
     let granted = "0x401000300040000000000000000000000000000000000";
-    let ok = "    ∷ ok (allocate (request (nm (0xC1 ∷ 0xC2 ∷ [])) (attr 2) 0 0 4 1))";
+    let ok = "    ∷ ok (allocate (request (nm (0xC1 ∷ 0xC2 ∷ [])) (attr 2) 0 0 4 1 0))";
     assert!(lines[6].starts_with(&format!("{ok} {granted} 0x")), "{}", lines[6]);
     assert!(lines[7].contains("(release (nm (0xC1 ∷ 0xC2 ∷ [])) 0x102)"));
     assert_eq!(lines[8], "    ∷ no (scratch (nm [])) 4");

@@ -1,6 +1,6 @@
 //! Refusals 1 to 5 of each call, and which comes first where several apply.
 
-use vtoc_tests::call::Call;
+use vtoc_tests::call::{Call, NO_OPTION};
 use vtoc_tests::desk::{attributes, attributes_of, Desk};
 use vtoc_tests::reference::{initialise, taken};
 use vtoc_tests::volumes::name;
@@ -23,7 +23,7 @@ fn unsound() -> Desk {
 
 fn allocate(text: &str, kind: u32, start: u32, amount: u32, secondary: u32) -> Call {
     let (name, attributes) = (name(text).to_vec(), attributes(3));
-    Call::Allocate { name, attributes, kind, start, amount, secondary }
+    Call::Allocate { name, attributes, kind, start, amount, secondary, option: NO_OPTION }
 }
 
 /// Every call but initialise, with a lawful name that is on the volume.

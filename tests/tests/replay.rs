@@ -1,6 +1,6 @@
 //! Records and lines of docs/REPLAY.md.
 
-use vtoc_tests::call::{Call, Reference};
+use vtoc_tests::call::{Call, Reference, NO_OPTION};
 use vtoc_tests::desk::attributes;
 use vtoc_tests::recording::recording;
 use vtoc_tests::replay::{adler, puts, record, Player, LINE, RECORD};
@@ -35,6 +35,7 @@ fn volume_a() {
         start: 0,
         amount: 4,
         secondary: 0,
+        option: NO_OPTION,
     };
     assert_eq!(record(&call, 1120, 24, 280), Some(second));
     let line = String::from_utf8(player.play(&second)).unwrap();

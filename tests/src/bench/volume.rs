@@ -1,6 +1,6 @@
 //! The volumes of the benchmark, and the calls that are timed on each.
 
-use crate::call::{Buffers, Call, Reference};
+use crate::call::{Buffers, Call, Reference, NO_OPTION};
 use crate::desk::attributes;
 use crate::generate::glance::{glance, Glance, SetGlance};
 use crate::generate::rng::Rng;
@@ -81,7 +81,8 @@ impl Volume {
     /// A new set of so many tracks (kind 0) or cylinders (1).
     pub fn allocation(kind: u32, amount: u32) -> Call {
         let (name, attributes) = (name("BENCH.FRESH").to_vec(), attributes(3));
-        Call::Allocate { name, attributes, kind, start: 0, amount, secondary: 1 }
+        let option = NO_OPTION;
+        Call::Allocate { name, attributes, kind, start: 0, amount, secondary: 1, option }
     }
 
     /// The calls to time.

@@ -29,10 +29,10 @@ fn measure(label: &str, mut table: Vec<u8>, present: &str) {
     }) / 2.0;
     // Pairs that undo each other; shown is the pair, so no call hides behind another.
     let grant = time(|| {
-        accepted(allocate(&mut table, &fresh, &ATTRIBUTES, 0, 0, 1, 1, &mut answer));
+        accepted(allocate(&mut table, &fresh, &ATTRIBUTES, 0, 0, 1, 1, 0, &mut answer));
         accepted(scratch(&mut table, &fresh, &mut answer));
     });
-    accepted(allocate(&mut table, &fresh, &ATTRIBUTES, 0, 0, 1, 1, &mut answer));
+    accepted(allocate(&mut table, &fresh, &ATTRIBUTES, 0, 0, 1, 1, 0, &mut answer));
     let growth = time(|| {
         accepted(extend(&mut table, &fresh, &mut answer));
         accepted(release(&mut table, &fresh, 1, &mut answer));

@@ -10,7 +10,7 @@ use std::path::{Path, PathBuf};
 use std::process::{Command, ExitCode, Stdio};
 use std::thread;
 
-use vtoc_tests::call::{Call, Reference};
+use vtoc_tests::call::{Call, Reference, NO_OPTION};
 use vtoc_tests::recording::{recording, Recording};
 use vtoc_tests::replay::{record, Player, LINE, RECORD};
 use vtoc_tests::volumes::{cut_cylinders, name, ATTRIBUTES};
@@ -62,6 +62,7 @@ fn space_calls(table_len: usize, tracks: u32) -> Vec<u8> {
         start: 0,
         amount,
         secondary: 0,
+        option: NO_OPTION,
     };
     let calls = [Call::Lspace, allocate("CYL", 1, 1), allocate("TRK", 0, tracks)];
     calls.map(|call| record(&call, table_len, 24, 0).expect("right lengths fit")).concat()

@@ -61,8 +61,8 @@ fn print_call(call: &Call) -> String {
     match call {
         // Only `begin` makes a table.
         Call::Initialise { .. } => unreachable!("an initialise is a row of its own"),
-        Call::Allocate { name, attributes, kind, start, amount, secondary } => format!(
-            "(allocate (request {} {} {kind} {start} {amount} {secondary}))",
+        Call::Allocate { name, attributes, kind, start, amount, secondary, option } => format!(
+            "(allocate (request {} {} {kind} {start} {amount} {secondary} {option}))",
             print_name(name),
             print_attributes(attributes)
         ),

@@ -1,7 +1,7 @@
 //! Refusals, one by one and in their order.
 
 use super::{sequence, Sequence};
-use crate::call::Call;
+use crate::call::{Call, NO_OPTION};
 use crate::desk::{attributes, attributes_of, Desk};
 use crate::volumes::name;
 
@@ -17,7 +17,8 @@ fn full(desk: &mut Desk) {
 }
 
 fn allocate(name: Vec<u8>, attributes: Vec<u8>) -> Call {
-    Call::Allocate { name, attributes, kind: 0, start: 0, amount: 1, secondary: 0 }
+    let (kind, option) = (0, NO_OPTION);
+    Call::Allocate { name, attributes, kind, start: 0, amount: 1, secondary: 0, option }
 }
 
 /// The seven calls with the name given (in a rename, as the old one).

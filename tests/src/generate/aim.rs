@@ -3,7 +3,7 @@
 use super::glance::{Glance, SetGlance};
 use super::names;
 use super::rng::Rng;
-use crate::call::Call;
+use crate::call::{Call, NO_OPTION};
 use crate::desk::attributes;
 
 /// Names in use at a time; few, so that lookups hit and duplicates happen.
@@ -58,7 +58,7 @@ impl Aim<'_> {
     fn allocation(&mut self, kind: u32, start: u32, amount: u32, secondary: u32) -> Call {
         let name = if self.rng.chance(4) { self.name() } else { names::lawful(self.rng, VARIETY) };
         let attributes = attributes(self.rng.byte());
-        Call::Allocate { name, attributes, kind, start, amount, secondary }
+        Call::Allocate { name, attributes, kind, start, amount, secondary, option: NO_OPTION }
     }
 
     pub fn tracks(&mut self) -> Call {

@@ -3,7 +3,7 @@
 
 use super::names;
 use super::rng::Rng;
-use crate::call::{Buffers, Call, Reference};
+use crate::call::{Buffers, Call, Reference, NO_OPTION};
 use crate::desk::attributes;
 use crate::volumes::open_slots;
 
@@ -47,7 +47,16 @@ impl Plan {
     fn allocate(&mut self, rng: &mut Rng, kind: u32, start: u32, amount: u32, secondary: u32) {
         let name = names::lawful(rng, 5000);
         let attributes = attributes(rng.byte());
-        self.calls.push(Call::Allocate { name, attributes, kind, start, amount, secondary });
+        let option = NO_OPTION;
+        self.calls.push(Call::Allocate {
+            name,
+            attributes,
+            kind,
+            start,
+            amount,
+            secondary,
+            option,
+        });
     }
 
     /// Two to four sets that grow side by side; one of them may go and leave its gaps.

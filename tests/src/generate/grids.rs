@@ -2,7 +2,7 @@
 //! numbers at and around their limits.
 
 use super::glance::glance;
-use crate::call::{Buffers, Call};
+use crate::call::{Buffers, Call, NO_OPTION};
 use crate::desk::{attributes, attributes_of};
 use crate::reference::{extend, release, scratch};
 use crate::volumes::{fresh, name, open_slots, place, scattered, small};
@@ -31,7 +31,7 @@ fn accepted() -> Vec<Call> {
 
 fn allocation(text: &str, kind: u32, start: u32, amount: u32, secondary: u32) -> Call {
     let (name, attributes) = (name(text).to_vec(), attributes(7));
-    Call::Allocate { name, attributes, kind, start, amount, secondary }
+    Call::Allocate { name, attributes, kind, start, amount, secondary, option: NO_OPTION }
 }
 
 /// Volume A's end with one more set, which can be extended.
@@ -74,11 +74,11 @@ fn with_lengths(call: &Call, len: usize) -> Vec<Call> {
         bytes
     };
     match call.clone() {
-        Call::Allocate { name, attributes, kind, start, amount, secondary } => {
+        Call::Allocate { name, attributes, kind, start, amount, secondary, option } => {
             let (short, cut) = (attributes_of(len, 7), cut(&name));
             vec![
-                Call::Allocate { name, attributes: short, kind, start, amount, secondary },
-                Call::Allocate { name: cut, attributes, kind, start, amount, secondary },
+                Call::Allocate { name, attributes: short, kind, start, amount, secondary, option },
+                Call::Allocate { name: cut, attributes, kind, start, amount, secondary, option },
             ]
         }
         Call::Extend { name } => vec![Call::Extend { name: cut(&name) }],

@@ -1,4 +1,4 @@
-//! The eight calls and the listing, written from document 01 alone.
+//! The eight calls and the listing, written from documents 01 and 02 alone.
 //!
 //! The route: check every rule on the bytes, read the format 5 chain into a sorted free
 //! list, split and join its entries, and write back the records that changed. A call

@@ -3,7 +3,7 @@
 use super::{answered, granted, lawful, lookup, sized, sound, Answer};
 use crate::reference::data_set::DataSet;
 use crate::reference::free::Run;
-use crate::reference::grant::{self, Grant};
+use crate::reference::grant::{self, Grant, SpaceOption};
 use crate::reference::layout::*;
 use crate::reference::name::Name;
 use crate::reference::volume::Volume;
@@ -12,26 +12,27 @@ use crate::reference::{records_mut, Refusal};
 const MOST_PRIMARY: u32 = 65_535;
 const MOST_SECONDARY: u32 = 0xFF_FFFF;
 
-/// What an allocate asks for, its numbers in their ranges.
+/// What an allocate asks for, its numbers in their ranges. An absolute one has no option.
 #[derive(Clone, Copy)]
 enum Amount {
-    Tracks(u32),
-    Cylinders(u32),
+    Tracks(u32, SpaceOption),
+    Cylinders(u32, SpaceOption),
     Absolute(Run),
 }
 
 impl Amount {
     fn judge(
-        volume: &Volume, kind: u32, start: u32, amount: u32, secondary: u32,
+        volume: &Volume, kind: u32, start: u32, amount: u32, secondary: u32, option: u32,
     ) -> Result<Amount, Refusal> {
+        let option = SpaceOption::numbered(option).ok_or(Refusal::Amount)?;
         let in_range = (1..=MOST_PRIMARY).contains(&amount) && secondary <= MOST_SECONDARY;
         match kind {
-            0 if in_range => Ok(Amount::Tracks(amount)),
-            1 if in_range => Ok(Amount::Cylinders(amount)),
+            0 if in_range => Ok(Amount::Tracks(amount, option)),
+            1 if in_range => Ok(Amount::Cylinders(amount, option)),
             2 => {
                 let end = u64::from(start) + u64::from(amount);
                 let past = end > u64::from(volume.geometry.tracks());
-                if amount == 0 || past || secondary != 0 {
+                if amount == 0 || past || secondary != 0 || option != SpaceOption::None {
                     return Err(Refusal::Amount);
                 }
                 Ok(Amount::Absolute(Run { start, length: amount }))
@@ -42,8 +43,10 @@ impl Amount {
 
     fn choose(self, volume: &Volume) -> Result<Grant, Refusal> {
         match self {
-            Amount::Tracks(n) => grant::tracks(&volume.free, n),
-            Amount::Cylinders(n) => grant::cylinders(&volume.free, volume.geometry.heads, n),
+            Amount::Tracks(n, option) => grant::tracks(&volume.free, n, option),
+            Amount::Cylinders(n, option) => {
+                grant::cylinders(&volume.free, volume.geometry.heads, n, option)
+            }
             Amount::Absolute(run) => grant::absolute(&volume.free, run),
         }
         .ok_or(Refusal::NoSpace)
@@ -51,16 +54,16 @@ impl Amount {
 
     fn unit(self) -> u8 {
         match self {
-            Amount::Tracks(_) => UNIT_TRACKS,
-            Amount::Cylinders(_) => UNIT_CYLINDERS,
+            Amount::Tracks(..) => UNIT_TRACKS,
+            Amount::Cylinders(..) => UNIT_CYLINDERS,
             Amount::Absolute(_) => UNIT_ABSOLUTE,
         }
     }
 
     fn extent_type(self) -> u8 {
         match self {
-            Amount::Cylinders(_) => WHOLE_CYLINDERS,
-            Amount::Tracks(_) | Amount::Absolute(_) => ANY_TRACKS,
+            Amount::Cylinders(..) => WHOLE_CYLINDERS,
+            Amount::Tracks(..) | Amount::Absolute(_) => ANY_TRACKS,
         }
     }
 }
@@ -74,7 +77,7 @@ fn take(volume: &mut Volume, grant: &Grant) {
 #[allow(clippy::too_many_arguments)]
 pub fn allocate(
     table: &mut [u8], name: &[u8], attributes: &[u8], kind: u32, start: u32, amount: u32,
-    secondary: u32, answer: &mut [u8],
+    secondary: u32, option: u32, answer: &mut [u8],
 ) -> u32 {
     answered(answer, || {
         let records = records_mut(table)?;
@@ -82,7 +85,7 @@ pub fn allocate(
         let attributes: &[u8; 52] = sized(attributes)?;
         let mut volume = sound(records)?;
         lawful(name)?;
-        let amount = Amount::judge(&volume, kind, start, amount, secondary)?;
+        let amount = Amount::judge(&volume, kind, start, amount, secondary, option)?;
         if volume.names.find(records, name).is_some() {
             return Err(Refusal::Duplicate);
         }
@@ -144,9 +147,10 @@ fn extend_set(records: &mut [Record], name: &Name) -> Result<Answer, Refusal> {
     if secondary == 0 {
         return Err(Refusal::NoSecondary);
     }
+    // The option of the allocate is kept in no label.
     let amount = match records[slot][UNIT] {
-        UNIT_CYLINDERS => Amount::Cylinders(secondary),
-        _ => Amount::Tracks(secondary),
+        UNIT_CYLINDERS => Amount::Cylinders(secondary, SpaceOption::None),
+        _ => Amount::Tracks(secondary, SpaceOption::None),
     };
     let grant = amount.choose(&volume)?;
     let set = DataSet::read(&volume, records, slot);
