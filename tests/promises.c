@@ -191,7 +191,8 @@ static int granted(uint32_t option, uint32_t kind, uint32_t amount, uint32_t pie
         const uint8_t *extent = vtoc_label_extent(labels, i);
         uint32_t start = wanted[2 * i], count = wanted[2 * i + 1];
         if (vtoc_answer_start(other_answer, i) != start || vtoc_answer_count(other_answer, i) != count
-            || vtoc_track(extent + VTOC_EXTENT_FIRST, H) != start || vtoc_track(extent + VTOC_EXTENT_LAST, H) != start + count - 1)
+            || vtoc_track(extent + VTOC_EXTENT_FIRST, H) != start
+            || vtoc_track(extent + VTOC_EXTENT_LAST, H) != start + count - 1)
             return 0;
         tracks += count;
     }
