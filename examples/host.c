@@ -76,16 +76,19 @@ static void expect(uint32_t result, uint32_t wanted)
 
 /* ---- The calls with the volume's one table and text for names ------------------------------------------------------------ */
 
-static void allocate(const char *text, uint32_t kind, uint32_t start, uint32_t amount, uint32_t secondary, uint32_t wanted)
+static void allocate(const char *text, uint32_t kind, uint32_t start, uint32_t amount, uint32_t secondary, uint32_t option,
+                     uint32_t wanted)
 {
     static const char *const units[] = {"tracks", "cylinders", "tracks from an absolute start"};
+    static const char *const options[] = {"", ", CONTIG", ", MXIG", ", ALX"};
     uint8_t name[VTOC_NAME_LENGTH];
     uint8_t attributes[VTOC_ATTRIBUTES_LENGTH] = {0}; /* a real host fills in dates, organisation, block sizes */
     uint32_t result;
     vtoc_name_from_text(name, text);
-    say("allocate %s, %lu %s, secondary %lu", text, (unsigned long)amount, units[kind], (unsigned long)secondary);
+    say("allocate %s, %lu %s, secondary %lu%s", text, (unsigned long)amount, units[kind], (unsigned long)secondary,
+        options[option]);
     result = vtoc_allocate(table, sizeof table, name, sizeof name, attributes, sizeof attributes, kind, start, amount, secondary,
-                           answer, sizeof answer);
+                           option, answer, sizeof answer);
     expect(result, wanted);
     if (result == VTOC_OK)
         print_pieces();
@@ -173,20 +176,20 @@ int main(int count, char **arguments)
 {
     const char *path = count > 1 ? arguments[1] : "week.vtoc";
     FILE *file;
-    uint32_t freed_track;
+    uint32_t freed_track, granted;
 
     printf("Monday: a new volume, and the survey's files\n");
     say("initialise %d cylinders of %d tracks", CYLINDERS, HEADS);
     expect(vtoc_initialise(table, sizeof table, CYLINDERS, HEADS, RECORDS_A_TRACK, VTOC_START, VTOC_LENGTH, answer, sizeof answer),
            VTOC_OK);
     space();
-    allocate("SURVEY.STRIP01", VTOC_CYLINDERS, 0, 60, 24, VTOC_OK);
-    allocate("SURVEY.NAV", VTOC_CYLINDERS, 0, 20, 0, VTOC_OK);
-    allocate("SURVEY.WEATHER", VTOC_CYLINDERS, 0, 12, 0, VTOC_OK);
-    allocate("SURVEY.PHOTO", VTOC_CYLINDERS, 0, 150, 0, VTOC_OK);
-    allocate("SURVEY.TRIAL", VTOC_CYLINDERS, 0, 14, 0, VTOC_OK);
-    allocate("SURVEY.BASE", VTOC_CYLINDERS, 0, 147, 0, VTOC_OK);
-    allocate("SURVEY.LABEL", VTOC_ABSOLUTE, 3, 4, 0, VTOC_OK);
+    allocate("SURVEY.STRIP01", VTOC_CYLINDERS, 0, 60, 24, VTOC_NO_OPTION, VTOC_OK);
+    allocate("SURVEY.NAV", VTOC_CYLINDERS, 0, 20, 0, VTOC_NO_OPTION, VTOC_OK);
+    allocate("SURVEY.WEATHER", VTOC_CYLINDERS, 0, 12, 0, VTOC_NO_OPTION, VTOC_OK);
+    allocate("SURVEY.PHOTO", VTOC_CYLINDERS, 0, 150, 0, VTOC_NO_OPTION, VTOC_OK);
+    allocate("SURVEY.TRIAL", VTOC_CYLINDERS, 0, 14, 0, VTOC_NO_OPTION, VTOC_OK);
+    allocate("SURVEY.BASE", VTOC_CYLINDERS, 0, 147, 0, VTOC_NO_OPTION, VTOC_OK);
+    allocate("SURVEY.LABEL", VTOC_ABSOLUTE, 3, 4, 0, VTOC_NO_OPTION, VTOC_OK);
 
     printf("Tuesday: the strip is full, and so is the volume\n");
     extend("SURVEY.STRIP01", VTOC_E_NO_SPACE);
@@ -201,7 +204,7 @@ int main(int count, char **arguments)
     rename_set("SURVEY.STRIP01", "SURVEY.PHOTO", VTOC_E_DUPLICATE);
     rename_set("SURVEY.STRIP01", "SURVEY.FLT0317.STRIP01", VTOC_OK);
     rename_set("SURVEY.STRIP01", "SURVEY.STRIP02", VTOC_E_NOT_FOUND);
-    allocate("SURVEY.STRIP 02", VTOC_TRACKS, 0, 5, 0, VTOC_E_NAME);
+    allocate("SURVEY.STRIP 02", VTOC_TRACKS, 0, 5, 0, VTOC_NO_OPTION, VTOC_E_NAME);
 
     printf("Thursday: what the strip does not use goes to others\n");
     obtain("SURVEY.FLT0317.STRIP01");
@@ -209,15 +212,34 @@ int main(int count, char **arguments)
     release("SURVEY.FLT0317.STRIP01", 1349, 7, VTOC_OK);
     obtain("SURVEY.FLT0317.STRIP01");
     space();
+    say("a sort needs its 240 tracks in one piece: the gaps have 296 together, but the longest has 228");
+    allocate("SURVEY.SORTWK01", VTOC_TRACKS, 0, 240, 0, VTOC_CONTIG, VTOC_E_NO_SPACE);
+    say("a scratch pool takes every gap of 50 tracks or more, for the night");
+    allocate("SURVEY.POOL", VTOC_TRACKS, 0, 50, 0, VTOC_ALX, VTOC_OK);
+    check(vtoc_answer_pieces(answer) == 2 && vtoc_answer_tracks(answer) == 228 + 56, "two gaps, whole");
+    scratch("SURVEY.POOL", VTOC_OK);
     freed_track = 243 * HEADS + (1350 - 60 * HEADS); /* the first one after the strip's second extent */
     say("56 tracks fit the gap that the release left behind the strip, and are granted there:");
-    allocate("SURVEY.INDEX", VTOC_TRACKS, 0, 56, 8, VTOC_OK);
+    allocate("SURVEY.INDEX", VTOC_TRACKS, 0, 56, 8, VTOC_NO_OPTION, VTOC_OK);
     check(vtoc_answer_pieces(answer) == 1 && vtoc_answer_start(answer, 0) == freed_track && vtoc_answer_count(answer, 0) == 56,
           "SURVEY.INDEX has the very tracks that the strip gave back");
 
     printf("Friday: room for the next week\n");
     scratch("SURVEY.PHOTO", VTOC_OK);
     scratch("SURVEY.PHOTO", VTOC_E_NOT_FOUND);
+    space();
+
+    printf("Saturday: the sort and the plotter have the volume to themselves\n");
+    allocate("SURVEY.SORTWK01", VTOC_TRACKS, 0, 240, 0, VTOC_CONTIG, VTOC_OK);
+    check(vtoc_answer_pieces(answer) == 1 && vtoc_answer_tracks(answer) == 240, "240 tracks in one piece");
+    say("the plotter wants 60 cylinders and more where there are more: the longest gap, whole");
+    allocate("SURVEY.PLOT", VTOC_CYLINDERS, 0, 60, 0, VTOC_MXIG, VTOC_OK);
+    granted = vtoc_answer_tracks(answer); /* MXIG and ALX: the answer has the number, not the request */
+    check(vtoc_answer_pieces(answer) == 1 && granted >= 60 * HEADS && granted % HEADS == 0, "60 whole cylinders or more");
+    say("the plot has %lu tracks and fills 100 cylinders of them", (unsigned long)granted);
+    release("SURVEY.PLOT", 100 * HEADS - 1, 4, VTOC_OK);
+    check(vtoc_answer_tracks(answer) == granted - 100 * HEADS, "the rest is free again");
+    scratch("SURVEY.SORTWK01", VTOC_OK);
     space();
 
     file = fopen(path, "wb");

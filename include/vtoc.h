@@ -12,6 +12,10 @@
  * Each takes numbers of 32 bits and byte buffers, a buffer as a pointer and its length, and answers VTOC_OK (0) or the number
  * of a refusal (1 to 12, below). Any bytes, numbers and lengths may be handed over: every call ends in one of the two.
  *
+ * WHAT IS NEW
+ * Since version 200 vtoc_allocate has a space option after secondary (CONTIG, MXIG, ALX). A host of version 100 hands over
+ * VTOC_NO_OPTION there, and all is as before. Compile every file of it anew: no linker sees that an old one lacks the argument.
+ *
  * WHAT IS PROVED
  * The result, the answer, the labels and every byte of the table equal the definitions of the rules, for good calls and for
  * refused ones; no call reads or writes outside the buffers it was lent; every call ends. docs/THEOREM.md has the one theorem
@@ -82,8 +86,8 @@ extern "C" {
 
 /* ---- Version ------------------------------------------------------------------------------------------------------------ */
 
-#define VTOC_VERSION 100 /* of this header, 100 x major + minor: a new major number where a host must change, else a new minor */
-#define VTOC_REQUESTS 0  /* how many of document 02's requests are in, from the first on */
+#define VTOC_VERSION 200 /* of this header, 100 x major + minor: a new major number where a host must change, else a new minor */
+#define VTOC_REQUESTS 1  /* how many of document 02's requests are in, from the first on */
 
 /* ---- Lengths, in bytes unless said otherwise ---------------------------------------------------------------------------- */
 
@@ -109,6 +113,15 @@ extern "C" {
 #define VTOC_TRACKS 0    /* amount in tracks; start counts for nothing */
 #define VTOC_CYLINDERS 1 /* amount in whole cylinders; start counts for nothing */
 #define VTOC_ABSOLUTE 2  /* exactly the tracks from start on, amount of them; secondary must be 0 */
+
+/* ---- Space options of a request (vtoc_allocate) -------------------------------------------------------------------------- */
+
+/* A candidate is a free extent (tracks), or the whole cylinders inside one (cylinders). Of equally long ones the lowest is first.
+   An absolute request has no option. No label keeps it: vtoc_extend grants as without one. */
+#define VTOC_NO_OPTION 0 /* as VTOC_CONTIG where that can grant; else up to five candidates, longest first, as far as needed */
+#define VTOC_CONTIG 1    /* one piece: the first part of the shortest candidate that is at least the amount */
+#define VTOC_MXIG 2      /* one piece: the longest candidate, whole, if it is at least the amount */
+#define VTOC_ALX 3       /* every candidate of at least the amount, whole, longest first; of more than five the five longest */
 
 /* ---- Results ------------------------------------------------------------------------------------------------------------ */
 
@@ -140,16 +153,18 @@ extern "C" {
    or rename the old data set first. */
 #define VTOC_E_DUPLICATE 6
 
-/* 7, amount: an unknown kind; an amount of 0 or above 65,535; a secondary above 16,777,215; absolute with count 0, an end past
-   the volume's last track or a secondary that is not 0. The request is wrong for any state of the volume: fail the job step. */
+/* 7, amount: an unknown kind or option; an amount of 0 or above 65,535; a secondary above 16,777,215; absolute with count 0, an
+   end past the volume's last track, a secondary that is not 0, or an option. The request is wrong for any state of the volume:
+   fail the job step. */
 #define VTOC_E_AMOUNT 7
 
 /* 8, no secondary: vtoc_extend, the data set was allocated with secondary 0. It ends here: fail the job as out of space (x37),
    or allocate anew with a secondary amount. */
 #define VTOC_E_NO_SECONDARY 8
 
-/* 9, no space: the five longest candidates together are too few; or, for absolute, one of the tracks is taken. Try another
-   volume, a smaller amount, or tracks in place of cylinders; scratch or release first. */
+/* 9, no space: the five longest candidates together are too few; with an option, none of them alone is at least the amount; or,
+   for absolute, one of the tracks is taken. Where the job can do with pieces, ask again without the option. Try another volume, a
+   smaller amount, or tracks in place of cylinders; scratch or release first. */
 #define VTOC_E_NO_SPACE 9
 
 /* 10, extents: vtoc_extend, the data set would have more than 16. Copy it into one allocated in fewer pieces. */
@@ -176,18 +191,19 @@ uint32_t vtoc_initialise(uint8_t *VTOC_RESTRICT table, size_t table_length, uint
                          uint32_t v, uint8_t *VTOC_RESTRICT answer, size_t answer_length);
 
 /*
- * Gives a new data set its tracks: the shortest free extent that holds the amount, or else up to five, longest first.
- * secondary is what each later vtoc_extend grants, in the unit of kind. The answer has the tracks granted and the pieces.
- * Refusals: 2, 3, 4, 7, 6, 9, 11.
+ * Gives a new data set its tracks. option says which (above); without one it is the shortest free extent that holds the amount,
+ * or else up to five, longest first. secondary is what each later vtoc_extend grants, in the unit of kind. The answer has the
+ * tracks granted and the pieces: take both from there, since VTOC_MXIG and VTOC_ALX may grant more than the amount, up to all that
+ * is free (vtoc_release gives back what is not used). Refusals: 2, 3, 4, 7, 6, 9, 11.
  */
 VTOC_NODISCARD
 uint32_t vtoc_allocate(uint8_t *VTOC_RESTRICT table, size_t table_length, const uint8_t *name, size_t name_length,
                        const uint8_t *attributes, size_t attributes_length, uint32_t kind, uint32_t start, uint32_t amount,
-                       uint32_t secondary, uint8_t *VTOC_RESTRICT answer, size_t answer_length);
+                       uint32_t secondary, uint32_t option, uint8_t *VTOC_RESTRICT answer, size_t answer_length);
 
 /*
- * Grants the secondary amount once more; the new pieces follow the extents that the data set has, and are not joined to them.
- * The answer has the tracks granted and the pieces. Refusals: 2, 3, 4, 5, 8, 9, 10, 11.
+ * Grants the secondary amount once more, without an option; the new pieces follow the extents that the data set has, and are not
+ * joined to them. The answer has the tracks granted and the pieces. Refusals: 2, 3, 4, 5, 8, 9, 10, 11.
  */
 VTOC_NODISCARD
 uint32_t vtoc_extend(uint8_t *VTOC_RESTRICT table, size_t table_length, const uint8_t *name, size_t name_length,

@@ -1,8 +1,8 @@
 /*
- * header.c: include/vtoc.h without the library, in C99 and in C++. Every constant has document 01's number, every call the types
- * that the library is called with, and every inline function is tried at its limits, beside bytes that it must not touch. The
- * numbers are written out here and none is taken from the header, so that neither can change alone; tests/header_faults tries.
- * tests/header compiles and runs this file.
+ * header.c: include/vtoc.h without the library, in C99 and in C++. Every constant has the number of document 01 or 02, every call
+ * the types that the library is called with, and every inline function is tried at its limits, beside bytes that it must not
+ * touch. The numbers are written out here and none is taken from the header, so that neither can change alone; tests/header_faults
+ * tries. tests/header compiles and runs this file.
  */
 #define _DEFAULT_SOURCE /* for mmap */
 #include <stdio.h>
@@ -16,8 +16,8 @@
 
 #define IS(constant, number) typedef char constant##_is_not_##number[(constant) == (number) ? 1 : -1]
 
-IS(VTOC_VERSION, 100);
-IS(VTOC_REQUESTS, 0);
+IS(VTOC_VERSION, 200);
+IS(VTOC_REQUESTS, 1);
 IS(VTOC_RECORD_LENGTH, 140);
 IS(VTOC_LEAST_RECORDS, 3);
 IS(VTOC_MOST_RECORDS, 468);
@@ -38,6 +38,10 @@ IS(VTOC_NO_TRACK, 4294967295);
 IS(VTOC_TRACKS, 0);
 IS(VTOC_CYLINDERS, 1);
 IS(VTOC_ABSOLUTE, 2);
+IS(VTOC_NO_OPTION, 0);
+IS(VTOC_CONTIG, 1);
+IS(VTOC_MXIG, 2);
+IS(VTOC_ALX, 3);
 
 IS(VTOC_OK, 0);
 IS(VTOC_E_GEOMETRY, 1);
@@ -77,7 +81,7 @@ extern "C" {
 #endif
 uint32_t vtoc_initialise(uint8_t *, size_t, uint32_t, uint32_t, uint32_t, uint32_t, uint32_t, uint8_t *, size_t);
 uint32_t vtoc_allocate(uint8_t *, size_t, const uint8_t *, size_t, const uint8_t *, size_t, uint32_t, uint32_t, uint32_t,
-                       uint32_t, uint8_t *, size_t);
+                       uint32_t, uint32_t, uint8_t *, size_t);
 uint32_t vtoc_extend(uint8_t *, size_t, const uint8_t *, size_t, uint8_t *, size_t);
 uint32_t vtoc_release(uint8_t *, size_t, const uint8_t *, size_t, uint32_t, uint8_t *, size_t);
 uint32_t vtoc_scratch(uint8_t *, size_t, const uint8_t *, size_t, uint8_t *, size_t);

@@ -44,8 +44,8 @@ int main(int count, char **arguments)
         result = vtoc_initialise(table, length, number(0), number(1), number(2), number(3), number(4), answer, sizeof answer);
         break;
     case 2:
-        result = vtoc_allocate(table, length, name, record[1], second, record[2], number(0), number(1), number(2), number(3), answer,
-                               sizeof answer);
+        result = vtoc_allocate(table, length, name, record[1], second, record[2], number(0), number(1), number(2), number(3),
+                               number(4), answer, sizeof answer);
         break;
     case 3:
         result = vtoc_extend(table, length, name, record[1], answer, sizeof answer);

@@ -1,6 +1,7 @@
 /*
  * promises.c: what include/vtoc.h tells hosts they may do, done with the library. One buffer for two that are only read; a file
- * closed in the table; the header's limits, its readers and other inline functions on tables and labels that the library writes.
+ * closed in the table; the space options; the header's limits, its readers and other inline functions on tables and labels that
+ * the library writes.
  *
  *   cc -std=c99 -Iinclude tests/promises.c target/staticlib/libvtoc.a -o target/promises && target/promises
  */
@@ -41,9 +42,15 @@ static uint32_t initialise(void)
     return vtoc_initialise(table, LENGTH, C, H, D, S, V, answer, sizeof answer);
 }
 
+static uint32_t allocate_by(uint32_t option, const char *text, uint32_t kind, uint32_t start, uint32_t amount, uint32_t secondary)
+{
+    return vtoc_allocate(table, LENGTH, name_of(text), 44, attributes, 52, kind, start, amount, secondary, option, answer,
+                         sizeof answer);
+}
+
 static uint32_t allocate(const char *text, uint32_t kind, uint32_t start, uint32_t amount, uint32_t secondary)
 {
-    return vtoc_allocate(table, LENGTH, name_of(text), 44, attributes, 52, kind, start, amount, secondary, answer, sizeof answer);
+    return allocate_by(VTOC_NO_OPTION, text, kind, start, amount, secondary);
 }
 
 static uint32_t obtain(const char *text)
@@ -117,8 +124,8 @@ static void other_pairs(void)
     memset(both, 0x77, sizeof both);
     memcpy(both, name_of("FLT.D"), 44);
     memcpy(apart, both, 44);
-    CHECK(vtoc_allocate(table, LENGTH, both, 44, both, 52, VTOC_TRACKS, 0, 3, 1, answer, 24) == VTOC_OK);
-    CHECK(vtoc_allocate(copy, LENGTH, apart, 44, both, 52, VTOC_TRACKS, 0, 3, 1, other_answer, 24) == VTOC_OK);
+    CHECK(vtoc_allocate(table, LENGTH, both, 44, both, 52, VTOC_TRACKS, 0, 3, 1, VTOC_NO_OPTION, answer, 24) == VTOC_OK);
+    CHECK(vtoc_allocate(copy, LENGTH, apart, 44, both, 52, VTOC_TRACKS, 0, 3, 1, VTOC_NO_OPTION, other_answer, 24) == VTOC_OK);
     CHECK(memcmp(table, copy, LENGTH) == 0 && memcmp(answer, other_answer, sizeof answer) == 0);
     CHECK(memcmp(both, apart, 44) == 0 && both[44] == 0x77 && both[51] == 0x77);
     /* The name is the one in the format 1 that it is looked up in. */
@@ -165,6 +172,99 @@ static void closings(void)
             }
     CHECK(vtoc_scratch(table, LENGTH, name_of("FLT.B"), 44, answer, sizeof answer) == VTOC_OK);
     CHECK(vtoc_answer_tracks(answer) == 2 * H);
+}
+
+/* ---- Space options ------------------------------------------------------------------------------------------------------- */
+
+/* Whether a request on the volume of three data sets is granted these pieces, in this order: start, count, start and so on. The
+   tracks of the answer are their sum, and the labels have the same pieces. */
+static int granted(uint32_t option, uint32_t kind, uint32_t amount, uint32_t pieces, const uint32_t *wanted)
+{
+    uint32_t tracks = 0;
+    volume();
+    if (allocate_by(option, "FLT.D", kind, 0, amount, 2) != VTOC_OK || vtoc_answer_pieces(answer) != pieces)
+        return 0;
+    memcpy(other_answer, answer, sizeof answer);
+    if (obtain("FLT.D") != VTOC_OK || labels[VTOC_LABEL_EXTENTS] != pieces)
+        return 0;
+    for (uint32_t i = 0; i < pieces; i++) {
+        const uint8_t *extent = vtoc_label_extent(labels, i);
+        uint32_t start = wanted[2 * i], count = wanted[2 * i + 1];
+        if (vtoc_answer_start(other_answer, i) != start || vtoc_answer_count(other_answer, i) != count
+            || vtoc_track(extent + VTOC_EXTENT_FIRST, H) != start
+            || vtoc_track(extent + VTOC_EXTENT_LAST, H) != start + count - 1)
+            return 0;
+        tracks += count;
+    }
+    return vtoc_answer_tracks(other_answer) == tracks;
+}
+
+/* The result of a request on that volume. */
+static uint32_t asked(uint32_t option, uint32_t kind, uint32_t start, uint32_t amount)
+{
+    volume();
+    return allocate_by(option, "FLT.D", kind, start, amount, 0);
+}
+
+/* The volume has four free extents: 2 tracks from 5, 1 from 9, 80 from 20, 91 from 109 (18 whole cylinders from 110). */
+static void options(void)
+{
+    static const uint32_t all[] = {109, 91, 20, 80, 5, 2, 9, 1}, cylinders[] = {110, 90, 20, 80};
+    static const uint32_t both[] = {109, 91, 20, 10}, both_cylinders[] = {110, 90, 20, 10};
+    static const uint32_t part[] = {109, 81}, short_one[] = {20, 80}, cylinder_part[] = {110, 85};
+
+    CHECK(granted(VTOC_NO_OPTION, VTOC_TRACKS, 101, 2, both));
+    CHECK(granted(VTOC_NO_OPTION, VTOC_CYLINDERS, 20, 2, both_cylinders));
+    CHECK(asked(VTOC_CONTIG, VTOC_TRACKS, 0, 101) == VTOC_E_NO_SPACE);
+    CHECK(asked(VTOC_CONTIG, VTOC_TRACKS, 0, 92) == VTOC_E_NO_SPACE);
+    CHECK(granted(VTOC_CONTIG, VTOC_TRACKS, 81, 1, part));
+    CHECK(granted(VTOC_CONTIG, VTOC_TRACKS, 80, 1, short_one));
+    CHECK(asked(VTOC_CONTIG, VTOC_CYLINDERS, 0, 19) == VTOC_E_NO_SPACE);
+    CHECK(granted(VTOC_CONTIG, VTOC_CYLINDERS, 17, 1, cylinder_part));
+
+    CHECK(granted(VTOC_MXIG, VTOC_TRACKS, 1, 1, all) && granted(VTOC_MXIG, VTOC_TRACKS, 91, 1, all));
+    CHECK(asked(VTOC_MXIG, VTOC_TRACKS, 0, 92) == VTOC_E_NO_SPACE);
+    CHECK(granted(VTOC_MXIG, VTOC_CYLINDERS, 18, 1, cylinders));
+    CHECK(asked(VTOC_MXIG, VTOC_CYLINDERS, 0, 19) == VTOC_E_NO_SPACE);
+
+    CHECK(granted(VTOC_ALX, VTOC_TRACKS, 1, 4, all) && granted(VTOC_ALX, VTOC_TRACKS, 2, 3, all));
+    CHECK(granted(VTOC_ALX, VTOC_TRACKS, 80, 2, all) && granted(VTOC_ALX, VTOC_TRACKS, 81, 1, all));
+    CHECK(asked(VTOC_ALX, VTOC_TRACKS, 0, 92) == VTOC_E_NO_SPACE);
+    CHECK(granted(VTOC_ALX, VTOC_CYLINDERS, 16, 2, cylinders) && granted(VTOC_ALX, VTOC_CYLINDERS, 17, 1, cylinders));
+    CHECK(asked(VTOC_ALX, VTOC_CYLINDERS, 0, 19) == VTOC_E_NO_SPACE);
+
+    for (uint32_t option = VTOC_CONTIG; option <= VTOC_ALX; option++)
+        CHECK(asked(option, VTOC_ABSOLUTE, 30, 4) == VTOC_E_AMOUNT);
+    CHECK(asked(VTOC_NO_OPTION, VTOC_ABSOLUTE, 30, 4) == VTOC_OK);
+    for (uint32_t kind = VTOC_TRACKS; kind <= VTOC_ABSOLUTE; kind++) {
+        CHECK(asked(VTOC_ALX + 1, kind, 30, 4) == VTOC_E_AMOUNT);
+        CHECK(asked(UINT32_MAX, kind, 30, 4) == VTOC_E_AMOUNT);
+        CHECK(asked(256 + VTOC_CONTIG, kind, 30, 4) == VTOC_E_AMOUNT);
+    }
+}
+
+/* ALX where six candidates serve: the five longest, of equals the lowest. No label has the option: what extend grants is in two
+   pieces, and the table is that of the same request without an option where both grant the same. */
+static void options_apart(void)
+{
+    static const uint32_t starts[5] = {160, 20, 40, 60, 80}, counts[5] = {40, 19, 19, 19, 19};
+    CHECK(initialise() == VTOC_OK && allocate("EDGE", VTOC_ABSOLUTE, 1, 6, 0) == VTOC_OK);
+    CHECK(allocate("LOW", VTOC_ABSOLUTE, 9, 11, 0) == VTOC_OK && allocate("N1", VTOC_ABSOLUTE, 39, 1, 0) == VTOC_OK);
+    CHECK(allocate("N2", VTOC_ABSOLUTE, 59, 1, 0) == VTOC_OK && allocate("N3", VTOC_ABSOLUTE, 79, 1, 0) == VTOC_OK);
+    CHECK(allocate("N4", VTOC_ABSOLUTE, 99, 1, 0) == VTOC_OK && allocate("N5", VTOC_ABSOLUTE, 119, 41, 0) == VTOC_OK);
+    memcpy(copy, table, LENGTH);
+    CHECK(allocate_by(VTOC_ALX, "POOL", VTOC_TRACKS, 0, 19, 0) == VTOC_OK);
+    CHECK(vtoc_answer_pieces(answer) == VTOC_MOST_PIECES && vtoc_answer_tracks(answer) == 116);
+    for (uint32_t i = 0; i < 5; i++)
+        CHECK(vtoc_answer_start(answer, i) == starts[i] && vtoc_answer_count(answer, i) == counts[i]);
+
+    memcpy(table, copy, LENGTH);
+    CHECK(allocate_by(VTOC_CONTIG, "WORK", VTOC_TRACKS, 0, 30, 20) == VTOC_OK);
+    memcpy(other_answer, answer, sizeof answer);
+    CHECK(vtoc_allocate(copy, LENGTH, name_of("WORK"), 44, attributes, 52, VTOC_TRACKS, 0, 30, 20, VTOC_NO_OPTION, answer, 24)
+          == VTOC_OK);
+    CHECK(memcmp(table, copy, LENGTH) == 0 && memcmp(answer, other_answer, sizeof answer) == 0);
+    CHECK(vtoc_extend(table, LENGTH, name_of("WORK"), 44, answer, 24) == VTOC_OK && vtoc_answer_pieces(answer) == 2);
 }
 
 /* ---- Labels of sixteen extents, geometries, limits ----------------------------------------------------------------------- */
@@ -250,6 +350,8 @@ int main(void)
     renames();
     other_pairs();
     closings();
+    options();
+    options_apart();
     sixteen_extents();
     geometries();
     limits();

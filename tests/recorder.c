@@ -91,13 +91,13 @@ uint32_t __wrap_vtoc_initialise(uint8_t *t, size_t tn, uint32_t c, uint32_t h, u
 }
 
 uint32_t __real_vtoc_allocate(uint8_t *, size_t, const uint8_t *, size_t, const uint8_t *, size_t, uint32_t, uint32_t, uint32_t,
-                              uint32_t, uint8_t *, size_t);
+                              uint32_t, uint32_t, uint8_t *, size_t);
 uint32_t __wrap_vtoc_allocate(uint8_t *t, size_t tn, const uint8_t *n, size_t nn, const uint8_t *x, size_t xn, uint32_t kind,
-                              uint32_t start, uint32_t amount, uint32_t secondary, uint8_t *a, size_t an)
+                              uint32_t start, uint32_t amount, uint32_t secondary, uint32_t option, uint8_t *a, size_t an)
 {
-    const uint32_t numbers[5] = {kind, start, amount, secondary, 0};
+    const uint32_t numbers[5] = {kind, start, amount, secondary, option};
     note(2, lent(t, tn), an, 0, lent(n, nn), lent(x, xn), numbers);
-    return __real_vtoc_allocate(t, tn, n, nn, x, xn, kind, start, amount, secondary, a, an);
+    return __real_vtoc_allocate(t, tn, n, nn, x, xn, kind, start, amount, secondary, option, a, an);
 }
 
 uint32_t __real_vtoc_extend(uint8_t *, size_t, const uint8_t *, size_t, uint8_t *, size_t);

@@ -34,7 +34,7 @@ static uint32_t allocate(unsigned number, uint32_t kind, uint32_t start, uint32_
     uint8_t name[VTOC_NAME_LENGTH];
     make_name(name, number);
     return vtoc_allocate(table, sizeof table, name, sizeof name, attributes, sizeof attributes, kind, start, amount, secondary,
-                         answer, sizeof answer);
+                         VTOC_NO_OPTION, answer, sizeof answer);
 }
 
 static uint8_t one[VTOC_NAME_LENGTH], other[VTOC_NAME_LENGTH];
@@ -50,10 +50,36 @@ static void *do_initialise(void *unused)
     return unused;
 }
 
+static void grant(uint32_t amount, uint32_t option)
+{
+    result = vtoc_allocate(table, sizeof table, other, sizeof other, attributes, sizeof attributes, VTOC_TRACKS, 0, amount, 1,
+                           option, answer, sizeof answer);
+}
+
 static void *do_allocate(void *unused)
 {
-    result = vtoc_allocate(table, sizeof table, other, sizeof other, attributes, sizeof attributes, VTOC_TRACKS, 0, 60000, 1, answer,
-                           sizeof answer);
+    grant(60000, VTOC_NO_OPTION);
+    return unused;
+}
+
+static void *do_contig(void *unused)
+{
+    grant(5000, VTOC_CONTIG);
+    return unused;
+}
+
+static void *do_mxig(void *unused)
+{
+    grant(1, VTOC_MXIG);
+    return unused;
+}
+
+/* Of some 400 candidates the five longest. */
+static void *do_alx(void *unused)
+{
+    grant(1, VTOC_ALX);
+    if (result == VTOC_OK && vtoc_answer_pieces(answer) != 5)
+        result = 99;
     return unused;
 }
 
@@ -117,8 +143,9 @@ int main(void)
     static const struct {
         const char *name;
         void *(*work)(void *);
-    } calls[] = {{"lspace", do_lspace},       {"obtain", do_obtain}, {"rename", do_rename},   {"extend", do_extend},
-                 {"release", do_release},     {"scratch", do_scratch}, {"allocate", do_allocate}, {"initialise", do_initialise}};
+    } calls[] = {{"lspace", do_lspace},   {"obtain", do_obtain},   {"rename", do_rename},     {"extend", do_extend},
+                 {"release", do_release}, {"scratch", do_scratch}, {"allocate", do_allocate}, {"CONTIG", do_contig},
+                 {"MXIG", do_mxig},       {"ALX", do_alx},         {"initialise", do_initialise}};
     static uint8_t before[sizeof table];
     size_t base = used(nothing), most = 0;
 
