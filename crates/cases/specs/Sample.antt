@@ -17,9 +17,9 @@ use Rattle.cases.specs.Check.{Row, attr, attrN, begin, beginSized, build
 abbrev pub sequence1 : List Row
 sequence1 =
     build 4 5 4 1 2
-    (allocate (request (nm (0xC6 ∷ 0xD3 ∷ 0xE3 ∷ 0x4B ∷ 0xC1 ∷ [])) (attr 1) 0 0 4 0)
-    ∷ allocate (request (nm (0xC6 ∷ 0xD3 ∷ 0xE3 ∷ 0x4B ∷ 0xC2 ∷ [])) (attr 2) 1 0 1 0)
-    ∷ allocate (request (nm (0xC6 ∷ 0xD3 ∷ 0xE3 ∷ 0x4B ∷ 0xC3 ∷ [])) (attr 3) 0 0 7 0)
+    (allocate (request (nm (0xC6 ∷ 0xD3 ∷ 0xE3 ∷ 0x4B ∷ 0xC1 ∷ [])) (attr 1) 0 0 4 0 0)
+    ∷ allocate (request (nm (0xC6 ∷ 0xD3 ∷ 0xE3 ∷ 0x4B ∷ 0xC2 ∷ [])) (attr 2) 1 0 1 0 0)
+    ∷ allocate (request (nm (0xC6 ∷ 0xD3 ∷ 0xE3 ∷ 0x4B ∷ 0xC3 ∷ [])) (attr 3) 0 0 7 0 0)
     ∷ [])
     0x19298C6040078FA3
     ∷ hurt ((43, 0x05) ∷ []) lspace 3
@@ -55,9 +55,9 @@ sequence1 =
     ∷ hurt ((375, 0xFF) ∷ (377, 0x01) ∷ []) lspace 0
     ∷ hurt ((374, 0xC0) ∷ []) lspace 0
     ∷ hurt ((525, 0x01) ∷ []) lspace 0
-    ∷ no (allocate (request (nm (0xC6 ∷ 0xD3 ∷ 0xE3 ∷ 0x4B ∷ 0xC4 ∷ [])) (attr 37) 0 0 2 0)) 9
-    ∷ no (allocate (request (nm (0xC6 ∷ 0xD3 ∷ 0xE3 ∷ 0x4B ∷ 0xC4 ∷ [])) (attr 38) 2 19 2 0)) 7
-    ∷ no (allocate (request (nm (0xC6 ∷ 0xD3 ∷ 0xE3 ∷ 0x4B ∷ 0xC4 ∷ [])) (attr 39) 2 6 1 0)) 9
+    ∷ no (allocate (request (nm (0xC6 ∷ 0xD3 ∷ 0xE3 ∷ 0x4B ∷ 0xC4 ∷ [])) (attr 37) 0 0 2 0 0)) 9
+    ∷ no (allocate (request (nm (0xC6 ∷ 0xD3 ∷ 0xE3 ∷ 0x4B ∷ 0xC4 ∷ [])) (attr 38) 2 19 2 0 0)) 7
+    ∷ no (allocate (request (nm (0xC6 ∷ 0xD3 ∷ 0xE3 ∷ 0x4B ∷ 0xC4 ∷ [])) (attr 39) 2 6 1 0 0)) 9
     ∷ ok (scratch (nm (0xC6 ∷ 0xD3 ∷ 0xE3 ∷ 0x4B ∷ 0xC2 ∷ []))) 0x500000000000000000000000000000000000000000000 0x1242A656AF42A0A7
     ∷ no (release (nm (0xC6 ∷ 0xD3 ∷ 0xE3 ∷ 0x4B ∷ 0xC3 ∷ [])) 0x701) 12
     ∷ ok (release (nm (0xC6 ∷ 0xD3 ∷ 0xE3 ∷ 0x4B ∷ 0xC3 ∷ [])) 0x401) 0x200000000000000000000000000000000000000000000 0x10F7536FDA0F849D
@@ -65,7 +65,7 @@ sequence1 =
     ∷ no (rename (nm (0xC6 ∷ 0xD3 ∷ 0xE3 ∷ 0x4B ∷ 0xC3 ∷ [])) (nm (0xC6 ∷ 0xD3 ∷ 0xE3 ∷ 0x4B ∷ 0xC1 ∷ []))) 6
     ∷ okLabels (obtain (nm (0xC6 ∷ 0xD3 ∷ 0xE3 ∷ 0x4B ∷ 0xC3 ∷ []))) 0x0 0x10F7536FDA0F849D 0x134B0F41A3F82539
     ∷ ok lspace 0x100030001000100030004000000000000000000000000 0x10F7536FDA0F849D
-    ∷ ok (allocate (request (nm (0xC6 ∷ 0xD3 ∷ 0xE3 ∷ 0x4B ∷ 0xC5 ∷ [])) (attr 47) 0 0 3 5)) 0x301000700030000000000000000000000000000000000 0x3648B5994763F8E
+    ∷ ok (allocate (request (nm (0xC6 ∷ 0xD3 ∷ 0xE3 ∷ 0x4B ∷ 0xC5 ∷ [])) (attr 47) 0 0 3 5 0)) 0x301000700030000000000000000000000000000000000 0x3648B5994763F8E
     ∷ ok (extend (nm (0xC6 ∷ 0xD3 ∷ 0xE3 ∷ 0x4B ∷ 0xC5 ∷ []))) 0x501000A00050000000000000000000000000000000000 0xAC04E0031B0FC5B
     ∷ ok (scratch (nm (0xC6 ∷ 0xD3 ∷ 0xE3 ∷ 0x4B ∷ 0xC1 ∷ []))) 0x400000000000000000000000000000000000000000000 0x1CCACE1660631FCF
     ∷ ok (scratch (nm (0xC6 ∷ 0xD3 ∷ 0xE3 ∷ 0x4B ∷ 0xC5 ∷ []))) 0x800000000000000000000000000000000000000000000 0x1C3F5DE7FF2DB2FA
@@ -92,7 +92,7 @@ sequence2 =
     ∷ begin 4294967295 4294967295 4294967295 4294967295 4294967295 1 0x0
     ∷ no lspace 2
     ∷ begin 4 5 4 18 2 0 0x1110215C91CC736A
-    ∷ ok (allocate (request (nm (0xC1 ∷ [])) (attr 12) 0 0 17 0)) 0x1101000100110000000000000000000000000000000000 0x8EDE555981A2DC8
+    ∷ ok (allocate (request (nm (0xC1 ∷ [])) (attr 12) 0 0 17 0 0)) 0x1101000100110000000000000000000000000000000000 0x8EDE555981A2DC8
     ∷ []
 
 pub case2 : T (right [] sequence2)
@@ -105,17 +105,17 @@ abbrev pub sequence3 : List Row
 sequence3 =
     begin 12 1 1 2 5 0 0x1AF84EA7ACBBEE5F
     ∷ ok lspace 0x600000002000500000003000000000000000000000000 0x1AF84EA7ACBBEE5F
-    ∷ ok (allocate (request (nm (0xC1 ∷ [])) (attr 2) 0 0 2 1)) 0x201000700020000000000000000000000000000000000 0x13A270C38820BA86
-    ∷ ok (allocate (request (nm (0xC2 ∷ [])) (attr 3) 1 0 4 1)) 0x402000900030001000100000000000000000000000000 0x10252DF0E2A22661
+    ∷ ok (allocate (request (nm (0xC1 ∷ [])) (attr 2) 0 0 2 1 0)) 0x201000700020000000000000000000000000000000000 0x13A270C38820BA86
+    ∷ ok (allocate (request (nm (0xC2 ∷ [])) (attr 3) 1 0 4 1 0)) 0x402000900030001000100000000000000000000000000 0x10252DF0E2A22661
     ∷ ok lspace 0x1000000000000000000000000 0x10252DF0E2A22661
     ∷ no (extend (nm (0xC1 ∷ []))) 9
-    ∷ no (allocate (request (nm (0xC3 ∷ [])) (attr 6) 0 0 1 0)) 9
+    ∷ no (allocate (request (nm (0xC3 ∷ [])) (attr 6) 0 0 1 0 0)) 9
     ∷ ok (release (nm (0xC2 ∷ [])) 0x101) 0x200000000000000000000000000000000000000000000 0xC493139870401B
     ∷ ok (extend (nm (0xC2 ∷ []))) 0x101000100010000000000000000000000000000000000 0xCD0A30A45DDFC9A
     ∷ ok (extend (nm (0xC1 ∷ []))) 0x101000B00010000000000000000000000000000000000 0xA5050682FC298EF
     ∷ ok (scratch (nm (0xC2 ∷ []))) 0x300000000000000000000000000000000000000000000 0x9EAB03AF702EF1C
     ∷ okLabels (obtain (nm (0xC1 ∷ []))) 0x0 0x9EAB03AF702EF1C 0xAE6476E55C8EAE3
-    ∷ ok (allocate (request (nm (0xE9 ∷ [])) (attr 12) 0 0 3 0)) 0x302000900020001000100000000000000000000000000 0xD30EF36DA8A5B9F
+    ∷ ok (allocate (request (nm (0xE9 ∷ [])) (attr 12) 0 0 3 0 0)) 0x302000900020001000100000000000000000000000000 0xD30EF36DA8A5B9F
     ∷ []
 
 pub case3 : T (right [] sequence3)
@@ -128,11 +128,11 @@ abbrev pub sequence4 : List Row
 sequence4 =
     begin 6 4 3 10 2 0 0x19690CAC96DDAEB7
     ∷ ok lspace 0x500010002000300000004000000000000000000000000 0x19690CAC96DDAEB7
-    ∷ ok (allocate (request (nm (0xC3 ∷ 0xE8 ∷ 0xD3 ∷ [])) (attr 2) 1 0 1 1)) 0x401000400040000000000000000000000000000000000 0xC8F3FF997441516
-    ∷ no (allocate (request (nm (0xC1 ∷ 0xC2 ∷ 0xE2 ∷ [])) (attr 3) 2 9 2 0)) 9
-    ∷ ok (allocate (request (nm (0xC1 ∷ 0xC2 ∷ 0xE2 ∷ [])) (attr 4) 2 9 1 0)) 0x101000900010000000000000000000000000000000000 0x6FA8A7D940CE03C
-    ∷ ok (allocate (request (nm (0xC1 ∷ [])) (attr 5) 0 0 3 0)) 0x301000100030000000000000000000000000000000000 0x1C0C4A04CAF6C361
-    ∷ ok (allocate (request (nm (0xC2 ∷ [])) (attr 6) 2 12 1 0)) 0x101000C00010000000000000000000000000000000000 0x188F62F8BC2F4E25
+    ∷ ok (allocate (request (nm (0xC3 ∷ 0xE8 ∷ 0xD3 ∷ [])) (attr 2) 1 0 1 1 0)) 0x401000400040000000000000000000000000000000000 0xC8F3FF997441516
+    ∷ no (allocate (request (nm (0xC1 ∷ 0xC2 ∷ 0xE2 ∷ [])) (attr 3) 2 9 2 0 0)) 9
+    ∷ ok (allocate (request (nm (0xC1 ∷ 0xC2 ∷ 0xE2 ∷ [])) (attr 4) 2 9 1 0 0)) 0x101000900010000000000000000000000000000000000 0x6FA8A7D940CE03C
+    ∷ ok (allocate (request (nm (0xC1 ∷ [])) (attr 5) 0 0 3 0 0)) 0x301000100030000000000000000000000000000000000 0x1C0C4A04CAF6C361
+    ∷ ok (allocate (request (nm (0xC2 ∷ [])) (attr 6) 2 12 1 0 0)) 0x101000C00010000000000000000000000000000000000 0x188F62F8BC2F4E25
     ∷ ok (scratch (nm (0xC1 ∷ []))) 0x300000000000000000000000000000000000000000000 0xB0DC3A421973562
     ∷ ok (extend (nm (0xC3 ∷ 0xE8 ∷ 0xD3 ∷ []))) 0x401001000040000000000000000000000000000000000 0x15DB5C1C6BBA4B56
     ∷ ok (scratch (nm (0xC3 ∷ 0xE8 ∷ 0xD3 ∷ []))) 0x800000000000000000000000000000000000000000000 0x1321E4577B8FA6BF
@@ -150,10 +150,10 @@ abbrev pub sequence5 : List Row
 sequence5 =
     begin 4 1 1 1 3 0 0x4F420B836C000B7
     ∷ ok lspace 0x1000000000000000000000000 0x4F420B836C000B7
-    ∷ no (allocate (request (nm (0xC1 ∷ [])) (attr 2) 0 0 1 0)) 9
-    ∷ no (allocate (request (nm (0xC1 ∷ [])) (attr 3) 2 0 1 0)) 9
+    ∷ no (allocate (request (nm (0xC1 ∷ [])) (attr 2) 0 0 1 0 0)) 9
+    ∷ no (allocate (request (nm (0xC1 ∷ [])) (attr 3) 2 0 1 0 0)) 9
     ∷ begin 2 3 4 1 1 0 0x7BB452939692662
-    ∷ ok (allocate (request (nm (0xC1 ∷ [])) (attr 5) 0 0 4 0)) 0x401000200040000000000000000000000000000000000 0x1DF433A569FE1C35
+    ∷ ok (allocate (request (nm (0xC1 ∷ [])) (attr 5) 0 0 4 0 0)) 0x401000200040000000000000000000000000000000000 0x1DF433A569FE1C35
     ∷ ok lspace 0x1000000000000000000000000 0x1DF433A569FE1C35
     ∷ ok (release (nm (0xC1 ∷ [])) 0x301) 0x0 0x2E48D8778667BD8
     ∷ ok (release (nm (0xC1 ∷ [])) 0x0) 0x300000000000000000000000000000000000000000000 0x13151C45312B599C
@@ -168,8 +168,8 @@ case5 = tt
 abbrev pub sequence6 : List Row
 sequence6 =
     begin 5 4 3 1 1 0 0x81D3C6547556D5E
-    ∷ ok (allocate (request (nm (0xC1 ∷ [])) (attr 1) 0 0 1 1)) 0x101000200010000000000000000000000000000000000 0xBBA6FE782B3B8D5
-    ∷ no (allocate (request (nm (0xC2 ∷ [])) (attr 2) 0 0 1 0)) 11
+    ∷ ok (allocate (request (nm (0xC1 ∷ [])) (attr 1) 0 0 1 1 0)) 0x101000200010000000000000000000000000000000000 0xBBA6FE782B3B8D5
+    ∷ no (allocate (request (nm (0xC2 ∷ [])) (attr 2) 0 0 1 0 0)) 11
     ∷ ok (extend (nm (0xC1 ∷ []))) 0x101000300010000000000000000000000000000000000 0x17B2B0A23C5B6D8E
     ∷ ok (extend (nm (0xC1 ∷ []))) 0x101000400010000000000000000000000000000000000 0x751B4F73B47406F
     ∷ no (extend (nm (0xC1 ∷ []))) 11
@@ -177,7 +177,7 @@ sequence6 =
     ∷ ok (extend (nm (0xC1 ∷ []))) 0x101000400010000000000000000000000000000000000 0xE8F4414E9F7F611
     ∷ ok (rename (nm (0xC1 ∷ [])) (nm (0xC2 ∷ []))) 0x0 0x520755D900E70BF
     ∷ ok (scratch (nm (0xC2 ∷ []))) 0x300000000000000000000000000000000000000000000 0x81D3C6547556D5E
-    ∷ ok (allocate (request (nm (0xC2 ∷ [])) (attr 10) 1 0 4 0)) 0x1001000400100000000000000000000000000000000000 0x94A331FA03D2ED9
+    ∷ ok (allocate (request (nm (0xC2 ∷ [])) (attr 10) 1 0 4 0 0)) 0x1001000400100000000000000000000000000000000000 0x94A331FA03D2ED9
     ∷ []
 
 pub case6 : T (right [] sequence6)
@@ -189,14 +189,14 @@ case6 = tt
 abbrev pub sequence7 : List Row
 sequence7 =
     begin 10 3 2 5 4 0 0x8C69A6541764AA6
-    ∷ ok (allocate (request (nm (0xC1 ∷ [])) (attr 1) 0 0 1 0)) 0x101000100010000000000000000000000000000000000 0x1A8123963EB6A73B
-    ∷ ok (allocate (request (nm (0xC2 ∷ [])) (attr 2) 0 0 1 0)) 0x101000200010000000000000000000000000000000000 0x1C8F4EE237708EF4
-    ∷ ok (allocate (request (nm (0xC3 ∷ [])) (attr 3) 0 0 1 0)) 0x101000300010000000000000000000000000000000000 0x1B610D11C8077852
-    ∷ ok (allocate (request (nm (0xC4 ∷ [])) (attr 4) 0 0 1 0)) 0x101000400010000000000000000000000000000000000 0x2246E900A376A72
+    ∷ ok (allocate (request (nm (0xC1 ∷ [])) (attr 1) 0 0 1 0 0)) 0x101000100010000000000000000000000000000000000 0x1A8123963EB6A73B
+    ∷ ok (allocate (request (nm (0xC2 ∷ [])) (attr 2) 0 0 1 0 0)) 0x101000200010000000000000000000000000000000000 0x1C8F4EE237708EF4
+    ∷ ok (allocate (request (nm (0xC3 ∷ [])) (attr 3) 0 0 1 0 0)) 0x101000300010000000000000000000000000000000000 0x1B610D11C8077852
+    ∷ ok (allocate (request (nm (0xC4 ∷ [])) (attr 4) 0 0 1 0 0)) 0x101000400010000000000000000000000000000000000 0x2246E900A376A72
     ∷ ok (scratch (nm (0xC2 ∷ []))) 0x100000000000000000000000000000000000000000000 0x565679874837B0A
     ∷ ok (scratch (nm (0xC4 ∷ []))) 0x100000000000000000000000000000000000000000000 0x2E4CC5C5724B5E3
-    ∷ ok (allocate (request (nm (0xC5 ∷ [])) (attr 7) 0 0 2 0)) 0x201000900020000000000000000000000000000000000 0x151979EB478193CB
-    ∷ ok (allocate (request (nm (0xC6 ∷ [])) (attr 8) 0 0 1 0)) 0x101000200010000000000000000000000000000000000 0x1801E9A9C7E5221
+    ∷ ok (allocate (request (nm (0xC5 ∷ [])) (attr 7) 0 0 2 0 0)) 0x201000900020000000000000000000000000000000000 0x151979EB478193CB
+    ∷ ok (allocate (request (nm (0xC6 ∷ [])) (attr 8) 0 0 1 0 0)) 0x101000200010000000000000000000000000000000000 0x1801E9A9C7E5221
     ∷ ok (scratch (nm (0xC6 ∷ []))) 0x100000000000000000000000000000000000000000000 0x151979EB478193CB
     ∷ []
 
@@ -209,17 +209,17 @@ case7 = tt
 abbrev pub sequence8 : List Row
 sequence8 =
     begin 32 1 8 1 2 0 0x1DE31740506D0884
-    ∷ ok (allocate (request (nm (0xE6 ∷ 0xF0 ∷ [])) (attr 1) 2 8 1 0)) 0x101000800010000000000000000000000000000000000 0xD055FD452E629C2
-    ∷ ok (allocate (request (nm (0xE6 ∷ 0xF1 ∷ [])) (attr 2) 2 12 1 0)) 0x101000C00010000000000000000000000000000000000 0x3DC93444893AB54
-    ∷ ok (allocate (request (nm (0xE6 ∷ 0xF2 ∷ [])) (attr 3) 2 17 1 0)) 0x101001100010000000000000000000000000000000000 0xD3340DC327AD61F
-    ∷ ok (allocate (request (nm (0xE6 ∷ 0xF3 ∷ [])) (attr 4) 2 21 1 0)) 0x101001500010000000000000000000000000000000000 0xD7AD3C743267959
-    ∷ ok (allocate (request (nm (0xE6 ∷ 0xF4 ∷ [])) (attr 5) 2 31 1 0)) 0x101001F00010000000000000000000000000000000000 0x12E0C607EFCB17E8
-    ∷ ok (allocate (request (nm (0xC1 ∷ [])) (attr 6) 0 0 2 0)) 0x201000900020000000000000000000000000000000000 0x14E080E597AA19DF
-    ∷ ok (allocate (request (nm (0xC2 ∷ [])) (attr 7) 0 0 1 0)) 0x101000B00010000000000000000000000000000000000 0x10591384E2165EE4
-    ∷ ok (allocate (request (nm (0xC3 ∷ [])) (attr 8) 0 0 3 0)) 0x301001200030000000000000000000000000000000000 0xCB0E86950CD0290
-    ∷ ok (allocate (request (nm (0xC4 ∷ [])) (attr 9) 0 0 5 0)) 0x501000300050000000000000000000000000000000000 0xF72A7751C9639DF
-    ∷ ok (allocate (request (nm (0xC5 ∷ [])) (attr 10) 0 0 6 0)) 0x601001600060000000000000000000000000000000000 0x1E1C6F07800BF08A
-    ∷ ok (allocate (request (nm (0xC6 ∷ [])) (attr 11) 0 0 7 0)) 0x702000D0004001C000300000000000000000000000000 0x747E8E810B649E4
+    ∷ ok (allocate (request (nm (0xE6 ∷ 0xF0 ∷ [])) (attr 1) 2 8 1 0 0)) 0x101000800010000000000000000000000000000000000 0xD055FD452E629C2
+    ∷ ok (allocate (request (nm (0xE6 ∷ 0xF1 ∷ [])) (attr 2) 2 12 1 0 0)) 0x101000C00010000000000000000000000000000000000 0x3DC93444893AB54
+    ∷ ok (allocate (request (nm (0xE6 ∷ 0xF2 ∷ [])) (attr 3) 2 17 1 0 0)) 0x101001100010000000000000000000000000000000000 0xD3340DC327AD61F
+    ∷ ok (allocate (request (nm (0xE6 ∷ 0xF3 ∷ [])) (attr 4) 2 21 1 0 0)) 0x101001500010000000000000000000000000000000000 0xD7AD3C743267959
+    ∷ ok (allocate (request (nm (0xE6 ∷ 0xF4 ∷ [])) (attr 5) 2 31 1 0 0)) 0x101001F00010000000000000000000000000000000000 0x12E0C607EFCB17E8
+    ∷ ok (allocate (request (nm (0xC1 ∷ [])) (attr 6) 0 0 2 0 0)) 0x201000900020000000000000000000000000000000000 0x14E080E597AA19DF
+    ∷ ok (allocate (request (nm (0xC2 ∷ [])) (attr 7) 0 0 1 0 0)) 0x101000B00010000000000000000000000000000000000 0x10591384E2165EE4
+    ∷ ok (allocate (request (nm (0xC3 ∷ [])) (attr 8) 0 0 3 0 0)) 0x301001200030000000000000000000000000000000000 0xCB0E86950CD0290
+    ∷ ok (allocate (request (nm (0xC4 ∷ [])) (attr 9) 0 0 5 0 0)) 0x501000300050000000000000000000000000000000000 0xF72A7751C9639DF
+    ∷ ok (allocate (request (nm (0xC5 ∷ [])) (attr 10) 0 0 6 0 0)) 0x601001600060000000000000000000000000000000000 0x1E1C6F07800BF08A
+    ∷ ok (allocate (request (nm (0xC6 ∷ [])) (attr 11) 0 0 7 0 0)) 0x702000D0004001C000300000000000000000000000000 0x747E8E810B649E4
     ∷ []
 
 pub case8 : T (right [] sequence8)
@@ -231,18 +231,18 @@ case8 = tt
 abbrev pub sequence9 : List Row
 sequence9 =
     begin 28 1 6 1 2 0 0x5492E63E7AAEC6D
-    ∷ ok (allocate (request (nm (0xE6 ∷ 0xF0 ∷ [])) (attr 1) 2 5 1 0)) 0x101000500010000000000000000000000000000000000 0x1F06F40E89E65A3F
-    ∷ ok (allocate (request (nm (0xE6 ∷ 0xF1 ∷ [])) (attr 2) 2 11 1 0)) 0x101000B00010000000000000000000000000000000000 0x1FD6589457679208
-    ∷ ok (allocate (request (nm (0xE6 ∷ 0xF2 ∷ [])) (attr 3) 2 15 1 0)) 0x101000F00010000000000000000000000000000000000 0x8662C02B3D2559C
-    ∷ ok (allocate (request (nm (0xE6 ∷ 0xF3 ∷ [])) (attr 4) 2 21 1 0)) 0x101001500010000000000000000000000000000000000 0x1E98C3D0277FB8BE
-    ∷ ok (allocate (request (nm (0xE6 ∷ 0xF4 ∷ [])) (attr 5) 2 25 1 0)) 0x101001900010000000000000000000000000000000000 0x1F2819E39ED95B80
-    ∷ ok (allocate (request (nm (0xE6 ∷ 0xF5 ∷ [])) (attr 6) 2 27 1 0)) 0x101001B00010000000000000000000000000000000000 0x20C9EE8207F736
-    ∷ ok (allocate (request (nm (0xD7 ∷ 0xC9 ∷ 0xC5 ∷ 0xC3 ∷ 0xC5 ∷ 0xE2 ∷ [])) (attr 7) 0 0 11 0)) 0xB030006000500100005000C0001000000000000000000 0x2D15A6471CCD721
+    ∷ ok (allocate (request (nm (0xE6 ∷ 0xF0 ∷ [])) (attr 1) 2 5 1 0 0)) 0x101000500010000000000000000000000000000000000 0x1F06F40E89E65A3F
+    ∷ ok (allocate (request (nm (0xE6 ∷ 0xF1 ∷ [])) (attr 2) 2 11 1 0 0)) 0x101000B00010000000000000000000000000000000000 0x1FD6589457679208
+    ∷ ok (allocate (request (nm (0xE6 ∷ 0xF2 ∷ [])) (attr 3) 2 15 1 0 0)) 0x101000F00010000000000000000000000000000000000 0x8662C02B3D2559C
+    ∷ ok (allocate (request (nm (0xE6 ∷ 0xF3 ∷ [])) (attr 4) 2 21 1 0 0)) 0x101001500010000000000000000000000000000000000 0x1E98C3D0277FB8BE
+    ∷ ok (allocate (request (nm (0xE6 ∷ 0xF4 ∷ [])) (attr 5) 2 25 1 0 0)) 0x101001900010000000000000000000000000000000000 0x1F2819E39ED95B80
+    ∷ ok (allocate (request (nm (0xE6 ∷ 0xF5 ∷ [])) (attr 6) 2 27 1 0 0)) 0x101001B00010000000000000000000000000000000000 0x20C9EE8207F736
+    ∷ ok (allocate (request (nm (0xD7 ∷ 0xC9 ∷ 0xC5 ∷ 0xC3 ∷ 0xC5 ∷ 0xE2 ∷ [])) (attr 7) 0 0 11 0 0)) 0xB030006000500100005000C0001000000000000000000 0x2D15A6471CCD721
     ∷ ok (scratch (nm (0xD7 ∷ 0xC9 ∷ 0xC5 ∷ 0xC3 ∷ 0xC5 ∷ 0xE2 ∷ []))) 0xB00000000000000000000000000000000000000000000 0x20C9EE8207F736
-    ∷ ok (allocate (request (nm (0xD7 ∷ 0xC9 ∷ 0xC5 ∷ 0xC3 ∷ 0xC5 ∷ 0xE2 ∷ [])) (attr 9) 0 0 16 0)) 0x10040006000500100005000C0003001600030000000000 0xD90AA87E52B65E4
+    ∷ ok (allocate (request (nm (0xD7 ∷ 0xC9 ∷ 0xC5 ∷ 0xC3 ∷ 0xC5 ∷ 0xE2 ∷ [])) (attr 9) 0 0 16 0 0)) 0x10040006000500100005000C0003001600030000000000 0xD90AA87E52B65E4
     ∷ ok (scratch (nm (0xD7 ∷ 0xC9 ∷ 0xC5 ∷ 0xC3 ∷ 0xC5 ∷ 0xE2 ∷ []))) 0x1000000000000000000000000000000000000000000000 0x20C9EE8207F736
-    ∷ no (allocate (request (nm (0xD7 ∷ 0xC9 ∷ 0xC5 ∷ 0xC3 ∷ 0xC5 ∷ 0xE2 ∷ [])) (attr 11) 0 0 19 0)) 9
-    ∷ ok (allocate (request (nm (0xD7 ∷ 0xC9 ∷ 0xC5 ∷ 0xC3 ∷ 0xC5 ∷ 0xE2 ∷ [])) (attr 12) 0 0 18 0)) 0x12050006000500100005000C0003001600030003000200 0x4DEA0F9EC123077
+    ∷ no (allocate (request (nm (0xD7 ∷ 0xC9 ∷ 0xC5 ∷ 0xC3 ∷ 0xC5 ∷ 0xE2 ∷ [])) (attr 11) 0 0 19 0 0)) 9
+    ∷ ok (allocate (request (nm (0xD7 ∷ 0xC9 ∷ 0xC5 ∷ 0xC3 ∷ 0xC5 ∷ 0xE2 ∷ [])) (attr 12) 0 0 18 0 0)) 0x12050006000500100005000C0003001600030003000200 0x4DEA0F9EC123077
     ∷ okLabels (obtain (nm (0xD7 ∷ 0xC9 ∷ 0xC5 ∷ 0xC3 ∷ 0xC5 ∷ 0xE2 ∷ []))) 0x0 0x4DEA0F9EC123077 0xCC5EBFAD5C070B6
     ∷ ok (release (nm (0xD7 ∷ 0xC9 ∷ 0xC5 ∷ 0xC3 ∷ 0xC5 ∷ 0xE2 ∷ [])) 0xC01) 0x500000000000000000000000000000000000000000000 0x16E615E16202AE98
     ∷ []
@@ -256,15 +256,15 @@ case9 = tt
 abbrev pub sequence10 : List Row
 sequence10 =
     begin 27 1 7 1 2 0 0x102D80480DAB4657
-    ∷ ok (allocate (request (nm (0xE2 ∷ 0xC5 ∷ 0xE3 ∷ 0xF0 ∷ [])) (attr 1) 0 0 1 9)) 0x101000300010000000000000000000000000000000000 0x141910A49FD429BB
-    ∷ ok (allocate (request (nm (0xE2 ∷ 0xC5 ∷ 0xE3 ∷ 0xF1 ∷ [])) (attr 2) 0 0 1 12)) 0x101000400010000000000000000000000000000000000 0x15C9C7BFEA9DE8E7
-    ∷ ok (allocate (request (nm (0xE2 ∷ 0xC5 ∷ 0xE3 ∷ 0xF2 ∷ [])) (attr 3) 0 0 1 14)) 0x101000500010000000000000000000000000000000000 0x1D052DD53969F4A0
-    ∷ ok (allocate (request (nm (0xE2 ∷ 0xC5 ∷ 0xE3 ∷ 0xF3 ∷ [])) (attr 4) 0 0 1 15)) 0x101000600010000000000000000000000000000000000 0x7ACD939BA79A5BE
-    ∷ ok (allocate (request (nm (0xE6 ∷ 0xF0 ∷ [])) (attr 5) 2 8 1 0)) 0x101000800010000000000000000000000000000000000 0x105148ED91C2467A
-    ∷ ok (allocate (request (nm (0xE6 ∷ 0xF1 ∷ [])) (attr 6) 2 11 1 0)) 0x101000B00010000000000000000000000000000000000 0xDF5330F3BF3FA4
-    ∷ ok (allocate (request (nm (0xE6 ∷ 0xF2 ∷ [])) (attr 7) 2 15 1 0)) 0x101000F00010000000000000000000000000000000000 0x30C23A857C58921
-    ∷ ok (allocate (request (nm (0xE6 ∷ 0xF3 ∷ [])) (attr 8) 2 20 1 0)) 0x101001400010000000000000000000000000000000000 0x37B2A2F88F058A2
-    ∷ ok (allocate (request (nm (0xE6 ∷ 0xF4 ∷ [])) (attr 9) 2 26 1 0)) 0x101001A00010000000000000000000000000000000000 0xA4E93D285003D9F
+    ∷ ok (allocate (request (nm (0xE2 ∷ 0xC5 ∷ 0xE3 ∷ 0xF0 ∷ [])) (attr 1) 0 0 1 9 0)) 0x101000300010000000000000000000000000000000000 0x141910A49FD429BB
+    ∷ ok (allocate (request (nm (0xE2 ∷ 0xC5 ∷ 0xE3 ∷ 0xF1 ∷ [])) (attr 2) 0 0 1 12 0)) 0x101000400010000000000000000000000000000000000 0x15C9C7BFEA9DE8E7
+    ∷ ok (allocate (request (nm (0xE2 ∷ 0xC5 ∷ 0xE3 ∷ 0xF2 ∷ [])) (attr 3) 0 0 1 14 0)) 0x101000500010000000000000000000000000000000000 0x1D052DD53969F4A0
+    ∷ ok (allocate (request (nm (0xE2 ∷ 0xC5 ∷ 0xE3 ∷ 0xF3 ∷ [])) (attr 4) 0 0 1 15 0)) 0x101000600010000000000000000000000000000000000 0x7ACD939BA79A5BE
+    ∷ ok (allocate (request (nm (0xE6 ∷ 0xF0 ∷ [])) (attr 5) 2 8 1 0 0)) 0x101000800010000000000000000000000000000000000 0x105148ED91C2467A
+    ∷ ok (allocate (request (nm (0xE6 ∷ 0xF1 ∷ [])) (attr 6) 2 11 1 0 0)) 0x101000B00010000000000000000000000000000000000 0xDF5330F3BF3FA4
+    ∷ ok (allocate (request (nm (0xE6 ∷ 0xF2 ∷ [])) (attr 7) 2 15 1 0 0)) 0x101000F00010000000000000000000000000000000000 0x30C23A857C58921
+    ∷ ok (allocate (request (nm (0xE6 ∷ 0xF3 ∷ [])) (attr 8) 2 20 1 0 0)) 0x101001400010000000000000000000000000000000000 0x37B2A2F88F058A2
+    ∷ ok (allocate (request (nm (0xE6 ∷ 0xF4 ∷ [])) (attr 9) 2 26 1 0 0)) 0x101001A00010000000000000000000000000000000000 0xA4E93D285003D9F
     ∷ ok (extend (nm (0xE2 ∷ 0xC5 ∷ 0xE3 ∷ 0xF0 ∷ []))) 0x902001500050010000400000000000000000000000000 0x703E566E579D8DF
     ∷ no (extend (nm (0xE2 ∷ 0xC5 ∷ 0xE3 ∷ 0xF0 ∷ []))) 9
     ∷ ok (release (nm (0xE2 ∷ 0xC5 ∷ 0xE3 ∷ 0xF0 ∷ [])) 0x1) 0x900000000000000000000000000000000000000000000 0xCACED7CF292561A
@@ -286,7 +286,7 @@ case10 = tt
 abbrev pub sequence11 : List Row
 sequence11 =
     begin 20 1 4 1 1 0 0x156C66EDB8C54725
-    ∷ ok (allocate (request (nm (0xC1 ∷ [])) (attr 1) 0 0 1 1)) 0x101000200010000000000000000000000000000000000 0x92307D0785E4D0A
+    ∷ ok (allocate (request (nm (0xC1 ∷ [])) (attr 1) 0 0 1 1 0)) 0x101000200010000000000000000000000000000000000 0x92307D0785E4D0A
     ∷ ok (extend (nm (0xC1 ∷ []))) 0x101000300010000000000000000000000000000000000 0xDC4BCD22089A3DE
     ∷ ok (extend (nm (0xC1 ∷ []))) 0x101000400010000000000000000000000000000000000 0x1926EDC399771DE1
     ∷ ok (extend (nm (0xC1 ∷ []))) 0x101000500010000000000000000000000000000000000 0x1E76677625ABFCFB
@@ -316,54 +316,129 @@ case11 = tt
 abbrev pub sequence12 : List Row
 sequence12 =
     begin 15 4 7 1 2 0 0xA84BC0082D31F81
-    ∷ ok (allocate (request (nm (0xE6 ∷ 0xF0 ∷ [])) (attr 1) 2 3 2 0)) 0x201000300020000000000000000000000000000000000 0x2DAD70A999698E5
-    ∷ ok (allocate (request (nm (0xE6 ∷ 0xF1 ∷ [])) (attr 2) 2 12 4 0)) 0x401000C00040000000000000000000000000000000000 0x136D208E969D6DFF
-    ∷ ok (allocate (request (nm (0xE6 ∷ 0xF2 ∷ [])) (attr 3) 2 20 5 0)) 0x501001400050000000000000000000000000000000000 0x1BF4C840965F553D
-    ∷ ok (allocate (request (nm (0xE6 ∷ 0xF3 ∷ [])) (attr 4) 2 36 4 0)) 0x401002400040000000000000000000000000000000000 0x10DBCAF42CB8D2F7
-    ∷ ok (allocate (request (nm (0xE6 ∷ 0xF4 ∷ [])) (attr 5) 2 48 2 0)) 0x201003000020000000000000000000000000000000000 0x6B4A3FEAF7F1208
-    ∷ ok (allocate (request (nm (0xE6 ∷ 0xF5 ∷ [])) (attr 6) 2 55 5 0)) 0x501003700050000000000000000000000000000000000 0x44A942CE8688B90
-    ∷ no (allocate (request (nm (0xC1 ∷ [])) (attr 7) 1 0 7 0)) 9
-    ∷ ok (allocate (request (nm (0xC1 ∷ [])) (attr 8) 1 0 6 1)) 0x1804001C00080028000800080004001000040000000000 0x1B47650F1B19DCEC
+    ∷ ok (allocate (request (nm (0xE6 ∷ 0xF0 ∷ [])) (attr 1) 2 3 2 0 0)) 0x201000300020000000000000000000000000000000000 0x2DAD70A999698E5
+    ∷ ok (allocate (request (nm (0xE6 ∷ 0xF1 ∷ [])) (attr 2) 2 12 4 0 0)) 0x401000C00040000000000000000000000000000000000 0x136D208E969D6DFF
+    ∷ ok (allocate (request (nm (0xE6 ∷ 0xF2 ∷ [])) (attr 3) 2 20 5 0 0)) 0x501001400050000000000000000000000000000000000 0x1BF4C840965F553D
+    ∷ ok (allocate (request (nm (0xE6 ∷ 0xF3 ∷ [])) (attr 4) 2 36 4 0 0)) 0x401002400040000000000000000000000000000000000 0x10DBCAF42CB8D2F7
+    ∷ ok (allocate (request (nm (0xE6 ∷ 0xF4 ∷ [])) (attr 5) 2 48 2 0 0)) 0x201003000020000000000000000000000000000000000 0x6B4A3FEAF7F1208
+    ∷ ok (allocate (request (nm (0xE6 ∷ 0xF5 ∷ [])) (attr 6) 2 55 5 0 0)) 0x501003700050000000000000000000000000000000000 0x44A942CE8688B90
+    ∷ no (allocate (request (nm (0xC1 ∷ [])) (attr 7) 1 0 7 0 0)) 9
+    ∷ ok (allocate (request (nm (0xC1 ∷ [])) (attr 8) 1 0 6 1 0)) 0x1804001C00080028000800080004001000040000000000 0x1B47650F1B19DCEC
     ∷ no (extend (nm (0xC1 ∷ []))) 9
     ∷ ok (release (nm (0xC1 ∷ [])) 0x1301) 0x400000000000000000000000000000000000000000000 0x73C4F2BB80E5B72
     ∷ ok (extend (nm (0xC1 ∷ []))) 0x401001000040000000000000000000000000000000000 0x1EBB427AA992C495
     ∷ ok (release (nm (0xC1 ∷ [])) 0x901) 0xE00000000000000000000000000000000000000000000 0x16C041A02215235C
-    ∷ ok (allocate (request (nm (0xC2 ∷ [])) (attr 13) 1 0 1 0)) 0x401000800040000000000000000000000000000000000 0x17DEA606DC1AC140
-    ∷ ok (allocate (request (nm (0xC3 ∷ [])) (attr 14) 1 0 2 0)) 0x80200100004002C000400000000000000000000000000 0x1914D57B2151FE89
+    ∷ ok (allocate (request (nm (0xC2 ∷ [])) (attr 13) 1 0 1 0 0)) 0x401000800040000000000000000000000000000000000 0x17DEA606DC1AC140
+    ∷ ok (allocate (request (nm (0xC3 ∷ [])) (attr 14) 1 0 2 0 0)) 0x80200100004002C000400000000000000000000000000 0x1914D57B2151FE89
     ∷ []
 
 pub case12 : T (right [] sequence12)
 unfolding held gaps free used unused format0s choose extentPart format4 format5 format1 format3 records encode readGeometry readExtents readLabel readRecords read goodName limits goodLabel valid taken goodLength settle grant rule goodLengths perform initialise printable listing
 case12 = tt
 
--- Absolute tracks in every place of a free extent
+-- CONTIG, MXIG and ALX of tracks
 
 abbrev pub sequence13 : List Row
 sequence13 =
-    begin 4 5 5 1 2 0 0x1A5E83DFF644553
-    ∷ ok (allocate (request (nm (0xD4 ∷ 0xC9 ∷ 0xC4 ∷ 0xC4 ∷ 0xD3 ∷ 0xC5 ∷ [])) (attr 1) 2 8 3 0)) 0x301000800030000000000000000000000000000000000 0x1DC2109796AFE179
-    ∷ ok (allocate (request (nm (0xC6 ∷ 0xD9 ∷ 0xD6 ∷ 0xD5 ∷ 0xE3 ∷ [])) (attr 2) 2 3 2 0)) 0x201000300020000000000000000000000000000000000 0x123C6314CE332051
-    ∷ ok (allocate (request (nm (0xE3 ∷ 0xC1 ∷ 0xC9 ∷ 0xD3 ∷ [])) (attr 3) 2 18 2 0)) 0x201001200020000000000000000000000000000000000 0x14FA2EA87DF7529F
-    ∷ ok (allocate (request (nm (0xE6 ∷ 0xC8 ∷ 0xD6 ∷ 0xD3 ∷ 0xC5 ∷ [])) (attr 4) 2 5 3 0)) 0x301000500030000000000000000000000000000000000 0x3494C3A0B9C6234
-    ∷ no (allocate (request (nm (0xE7 ∷ [])) (attr 5) 2 10 2 0)) 9
-    ∷ no (allocate (request (nm (0xE7 ∷ [])) (attr 6) 2 17 2 0)) 9
-    ∷ no (allocate (request (nm (0xE7 ∷ [])) (attr 7) 2 0 20 0)) 9
-    ∷ no (extend (nm (0xE6 ∷ 0xC8 ∷ 0xD6 ∷ 0xD3 ∷ 0xC5 ∷ []))) 8
-    ∷ ok (scratch (nm (0xD4 ∷ 0xC9 ∷ 0xC4 ∷ 0xC4 ∷ 0xD3 ∷ 0xC5 ∷ []))) 0x300000000000000000000000000000000000000000000 0x7BBDF579CC96A4E
-    ∷ ok (release (nm (0xE6 ∷ 0xC8 ∷ 0xD6 ∷ 0xD3 ∷ 0xC5 ∷ [])) 0x101) 0x100000000000000000000000000000000000000000000 0xD3FBF9E0E3FE178
-    ∷ ok (allocate (request (nm (0xE7 ∷ [])) (attr 11) 2 7 11 0)) 0xB010007000B0000000000000000000000000000000000 0x18F170E7F135AEB0
+    begin 31 1 6 1 2 0 0x1F24C8886BE88DF4
+    ∷ ok (allocate (request (nm (0xE6 ∷ 0xF0 ∷ [])) (attr 1) 2 6 1 0 0)) 0x101000600010000000000000000000000000000000000 0x82E7402E0EE8DFF
+    ∷ ok (allocate (request (nm (0xE6 ∷ 0xF1 ∷ [])) (attr 2) 2 12 1 0 0)) 0x101000C00010000000000000000000000000000000000 0xD85A08315B08EEE
+    ∷ ok (allocate (request (nm (0xE6 ∷ 0xF2 ∷ [])) (attr 3) 2 16 1 0 0)) 0x101001000010000000000000000000000000000000000 0x1920F9D2E9829D8D
+    ∷ ok (allocate (request (nm (0xE6 ∷ 0xF3 ∷ [])) (attr 4) 2 22 1 0 0)) 0x101001600010000000000000000000000000000000000 0x1C2BF6803DC0AD15
+    ∷ ok (allocate (request (nm (0xE6 ∷ 0xF4 ∷ [])) (attr 5) 2 26 1 0 0)) 0x101001A00010000000000000000000000000000000000 0x175A309E5518C310
+    ∷ ok (allocate (request (nm (0xE6 ∷ 0xF5 ∷ [])) (attr 6) 2 30 1 0 0)) 0x101001E00010000000000000000000000000000000000 0x224C9BBAB9FEF7D
+    ∷ no (allocate (request (nm (0xC1 ∷ [])) (attr 7) 0 0 6 0 1)) 9
+    ∷ no (allocate (request (nm (0xC1 ∷ [])) (attr 8) 0 0 6 0 2)) 9
+    ∷ no (allocate (request (nm (0xC1 ∷ [])) (attr 9) 0 0 6 0 3)) 9
+    ∷ ok (allocate (request (nm (0xC1 ∷ [])) (attr 10) 0 0 3 0 3)) 0x1305000700050011000500030003000D00030017000300 0x93B3F5634B6B083
+    ∷ okLabels (obtain (nm (0xC1 ∷ []))) 0x0 0x93B3F5634B6B083 0x19EEB0206B1B525E
+    ∷ ok (scratch (nm (0xC1 ∷ []))) 0x1300000000000000000000000000000000000000000000 0x224C9BBAB9FEF7D
+    ∷ ok (allocate (request (nm (0xC1 ∷ [])) (attr 13) 0 0 2 4 2)) 0x501000700050000000000000000000000000000000000 0x197AE6D7F37915C5
+    ∷ ok (allocate (request (nm (0xC2 ∷ [])) (attr 14) 0 0 5 0 2)) 0x501001100050000000000000000000000000000000000 0x18F27DBF5C1A5B5
+    ∷ ok (allocate (request (nm (0xC3 ∷ [])) (attr 15) 0 0 1 0 3)) 0xC0400030003000D000300170003001B00030000000000 0x185A8A08D86B213E
+    ∷ ok (scratch (nm (0xC3 ∷ []))) 0xC00000000000000000000000000000000000000000000 0x18F27DBF5C1A5B5
+    ∷ ok (allocate (request (nm (0xC3 ∷ [])) (attr 17) 0 0 2 0 1)) 0x201000300020000000000000000000000000000000000 0x2A521AB0688AC65
+    ∷ no (allocate (request (nm (0xC4 ∷ [])) (attr 18) 0 0 1 0 3)) 11
+    ∷ ok (allocate (request (nm (0xC4 ∷ [])) (attr 19) 0 0 2 0 3)) 0x903000D000300170003001B0003000000000000000000 0xC6B0840FC17A430
+    ∷ no (allocate (request (nm (0xC5 ∷ [])) (attr 20) 0 0 1 0 3)) 11
+    ∷ ok (scratch (nm (0xC4 ∷ []))) 0x900000000000000000000000000000000000000000000 0x2A521AB0688AC65
+    ∷ ok (allocate (request (nm (0xC4 ∷ [])) (attr 22) 0 0 3 0 1)) 0x301000D00030000000000000000000000000000000000 0x8538CF3FFFC4329
+    ∷ ok (extend (nm (0xC1 ∷ []))) 0x40200170003001B000100000000000000000000000000 0x90A3647A81303EF
+    ∷ ok (scratch (nm (0xC2 ∷ []))) 0x500000000000000000000000000000000000000000000 0x10147D9247A2C3F0
+    ∷ ok (allocate (request (nm (0xC2 ∷ [])) (attr 25) 0 0 3 0 3)) 0x501001100050000000000000000000000000000000000 0xF887B56B5CF7799
+    ∷ ok (scratch (nm (0xC2 ∷ []))) 0x500000000000000000000000000000000000000000000 0x10147D9247A2C3F0
+    ∷ ok (allocate (request (nm (0xC2 ∷ [])) (attr 27) 0 0 2 0 3)) 0x70200110005001C000200000000000000000000000000 0xECDB49B4082A1F
     ∷ []
 
 pub case13 : T (right [] sequence13)
 unfolding held gaps free used unused format0s choose extentPart format4 format5 format1 format3 records encode readGeometry readExtents readLabel readRecords read goodName limits goodLabel valid taken goodLength settle grant rule goodLengths perform initialise printable listing
 case13 = tt
 
--- Release inside and at the end of an extent, with and without its format 3
+-- CONTIG, MXIG and ALX of cylinders, never the rest of a free extent
 
 abbrev pub sequence14 : List Row
 sequence14 =
+    begin 16 3 7 1 2 0 0x14AF8B63850CAB34
+    ∷ ok (allocate (request (nm (0xE6 ∷ 0xF0 ∷ [])) (attr 1) 2 3 1 0 0)) 0x101000300010000000000000000000000000000000000 0xBB2F0E30FE1985
+    ∷ ok (allocate (request (nm (0xE6 ∷ 0xF1 ∷ [])) (attr 2) 2 11 1 0 0)) 0x101000B00010000000000000000000000000000000000 0x12A6F2C352CE47F4
+    ∷ ok (allocate (request (nm (0xE6 ∷ 0xF2 ∷ [])) (attr 3) 2 18 1 0 0)) 0x101001200010000000000000000000000000000000000 0xCB9D16AD7756776
+    ∷ ok (allocate (request (nm (0xE6 ∷ 0xF3 ∷ [])) (attr 4) 2 27 3 0 0)) 0x301001B00030000000000000000000000000000000000 0xC496D4C02B647B5
+    ∷ ok (allocate (request (nm (0xE6 ∷ 0xF4 ∷ [])) (attr 5) 2 33 2 0 0)) 0x201002100020000000000000000000000000000000000 0x1C403511912D2AA6
+    ∷ ok (allocate (request (nm (0xE6 ∷ 0xF5 ∷ [])) (attr 6) 2 41 1 0 0)) 0x101002900010000000000000000000000000000000000 0x10312413AB33257F
+    ∷ ok (allocate (request (nm (0xE6 ∷ 0xF6 ∷ [])) (attr 7) 2 46 2 0 0)) 0x201002E00020000000000000000000000000000000000 0x11C7760549BF6682
+    ∷ ok (allocate (request (nm (0xC1 ∷ [])) (attr 8) 1 0 1 0 3)) 0x1505000C00060015000600060003001E00030024000300 0xCCCBA62AC860375
+    ∷ ok (scratch (nm (0xC1 ∷ []))) 0x1500000000000000000000000000000000000000000000 0x11C7760549BF6682
+    ∷ ok (allocate (request (nm (0xC1 ∷ [])) (attr 10) 1 0 1 0 2)) 0x601000C00060000000000000000000000000000000000 0x83C320F01782FF3
+    ∷ ok (allocate (request (nm (0xC2 ∷ [])) (attr 11) 1 0 2 1 2)) 0x601001500060000000000000000000000000000000000 0x1E246975C11B46FF
+    ∷ no (allocate (request (nm (0xC3 ∷ [])) (attr 12) 1 0 2 0 1)) 9
+    ∷ no (allocate (request (nm (0xC3 ∷ [])) (attr 13) 1 0 2 0 2)) 9
+    ∷ no (allocate (request (nm (0xC3 ∷ [])) (attr 14) 1 0 2 0 3)) 9
+    ∷ ok (allocate (request (nm (0xC3 ∷ [])) (attr 15) 1 0 1 0 3)) 0xC0400060003001E000300240003002A00030000000000 0x15C1496CBF57B31C
+    ∷ ok (scratch (nm (0xC3 ∷ []))) 0xC00000000000000000000000000000000000000000000 0x1E246975C11B46FF
+    ∷ ok (allocate (request (nm (0xC3 ∷ [])) (attr 17) 1 0 1 0 1)) 0x301000600030000000000000000000000000000000000 0x75C735E123CE8E7
+    ∷ ok (allocate (request (nm (0xC4 ∷ [])) (attr 18) 1 0 1 0 3)) 0x903001E000300240003002A0003000000000000000000 0x15303F545655E01D
+    ∷ ok (release (nm (0xC2 ∷ [])) 0x201) 0x300000000000000000000000000000000000000000000 0x119982D488DA9D36
+    ∷ ok (extend (nm (0xC2 ∷ []))) 0x301001800030000000000000000000000000000000000 0xBF73D1DE0925667
+    ∷ ok (scratch (nm (0xC2 ∷ []))) 0x600000000000000000000000000000000000000000000 0x129CACF82B35EBEA
+    ∷ ok (allocate (request (nm (0xC2 ∷ [])) (attr 22) 1 0 1 0 1)) 0x301001500030000000000000000000000000000000000 0x4EE83E6D7D8FA1A
+    ∷ ok (allocate (request (nm (0xC5 ∷ [])) (attr 23) 1 0 1 0 3)) 0x301001800030000000000000000000000000000000000 0x820E0D150CC584F
+    ∷ ok (scratch (nm (0xC1 ∷ []))) 0x600000000000000000000000000000000000000000000 0xE107DB26B929512
+    ∷ ok (scratch (nm (0xC5 ∷ []))) 0x300000000000000000000000000000000000000000000 0x11D33AC2A6DFF5D5
+    ∷ ok (allocate (request (nm (0xC1 ∷ [])) (attr 26) 1 0 1 0 3)) 0x902000C00060018000300000000000000000000000000 0x1D128197F0315D
+    ∷ []
+
+pub case14 : T (right [] sequence14)
+unfolding held gaps free used unused format0s choose extentPart format4 format5 format1 format3 records encode readGeometry readExtents readLabel readRecords read goodName limits goodLabel valid taken goodLength settle grant rule goodLengths perform initialise printable listing
+case14 = tt
+
+-- Absolute tracks in every place of a free extent
+
+abbrev pub sequence15 : List Row
+sequence15 =
+    begin 4 5 5 1 2 0 0x1A5E83DFF644553
+    ∷ ok (allocate (request (nm (0xD4 ∷ 0xC9 ∷ 0xC4 ∷ 0xC4 ∷ 0xD3 ∷ 0xC5 ∷ [])) (attr 1) 2 8 3 0 0)) 0x301000800030000000000000000000000000000000000 0x1DC2109796AFE179
+    ∷ ok (allocate (request (nm (0xC6 ∷ 0xD9 ∷ 0xD6 ∷ 0xD5 ∷ 0xE3 ∷ [])) (attr 2) 2 3 2 0 0)) 0x201000300020000000000000000000000000000000000 0x123C6314CE332051
+    ∷ ok (allocate (request (nm (0xE3 ∷ 0xC1 ∷ 0xC9 ∷ 0xD3 ∷ [])) (attr 3) 2 18 2 0 0)) 0x201001200020000000000000000000000000000000000 0x14FA2EA87DF7529F
+    ∷ ok (allocate (request (nm (0xE6 ∷ 0xC8 ∷ 0xD6 ∷ 0xD3 ∷ 0xC5 ∷ [])) (attr 4) 2 5 3 0 0)) 0x301000500030000000000000000000000000000000000 0x3494C3A0B9C6234
+    ∷ no (allocate (request (nm (0xE7 ∷ [])) (attr 5) 2 10 2 0 0)) 9
+    ∷ no (allocate (request (nm (0xE7 ∷ [])) (attr 6) 2 17 2 0 0)) 9
+    ∷ no (allocate (request (nm (0xE7 ∷ [])) (attr 7) 2 0 20 0 0)) 9
+    ∷ no (extend (nm (0xE6 ∷ 0xC8 ∷ 0xD6 ∷ 0xD3 ∷ 0xC5 ∷ []))) 8
+    ∷ ok (scratch (nm (0xD4 ∷ 0xC9 ∷ 0xC4 ∷ 0xC4 ∷ 0xD3 ∷ 0xC5 ∷ []))) 0x300000000000000000000000000000000000000000000 0x7BBDF579CC96A4E
+    ∷ ok (release (nm (0xE6 ∷ 0xC8 ∷ 0xD6 ∷ 0xD3 ∷ 0xC5 ∷ [])) 0x101) 0x100000000000000000000000000000000000000000000 0xD3FBF9E0E3FE178
+    ∷ ok (allocate (request (nm (0xE7 ∷ [])) (attr 11) 2 7 11 0 0)) 0xB010007000B0000000000000000000000000000000000 0x18F170E7F135AEB0
+    ∷ []
+
+pub case15 : T (right [] sequence15)
+unfolding held gaps free used unused format0s choose extentPart format4 format5 format1 format3 records encode readGeometry readExtents readLabel readRecords read goodName limits goodLabel valid taken goodLength settle grant rule goodLengths perform initialise printable listing
+case15 = tt
+
+-- Release inside and at the end of an extent, with and without its format 3
+
+abbrev pub sequence16 : List Row
+sequence16 =
     begin 10 5 7 1 1 0 0x42DD2CC37093B3E
-    ∷ ok (allocate (request (nm (0xC1 ∷ [])) (attr 1) 1 0 2 1)) 0xA010005000A0000000000000000000000000000000000 0x1EAB8ADF15DAB898
+    ∷ ok (allocate (request (nm (0xC1 ∷ [])) (attr 1) 1 0 2 1 0)) 0xA010005000A0000000000000000000000000000000000 0x1EAB8ADF15DAB898
     ∷ ok (extend (nm (0xC1 ∷ []))) 0x501000F00050000000000000000000000000000000000 0x1EA24A606AB8FEE6
     ∷ ok (extend (nm (0xC1 ∷ []))) 0x501001400050000000000000000000000000000000000 0x184875596B1BB1D2
     ∷ ok (extend (nm (0xC1 ∷ []))) 0x501001900050000000000000000000000000000000000 0x113C81ED84A3DD70
@@ -380,18 +455,18 @@ sequence14 =
     ∷ ok (release (nm (0xC1 ∷ [])) 0x501) 0x0 0xA9FEC38758815FE
     ∷ []
 
-pub case14 : T (right [] sequence14)
+pub case16 : T (right [] sequence16)
 unfolding held gaps free used unused format0s choose extentPart format4 format5 format1 format3 records encode readGeometry readExtents readLabel readRecords read goodName limits goodLabel valid taken goodLength settle grant rule goodLengths perform initialise printable listing
-case14 = tt
+case16 = tt
 
 -- Lengths of every buffer
 
-abbrev pub sequence15 : List Row
-sequence15 =
+abbrev pub sequence17 : List Row
+sequence17 =
     begin 4 5 2 1 2 0 0x1D56B5422AF11817
-    ∷ ok (allocate (request (nm (0xC1 ∷ [])) (attr 1) 0 0 4 0)) 0x401000300040000000000000000000000000000000000 0xBEEBC1A27153530
-    ∷ ok (allocate (request (nm (0xC2 ∷ [])) (attr 2) 0 0 10 2)) 0xA010007000A0000000000000000000000000000000000 0x11ADBB01FF443CD5
-    ∷ sized 560 23 280 (allocate (request (nm (0xC2 ∷ [])) (attr 9) 0 0 1 0)) 2
+    ∷ ok (allocate (request (nm (0xC1 ∷ [])) (attr 1) 0 0 4 0 0)) 0x401000300040000000000000000000000000000000000 0xBEEBC1A27153530
+    ∷ ok (allocate (request (nm (0xC2 ∷ [])) (attr 2) 0 0 10 2 0)) 0xA010007000A0000000000000000000000000000000000 0x11ADBB01FF443CD5
+    ∷ sized 560 23 280 (allocate (request (nm (0xC2 ∷ [])) (attr 9) 0 0 1 0 0)) 2
     ∷ sized 561 24 280 (extend (nm (0xC2 ∷ []))) 2
     ∷ sized 560 25 280 (release (nm (0xC2 ∷ [])) 0x1) 2
     ∷ sized 559 24 280 (scratch (nm (0xC2 ∷ []))) 2
@@ -400,7 +475,7 @@ sequence15 =
     ∷ sized 560 25 280 lspace 2
     ∷ sized 420 24 280 lspace 3
     ∷ sized 700 24 280 (scratch (nm (0xC2 ∷ []))) 3
-    ∷ sized 560 24 280 (allocate (request (raw 43 (0xC2 ∷ [])) (attr 9) 0 0 1 0)) 2
+    ∷ sized 560 24 280 (allocate (request (raw 43 (0xC2 ∷ [])) (attr 9) 0 0 1 0 0)) 2
     ∷ sized 560 24 280 (extend (raw 45 (0xC2 ∷ []))) 2
     ∷ sized 560 24 280 (release (raw 0 []) 0x1) 2
     ∷ sized 560 24 280 (scratch (raw 88 (0xC2 ∷ []))) 2
@@ -408,30 +483,30 @@ sequence15 =
     ∷ sized 560 24 280 (obtain (raw 45 (0xC2 ∷ []))) 2
     ∷ sized 560 24 140 (obtain (nm (0xC2 ∷ []))) 2
     ∷ sized 560 24 281 (obtain (nm (0xC2 ∷ []))) 2
-    ∷ sized 560 24 280 (allocate (request (nm (0xC3 ∷ [])) (attrN 51 5) 0 0 1 0)) 2
-    ∷ sized 560 24 280 (allocate (request (nm (0xC3 ∷ [])) (attrN 53 5) 0 0 1 0)) 2
+    ∷ sized 560 24 280 (allocate (request (nm (0xC3 ∷ [])) (attrN 51 5) 0 0 1 0 0)) 2
+    ∷ sized 560 24 280 (allocate (request (nm (0xC3 ∷ [])) (attrN 53 5) 0 0 1 0 0)) 2
     ∷ sized 560 24 280 (rename (nm (0xC2 ∷ [])) (raw 40 (0xC3 ∷ []))) 2
     ∷ sized 560 24 0 (scratch (nm (0xC2 ∷ []))) 0
     ∷ []
 
-pub case15 : T (right [] sequence15)
+pub case17 : T (right [] sequence17)
 unfolding held gaps free used unused format0s choose extentPart format4 format5 format1 format3 records encode readGeometry readExtents readLabel readRecords read goodName limits goodLabel valid taken goodLength settle grant rule goodLengths perform initialise printable listing
-case15 = tt
+case17 = tt
 
 -- Names against the rule
 
-abbrev pub sequence16 : List Row
-sequence16 =
+abbrev pub sequence18 : List Row
+sequence18 =
     begin 4 5 2 1 2 0 0x1D56B5422AF11817
-    ∷ ok (allocate (request (nm (0xC1 ∷ [])) (attr 1) 0 0 4 0)) 0x401000300040000000000000000000000000000000000 0xBEEBC1A27153530
-    ∷ ok (allocate (request (nm (0xC2 ∷ [])) (attr 2) 0 0 10 2)) 0xA010007000A0000000000000000000000000000000000 0x11ADBB01FF443CD5
-    ∷ no (allocate (request (nm []) (attr 9) 0 0 1 0)) 4
+    ∷ ok (allocate (request (nm (0xC1 ∷ [])) (attr 1) 0 0 4 0 0)) 0x401000300040000000000000000000000000000000000 0xBEEBC1A27153530
+    ∷ ok (allocate (request (nm (0xC2 ∷ [])) (attr 2) 0 0 10 2 0)) 0xA010007000A0000000000000000000000000000000000 0x11ADBB01FF443CD5
+    ∷ no (allocate (request (nm []) (attr 9) 0 0 1 0 0)) 4
     ∷ no (extend (nm (0x40 ∷ 0xC1 ∷ []))) 4
     ∷ no (release (nm (0xF1 ∷ 0xC1 ∷ [])) 0x1) 4
     ∷ no (scratch (nm (0x60 ∷ 0xC1 ∷ []))) 4
     ∷ no (rename (nm (0x4B ∷ 0xC1 ∷ [])) (nm (0xD5 ∷ 0xC5 ∷ 0xE6 ∷ []))) 4
     ∷ no (obtain (nm (0xC1 ∷ 0x4B ∷ []))) 4
-    ∷ no (allocate (request (nm (0xC1 ∷ 0x4B ∷ 0x4B ∷ 0xC2 ∷ [])) (attr 9) 0 0 1 0)) 4
+    ∷ no (allocate (request (nm (0xC1 ∷ 0x4B ∷ 0x4B ∷ 0xC2 ∷ [])) (attr 9) 0 0 1 0 0)) 4
     ∷ no (extend (nm (0xC1 ∷ 0x4B ∷ 0xF1 ∷ 0xC2 ∷ []))) 4
     ∷ no (release (nm (0xC1 ∷ 0xC2 ∷ 0xC3 ∷ 0xC4 ∷ 0xC5 ∷ 0xC6 ∷ 0xC7 ∷ 0xC8 ∷ 0xC9 ∷ [])) 0x1) 4
     ∷ no (scratch (nm (0xC1 ∷ 0x40 ∷ 0xC2 ∷ []))) 4
@@ -445,52 +520,63 @@ sequence16 =
     ∷ ok (scratch (nm (0xC1 ∷ 0xC1 ∷ 0xC1 ∷ 0xC1 ∷ 0xC1 ∷ 0xC1 ∷ 0xC1 ∷ 0xC1 ∷ 0x4B ∷ 0xC1 ∷ 0xC1 ∷ 0xC1 ∷ 0xC1 ∷ 0xC1 ∷ 0xC1 ∷ 0xC1 ∷ 0xC1 ∷ 0x4B ∷ 0xC1 ∷ 0xC1 ∷ 0xC1 ∷ 0xC1 ∷ 0xC1 ∷ 0xC1 ∷ 0xC1 ∷ 0xC1 ∷ 0x4B ∷ 0xC1 ∷ 0xC1 ∷ 0xC1 ∷ 0xC1 ∷ 0xC1 ∷ 0xC1 ∷ 0xC1 ∷ 0xC1 ∷ 0x4B ∷ 0xC1 ∷ 0xC1 ∷ 0xC1 ∷ 0xC1 ∷ 0xC1 ∷ 0xC1 ∷ 0xC1 ∷ 0xC1 ∷ []))) 0xA00000000000000000000000000000000000000000000 0x116021D442B3CF39
     ∷ []
 
-pub case16 : T (right [] sequence16)
+pub case18 : T (right [] sequence18)
 unfolding held gaps free used unused format0s choose extentPart format4 format5 format1 format3 records encode readGeometry readExtents readLabel readRecords read goodName limits goodLabel valid taken goodLength settle grant rule goodLengths perform initialise printable listing
-case16 = tt
+case18 = tt
 
 -- Kinds, amounts and TTRs out of their ranges
 
-abbrev pub sequence17 : List Row
-sequence17 =
+abbrev pub sequence19 : List Row
+sequence19 =
     begin 4 5 2 1 2 0 0x1D56B5422AF11817
-    ∷ ok (allocate (request (nm (0xC1 ∷ [])) (attr 1) 0 0 4 0)) 0x401000300040000000000000000000000000000000000 0xBEEBC1A27153530
-    ∷ ok (allocate (request (nm (0xC2 ∷ [])) (attr 2) 0 0 10 2)) 0xA010007000A0000000000000000000000000000000000 0x11ADBB01FF443CD5
-    ∷ no (allocate (request (nm (0xC3 ∷ [])) (attr 3) 3 17 1 0)) 7
-    ∷ no (allocate (request (nm (0xC3 ∷ [])) (attr 4) 0 0 0 0)) 7
-    ∷ no (allocate (request (nm (0xC3 ∷ [])) (attr 5) 1 0 65536 0)) 7
-    ∷ no (allocate (request (nm (0xC3 ∷ [])) (attr 6) 0 0 1 16777216)) 7
-    ∷ no (allocate (request (nm (0xC3 ∷ [])) (attr 7) 0 0 65535 16777215)) 9
-    ∷ no (allocate (request (nm (0xC3 ∷ [])) (attr 8) 2 17 0 0)) 7
-    ∷ no (allocate (request (nm (0xC3 ∷ [])) (attr 9) 2 17 4 0)) 7
-    ∷ no (allocate (request (nm (0xC3 ∷ [])) (attr 10) 2 4294967295 4294967295 0)) 7
-    ∷ no (allocate (request (nm (0xC3 ∷ [])) (attr 11) 2 17 1 1)) 7
+    ∷ ok (allocate (request (nm (0xC1 ∷ [])) (attr 1) 0 0 4 0 0)) 0x401000300040000000000000000000000000000000000 0xBEEBC1A27153530
+    ∷ ok (allocate (request (nm (0xC2 ∷ [])) (attr 2) 0 0 10 2 0)) 0xA010007000A0000000000000000000000000000000000 0x11ADBB01FF443CD5
+    ∷ no (allocate (request (nm (0xC3 ∷ [])) (attr 3) 3 17 1 0 0)) 7
+    ∷ no (allocate (request (nm (0xC3 ∷ [])) (attr 4) 0 0 0 0 0)) 7
+    ∷ no (allocate (request (nm (0xC3 ∷ [])) (attr 5) 1 0 65536 0 0)) 7
+    ∷ no (allocate (request (nm (0xC3 ∷ [])) (attr 6) 0 0 1 16777216 0)) 7
+    ∷ no (allocate (request (nm (0xC3 ∷ [])) (attr 7) 0 0 65535 16777215 0)) 9
+    ∷ no (allocate (request (nm (0xC3 ∷ [])) (attr 8) 2 17 0 0 0)) 7
+    ∷ no (allocate (request (nm (0xC3 ∷ [])) (attr 9) 2 17 4 0 0)) 7
+    ∷ no (allocate (request (nm (0xC3 ∷ [])) (attr 10) 2 4294967295 4294967295 0 0)) 7
+    ∷ no (allocate (request (nm (0xC3 ∷ [])) (attr 11) 2 17 1 1 0)) 7
+    ∷ no (allocate (request (nm (0xC3 ∷ [])) (attr 12) 0 0 1 0 4)) 7
+    ∷ no (allocate (request (nm (0xC3 ∷ [])) (attr 13) 2 17 1 0 4)) 7
+    ∷ no (allocate (request (nm (0xC3 ∷ [])) (attr 14) 0 0 1 0 4294967295)) 7
+    ∷ no (allocate (request (nm (0xC3 ∷ [])) (attr 15) 2 17 1 0 4294967295)) 7
+    ∷ no (allocate (request (nm (0xC3 ∷ [])) (attr 16) 2 17 1 0 1)) 7
+    ∷ no (allocate (request (nm (0xC3 ∷ [])) (attr 17) 2 17 1 0 2)) 7
+    ∷ no (allocate (request (nm (0xC3 ∷ [])) (attr 18) 2 17 1 0 3)) 7
     ∷ no (release (nm (0xC2 ∷ [])) 0x1000001) 12
     ∷ no (release (nm (0xC2 ∷ [])) 0xFFFFFFFF) 12
     ∷ no (release (nm (0xC2 ∷ [])) 0xA01) 12
     ∷ no (release (nm (0xC2 ∷ [])) 0x100) 12
     ∷ ok (release (nm (0xC2 ∷ [])) 0x9FF) 0x0 0xD5FC9716E3DDD1
     ∷ ok (scratch (nm (0xC1 ∷ []))) 0x400000000000000000000000000000000000000000000 0x13F99DC00DB1FBBC
-    ∷ ok (allocate (request (nm (0xC3 ∷ [])) (attr 18) 0 4294967295 1 16777215)) 0x101001100010000000000000000000000000000000000 0x8E07E35CDCA334F
+    ∷ ok (allocate (request (nm (0xC3 ∷ [])) (attr 25) 0 4294967295 1 16777215 0)) 0x101001100010000000000000000000000000000000000 0x211240116F31A
     ∷ no (extend (nm (0xC3 ∷ []))) 9
     ∷ []
 
-pub case17 : T (right [] sequence17)
+pub case19 : T (right [] sequence19)
 unfolding held gaps free used unused format0s choose extentPart format4 format5 format1 format3 records encode readGeometry readExtents readLabel readRecords read goodName limits goodLabel valid taken goodLength settle grant rule goodLengths perform initialise printable listing
-case17 = tt
+case19 = tt
 
 -- Where several refusals apply, the first of them
 
-abbrev pub sequence18 : List Row
-sequence18 =
+abbrev pub sequence20 : List Row
+sequence20 =
     begin 4 5 2 1 2 0 0x1D56B5422AF11817
-    ∷ ok (allocate (request (nm (0xC1 ∷ [])) (attr 1) 0 0 4 0)) 0x401000300040000000000000000000000000000000000 0xBEEBC1A27153530
-    ∷ ok (allocate (request (nm (0xC2 ∷ [])) (attr 2) 0 0 10 2)) 0xA010007000A0000000000000000000000000000000000 0x11ADBB01FF443CD5
-    ∷ no (allocate (request (nm []) (attr 3) 9 0 0 0)) 4
-    ∷ no (allocate (request (nm (0xC1 ∷ [])) (attr 4) 0 0 0 0)) 7
-    ∷ no (allocate (request (nm (0xC1 ∷ [])) (attr 5) 0 0 4 0)) 6
-    ∷ no (allocate (request (nm (0xC3 ∷ [])) (attr 6) 0 0 4 0)) 9
-    ∷ no (allocate (request (nm (0xC3 ∷ [])) (attr 7) 0 0 3 0)) 11
+    ∷ ok (allocate (request (nm (0xC1 ∷ [])) (attr 1) 0 0 4 0 0)) 0x401000300040000000000000000000000000000000000 0xBEEBC1A27153530
+    ∷ ok (allocate (request (nm (0xC2 ∷ [])) (attr 2) 0 0 10 2 0)) 0xA010007000A0000000000000000000000000000000000 0x11ADBB01FF443CD5
+    ∷ no (allocate (request (nm []) (attr 3) 9 0 0 0 0)) 4
+    ∷ no (allocate (request (nm (0xC1 ∷ [])) (attr 4) 0 0 0 0 0)) 7
+    ∷ no (allocate (request (nm (0xC1 ∷ [])) (attr 5) 0 0 4 0 0)) 6
+    ∷ no (allocate (request (nm (0xC3 ∷ [])) (attr 6) 0 0 4 0 0)) 9
+    ∷ no (allocate (request (nm (0xC3 ∷ [])) (attr 7) 0 0 3 0 0)) 11
+    ∷ no (allocate (request (nm (0xC1 ∷ [])) (attr 8) 0 0 1 0 4)) 7
+    ∷ no (allocate (request (nm (0xC1 ∷ [])) (attr 9) 0 0 4 0 1)) 6
+    ∷ no (allocate (request (nm (0xC3 ∷ [])) (attr 10) 0 0 4 0 2)) 9
+    ∷ no (allocate (request (nm (0xC3 ∷ [])) (attr 11) 0 0 3 0 3)) 11
     ∷ no (extend (nm (0xC1 ∷ []))) 8
     ∷ no (extend (nm (0xC3 ∷ []))) 5
     ∷ no (release (nm (0xC3 ∷ [])) 0xFFFF00) 5
@@ -498,7 +584,7 @@ sequence18 =
     ∷ no (obtain (nm (0xC3 ∷ []))) 5
     ∷ no (rename (nm (0xC3 ∷ [])) (nm (0xC1 ∷ []))) 5
     ∷ no (rename (nm (0xC1 ∷ [])) (nm (0xC2 ∷ []))) 6
-    ∷ hurt ((60, 0x01) ∷ []) (allocate (request (nm (0x00 ∷ 0x00 ∷ 0x00 ∷ 0x00 ∷ 0x00 ∷ 0x00 ∷ 0x00 ∷ 0x00 ∷ 0x00 ∷ 0x00 ∷ 0x00 ∷ 0x00 ∷ 0x00 ∷ 0x00 ∷ 0x00 ∷ 0x00 ∷ 0x00 ∷ 0x00 ∷ 0x00 ∷ 0x00 ∷ 0x00 ∷ 0x00 ∷ 0x00 ∷ 0x00 ∷ 0x00 ∷ 0x00 ∷ 0x00 ∷ 0x00 ∷ 0x00 ∷ 0x00 ∷ 0x00 ∷ 0x00 ∷ 0x00 ∷ 0x00 ∷ 0x00 ∷ 0x00 ∷ 0x00 ∷ 0x00 ∷ 0x00 ∷ 0x00 ∷ 0x00 ∷ 0x00 ∷ 0x00 ∷ 0x00 ∷ [])) (attr 9) 0 0 1 0)) 3
+    ∷ hurt ((60, 0x01) ∷ []) (allocate (request (nm (0x00 ∷ 0x00 ∷ 0x00 ∷ 0x00 ∷ 0x00 ∷ 0x00 ∷ 0x00 ∷ 0x00 ∷ 0x00 ∷ 0x00 ∷ 0x00 ∷ 0x00 ∷ 0x00 ∷ 0x00 ∷ 0x00 ∷ 0x00 ∷ 0x00 ∷ 0x00 ∷ 0x00 ∷ 0x00 ∷ 0x00 ∷ 0x00 ∷ 0x00 ∷ 0x00 ∷ 0x00 ∷ 0x00 ∷ 0x00 ∷ 0x00 ∷ 0x00 ∷ 0x00 ∷ 0x00 ∷ 0x00 ∷ 0x00 ∷ 0x00 ∷ 0x00 ∷ 0x00 ∷ 0x00 ∷ 0x00 ∷ 0x00 ∷ 0x00 ∷ 0x00 ∷ 0x00 ∷ 0x00 ∷ 0x00 ∷ [])) (attr 9) 0 0 1 0 0)) 3
     ∷ hurt ((60, 0x01) ∷ []) (extend (nm (0x00 ∷ 0x00 ∷ 0x00 ∷ 0x00 ∷ 0x00 ∷ 0x00 ∷ 0x00 ∷ 0x00 ∷ 0x00 ∷ 0x00 ∷ 0x00 ∷ 0x00 ∷ 0x00 ∷ 0x00 ∷ 0x00 ∷ 0x00 ∷ 0x00 ∷ 0x00 ∷ 0x00 ∷ 0x00 ∷ 0x00 ∷ 0x00 ∷ 0x00 ∷ 0x00 ∷ 0x00 ∷ 0x00 ∷ 0x00 ∷ 0x00 ∷ 0x00 ∷ 0x00 ∷ 0x00 ∷ 0x00 ∷ 0x00 ∷ 0x00 ∷ 0x00 ∷ 0x00 ∷ 0x00 ∷ 0x00 ∷ 0x00 ∷ 0x00 ∷ 0x00 ∷ 0x00 ∷ 0x00 ∷ 0x00 ∷ []))) 3
     ∷ hurt ((60, 0x01) ∷ []) (release (nm (0x00 ∷ 0x00 ∷ 0x00 ∷ 0x00 ∷ 0x00 ∷ 0x00 ∷ 0x00 ∷ 0x00 ∷ 0x00 ∷ 0x00 ∷ 0x00 ∷ 0x00 ∷ 0x00 ∷ 0x00 ∷ 0x00 ∷ 0x00 ∷ 0x00 ∷ 0x00 ∷ 0x00 ∷ 0x00 ∷ 0x00 ∷ 0x00 ∷ 0x00 ∷ 0x00 ∷ 0x00 ∷ 0x00 ∷ 0x00 ∷ 0x00 ∷ 0x00 ∷ 0x00 ∷ 0x00 ∷ 0x00 ∷ 0x00 ∷ 0x00 ∷ 0x00 ∷ 0x00 ∷ 0x00 ∷ 0x00 ∷ 0x00 ∷ 0x00 ∷ 0x00 ∷ 0x00 ∷ 0x00 ∷ 0x00 ∷ [])) 0x1) 3
     ∷ hurt ((60, 0x01) ∷ []) (scratch (nm (0x00 ∷ 0x00 ∷ 0x00 ∷ 0x00 ∷ 0x00 ∷ 0x00 ∷ 0x00 ∷ 0x00 ∷ 0x00 ∷ 0x00 ∷ 0x00 ∷ 0x00 ∷ 0x00 ∷ 0x00 ∷ 0x00 ∷ 0x00 ∷ 0x00 ∷ 0x00 ∷ 0x00 ∷ 0x00 ∷ 0x00 ∷ 0x00 ∷ 0x00 ∷ 0x00 ∷ 0x00 ∷ 0x00 ∷ 0x00 ∷ 0x00 ∷ 0x00 ∷ 0x00 ∷ 0x00 ∷ 0x00 ∷ 0x00 ∷ 0x00 ∷ 0x00 ∷ 0x00 ∷ 0x00 ∷ 0x00 ∷ 0x00 ∷ 0x00 ∷ 0x00 ∷ 0x00 ∷ 0x00 ∷ 0x00 ∷ []))) 3
@@ -507,18 +593,18 @@ sequence18 =
     ∷ hurt ((60, 0x01) ∷ []) lspace 3
     ∷ []
 
-pub case18 : T (right [] sequence18)
+pub case20 : T (right [] sequence20)
 unfolding held gaps free used unused format0s choose extentPart format4 format5 format1 format3 records encode readGeometry readExtents readLabel readRecords read goodName limits goodLabel valid taken goodLength settle grant rule goodLengths perform initialise printable listing
-case18 = tt
+case20 = tt
 
 -- Damaged tables with a format 3
 
-abbrev pub sequence19 : List Row
-sequence19 =
+abbrev pub sequence21 : List Row
+sequence21 =
     begin 11 3 4 4 2 0 0xB433BC0EC5C5BCD
-    ∷ ok (allocate (request (nm (0xC7 ∷ 0xC1 ∷ 0xD7 ∷ [])) (attr 1) 2 9 1 0)) 0x101000900010000000000000000000000000000000000 0x165A0968A7CA8336
-    ∷ ok (allocate (request (nm (0xC3 ∷ 0xE8 ∷ 0xD3 ∷ [])) (attr 2) 1 0 1 1)) 0x301000600030000000000000000000000000000000000 0x199EE5ABFFE151E3
-    ∷ ok (allocate (request (nm (0xD3 ∷ 0xD6 ∷ 0xD5 ∷ 0xC7 ∷ [])) (attr 3) 0 0 2 2)) 0x201000100020000000000000000000000000000000000 0xFFF2F7064401EB4
+    ∷ ok (allocate (request (nm (0xC7 ∷ 0xC1 ∷ 0xD7 ∷ [])) (attr 1) 2 9 1 0 0)) 0x101000900010000000000000000000000000000000000 0x165A0968A7CA8336
+    ∷ ok (allocate (request (nm (0xC3 ∷ 0xE8 ∷ 0xD3 ∷ [])) (attr 2) 1 0 1 1 0)) 0x301000600030000000000000000000000000000000000 0x199EE5ABFFE151E3
+    ∷ ok (allocate (request (nm (0xD3 ∷ 0xD6 ∷ 0xD5 ∷ 0xC7 ∷ [])) (attr 3) 0 0 2 2 0)) 0x201000100020000000000000000000000000000000000 0xFFF2F7064401EB4
     ∷ ok (extend (nm (0xD3 ∷ 0xD6 ∷ 0xD5 ∷ 0xC7 ∷ []))) 0x201000A00020000000000000000000000000000000000 0x1A851B726132BD72
     ∷ ok (extend (nm (0xD3 ∷ 0xD6 ∷ 0xD5 ∷ 0xC7 ∷ []))) 0x201000C00020000000000000000000000000000000000 0x15EBDFCF84F76EE7
     ∷ ok (extend (nm (0xD3 ∷ 0xD6 ∷ 0xD5 ∷ 0xC7 ∷ []))) 0x201000E00020000000000000000000000000000000000 0x82889056FFCB1B0
@@ -544,54 +630,54 @@ sequence19 =
     ∷ hurt ((668, 0x04) ∷ (670, 0x02) ∷ (672, 0x05) ∷ (674, 0x00) ∷ (707, 0x00) ∷ (709, 0x01) ∷ (711, 0x00) ∷ (713, 0x02) ∷ []) (extend (nm (0xD3 ∷ 0xD6 ∷ 0xD5 ∷ 0xC7 ∷ []))) 0
     ∷ []
 
-pub case19 : T (right [] sequence19)
+pub case21 : T (right [] sequence21)
 unfolding held gaps free used unused format0s choose extentPart format4 format5 format1 format3 records encode readGeometry readExtents readLabel readRecords read goodName limits goodLabel valid taken goodLength settle grant rule goodLengths perform initialise printable listing
-case19 = tt
+case21 = tt
 
 -- 26 free extents and more, and a full VTOC
 
-abbrev pub sequence20 : List Row
-sequence20 =
+abbrev pub sequence22 : List Row
+sequence22 =
     build 38 2 31 1 1
-    (allocate (request (nm (0xC1 ∷ [])) (attr 1) 0 0 1 1)
+    (allocate (request (nm (0xC1 ∷ [])) (attr 1) 0 0 1 1 0)
     ∷ extend (nm (0xC1 ∷ []))
     ∷ extend (nm (0xC1 ∷ []))
     ∷ extend (nm (0xC1 ∷ []))
     ∷ extend (nm (0xC1 ∷ []))
-    ∷ allocate (request (nm (0xC7 ∷ 0xE4 ∷ 0xC1 ∷ 0xD9 ∷ 0xC4 ∷ [])) (attr 6) 2 7 1 0)
-    ∷ allocate (request (nm (0xE6 ∷ 0xF0 ∷ [])) (attr 7) 2 9 1 0)
-    ∷ allocate (request (nm (0xE6 ∷ 0xF1 ∷ [])) (attr 8) 2 11 2 0)
-    ∷ allocate (request (nm (0xE6 ∷ 0xF2 ∷ [])) (attr 9) 2 17 2 0)
-    ∷ allocate (request (nm (0xE6 ∷ 0xF3 ∷ [])) (attr 10) 2 23 2 0)
-    ∷ allocate (request (nm (0xE6 ∷ 0xF4 ∷ [])) (attr 11) 2 29 2 0)
-    ∷ allocate (request (nm (0xE6 ∷ 0xF5 ∷ [])) (attr 12) 2 35 1 0)
-    ∷ allocate (request (nm (0xE6 ∷ 0xF6 ∷ [])) (attr 13) 2 37 1 0)
-    ∷ allocate (request (nm (0xE6 ∷ 0xF7 ∷ [])) (attr 14) 2 39 1 0)
-    ∷ allocate (request (nm (0xE6 ∷ 0xF8 ∷ [])) (attr 15) 2 41 1 0)
-    ∷ allocate (request (nm (0xE6 ∷ 0xF9 ∷ [])) (attr 16) 2 43 1 0)
-    ∷ allocate (request (nm (0xE6 ∷ 0xF1 ∷ 0xF0 ∷ [])) (attr 17) 2 45 1 0)
-    ∷ allocate (request (nm (0xE6 ∷ 0xF1 ∷ 0xF1 ∷ [])) (attr 18) 2 47 1 0)
-    ∷ allocate (request (nm (0xE6 ∷ 0xF1 ∷ 0xF2 ∷ [])) (attr 19) 2 49 1 0)
-    ∷ allocate (request (nm (0xE6 ∷ 0xF1 ∷ 0xF3 ∷ [])) (attr 20) 2 51 1 0)
-    ∷ allocate (request (nm (0xE6 ∷ 0xF1 ∷ 0xF4 ∷ [])) (attr 21) 2 53 1 0)
-    ∷ allocate (request (nm (0xE6 ∷ 0xF1 ∷ 0xF5 ∷ [])) (attr 22) 2 55 1 0)
-    ∷ allocate (request (nm (0xE6 ∷ 0xF1 ∷ 0xF6 ∷ [])) (attr 23) 2 57 1 0)
-    ∷ allocate (request (nm (0xE6 ∷ 0xF1 ∷ 0xF7 ∷ [])) (attr 24) 2 59 1 0)
-    ∷ allocate (request (nm (0xE6 ∷ 0xF1 ∷ 0xF8 ∷ [])) (attr 25) 2 61 1 0)
-    ∷ allocate (request (nm (0xE6 ∷ 0xF1 ∷ 0xF9 ∷ [])) (attr 26) 2 63 1 0)
-    ∷ allocate (request (nm (0xE6 ∷ 0xF2 ∷ 0xF0 ∷ [])) (attr 27) 2 65 1 0)
-    ∷ allocate (request (nm (0xE6 ∷ 0xF2 ∷ 0xF1 ∷ [])) (attr 28) 2 67 1 0)
-    ∷ allocate (request (nm (0xE6 ∷ 0xF2 ∷ 0xF2 ∷ [])) (attr 29) 2 69 1 0)
-    ∷ allocate (request (nm (0xE6 ∷ 0xF2 ∷ 0xF3 ∷ [])) (attr 30) 2 71 1 0)
-    ∷ allocate (request (nm (0xE6 ∷ 0xF2 ∷ 0xF4 ∷ [])) (attr 31) 2 73 1 0)
-    ∷ allocate (request (nm (0xE6 ∷ 0xF2 ∷ 0xF5 ∷ [])) (attr 32) 2 75 1 0)
+    ∷ allocate (request (nm (0xC7 ∷ 0xE4 ∷ 0xC1 ∷ 0xD9 ∷ 0xC4 ∷ [])) (attr 6) 2 7 1 0 0)
+    ∷ allocate (request (nm (0xE6 ∷ 0xF0 ∷ [])) (attr 7) 2 9 1 0 0)
+    ∷ allocate (request (nm (0xE6 ∷ 0xF1 ∷ [])) (attr 8) 2 11 2 0 0)
+    ∷ allocate (request (nm (0xE6 ∷ 0xF2 ∷ [])) (attr 9) 2 17 2 0 0)
+    ∷ allocate (request (nm (0xE6 ∷ 0xF3 ∷ [])) (attr 10) 2 23 2 0 0)
+    ∷ allocate (request (nm (0xE6 ∷ 0xF4 ∷ [])) (attr 11) 2 29 2 0 0)
+    ∷ allocate (request (nm (0xE6 ∷ 0xF5 ∷ [])) (attr 12) 2 35 1 0 0)
+    ∷ allocate (request (nm (0xE6 ∷ 0xF6 ∷ [])) (attr 13) 2 37 1 0 0)
+    ∷ allocate (request (nm (0xE6 ∷ 0xF7 ∷ [])) (attr 14) 2 39 1 0 0)
+    ∷ allocate (request (nm (0xE6 ∷ 0xF8 ∷ [])) (attr 15) 2 41 1 0 0)
+    ∷ allocate (request (nm (0xE6 ∷ 0xF9 ∷ [])) (attr 16) 2 43 1 0 0)
+    ∷ allocate (request (nm (0xE6 ∷ 0xF1 ∷ 0xF0 ∷ [])) (attr 17) 2 45 1 0 0)
+    ∷ allocate (request (nm (0xE6 ∷ 0xF1 ∷ 0xF1 ∷ [])) (attr 18) 2 47 1 0 0)
+    ∷ allocate (request (nm (0xE6 ∷ 0xF1 ∷ 0xF2 ∷ [])) (attr 19) 2 49 1 0 0)
+    ∷ allocate (request (nm (0xE6 ∷ 0xF1 ∷ 0xF3 ∷ [])) (attr 20) 2 51 1 0 0)
+    ∷ allocate (request (nm (0xE6 ∷ 0xF1 ∷ 0xF4 ∷ [])) (attr 21) 2 53 1 0 0)
+    ∷ allocate (request (nm (0xE6 ∷ 0xF1 ∷ 0xF5 ∷ [])) (attr 22) 2 55 1 0 0)
+    ∷ allocate (request (nm (0xE6 ∷ 0xF1 ∷ 0xF6 ∷ [])) (attr 23) 2 57 1 0 0)
+    ∷ allocate (request (nm (0xE6 ∷ 0xF1 ∷ 0xF7 ∷ [])) (attr 24) 2 59 1 0 0)
+    ∷ allocate (request (nm (0xE6 ∷ 0xF1 ∷ 0xF8 ∷ [])) (attr 25) 2 61 1 0 0)
+    ∷ allocate (request (nm (0xE6 ∷ 0xF1 ∷ 0xF9 ∷ [])) (attr 26) 2 63 1 0 0)
+    ∷ allocate (request (nm (0xE6 ∷ 0xF2 ∷ 0xF0 ∷ [])) (attr 27) 2 65 1 0 0)
+    ∷ allocate (request (nm (0xE6 ∷ 0xF2 ∷ 0xF1 ∷ [])) (attr 28) 2 67 1 0 0)
+    ∷ allocate (request (nm (0xE6 ∷ 0xF2 ∷ 0xF2 ∷ [])) (attr 29) 2 69 1 0 0)
+    ∷ allocate (request (nm (0xE6 ∷ 0xF2 ∷ 0xF3 ∷ [])) (attr 30) 2 71 1 0 0)
+    ∷ allocate (request (nm (0xE6 ∷ 0xF2 ∷ 0xF4 ∷ [])) (attr 31) 2 73 1 0 0)
+    ∷ allocate (request (nm (0xE6 ∷ 0xF2 ∷ 0xF5 ∷ [])) (attr 32) 2 75 1 0 0)
     ∷ [])
     0x120D4276B4048AA8
     ∷ no (release (nm (0xC1 ∷ [])) 0x301) 11
     ∷ ok (release (nm (0xC1 ∷ [])) 0x201) 0x200000000000000000000000000000000000000000000 0xED3D9ED9D7E8C75
     ∷ ok lspace 0x90016001B000200000000000000000000000000000000 0xED3D9ED9D7E8C75
-    ∷ ok (allocate (request (nm (0xE7 ∷ [])) (attr 36) 0 0 1 0)) 0x101000800010000000000000000000000000000000000 0xE37C86DF007EC84
-    ∷ no (allocate (request (nm (0xE8 ∷ [])) (attr 37) 0 0 1 0)) 11
+    ∷ ok (allocate (request (nm (0xE7 ∷ [])) (attr 36) 0 0 1 0 0)) 0x101000800010000000000000000000000000000000000 0xE37C86DF007EC84
+    ∷ no (allocate (request (nm (0xE8 ∷ [])) (attr 37) 0 0 1 0 0)) 11
     ∷ ok (scratch (nm (0xE7 ∷ []))) 0x100000000000000000000000000000000000000000000 0xED3D9ED9D7E8C75
     ∷ hurt ((278, 0x00) ∷ (279, 0x00) ∷ []) lspace 3
     ∷ hurt ((279, 0x05) ∷ []) lspace 3
@@ -600,90 +686,95 @@ sequence20 =
     ∷ ok (extend (nm (0xC1 ∷ []))) 0x101000800010000000000000000000000000000000000 0xCAD386059F5ED10
     ∷ ok (scratch (nm (0xC7 ∷ 0xE4 ∷ 0xC1 ∷ 0xD9 ∷ 0xC4 ∷ []))) 0x100000000000000000000000000000000000000000000 0x1374970E27CA86B8
     ∷ ok (scratch (nm (0xE6 ∷ 0xF0 ∷ []))) 0x100000000000000000000000000000000000000000000 0x6938F49850A126D
-    ∷ ok (allocate (request (nm (0xC2 ∷ [])) (attr 46) 2 6 1 0)) 0x101000600010000000000000000000000000000000000 0x1D49BC852507A4A6
+    ∷ ok (allocate (request (nm (0xC2 ∷ [])) (attr 46) 2 6 1 0 0)) 0x101000600010000000000000000000000000000000000 0x1D49BC852507A4A6
     ∷ ok (release (nm (0xC1 ∷ [])) 0x201) 0x100000000000000000000000000000000000000000000 0x55D587BC751EB64
-    ∷ no (allocate (request (nm (0xC3 ∷ [])) (attr 48) 1 0 4 0)) 11
+    ∷ no (allocate (request (nm (0xC3 ∷ [])) (attr 48) 1 0 4 0 0)) 11
+    ∷ no (allocate (request (nm (0xC3 ∷ [])) (attr 49) 1 0 1 0 3)) 11
     ∷ ok (scratch (nm (0xE6 ∷ 0xF2 ∷ 0xF4 ∷ []))) 0x100000000000000000000000000000000000000000000 0xEF6F6751AAAC689
-    ∷ ok (allocate (request (nm (0xC3 ∷ [])) (attr 50) 1 0 4 0)) 0x80400080002000E000200140002001A00020000000000 0x1449526AD211F470
+    ∷ ok (allocate (request (nm (0xC3 ∷ [])) (attr 51) 1 0 4 0 0)) 0x80400080002000E000200140002001A00020000000000 0x1784E13F6AE3CBF7
     ∷ ok (scratch (nm (0xC3 ∷ []))) 0x800000000000000000000000000000000000000000000 0xEF6F6751AAAC689
-    ∷ ok (allocate (request (nm (0xC3 ∷ [])) (attr 52) 1 0 1 3)) 0x201000800020000000000000000000000000000000000 0x3F5EC46297EF6CD
-    ∷ ok (extend (nm (0xC3 ∷ []))) 0x603000E000200140002001A0002000000000000000000 0x773B24F7C08FA9
-    ∷ okLabels (obtain (nm (0xC3 ∷ []))) 0x0 0x773B24F7C08FA9 0x1A66B823E1A4477E
-    ∷ []
-
-pub case20 : T (right [] sequence20)
-unfolding held gaps free used unused format0s choose extentPart format4 format5 format1 format3 records encode readGeometry readExtents readLabel readRecords read goodName limits goodLabel valid taken goodLength settle grant rule goodLengths perform initialise printable listing
-case20 = tt
-
--- Random calls, H = 3
-
-abbrev pub sequence21 : List Row
-sequence21 =
-    begin 9 3 3 1 3 0 0x192F20BA354C35C9
-    ∷ ok (allocate (request (nm (0xE9 ∷ 0xF0 ∷ 0x4B ∷ 0xE2 ∷ 0xF5 ∷ [])) (attr 118) 2 18 1 0)) 0x101001200010000000000000000000000000000000000 0xEC53D7A49FD3C19
-    ∷ ok (allocate (request (nm (0xE2 ∷ 0xE9 ∷ 0xF5 ∷ 0xE2 ∷ 0xC9 ∷ 0x60 ∷ 0xE9 ∷ 0x60 ∷ 0x4B ∷ 0xE2 ∷ 0xF0 ∷ 0xF5 ∷ 0xF5 ∷ 0xF0 ∷ [])) (attr 229) 0 1399454072 7 17)) 0x701001300070000000000000000000000000000000000 0x6515F7805E7A0AE
-    ∷ ok (allocate (request (nm (0x7C ∷ 0xF0 ∷ 0x7B ∷ 0xF5 ∷ 0xD1 ∷ 0xE2 ∷ 0x4B ∷ 0x7B ∷ [])) (attr 186) 1 0 2 14)) 0x601000600060000000000000000000000000000000000 0x1EFA27231B8603F8
-    ∷ no (allocate (request (nm (0xC1 ∷ 0x7B ∷ 0xE2 ∷ 0xF9 ∷ 0xF9 ∷ 0xF0 ∷ 0xD1 ∷ 0x4B ∷ 0xC1 ∷ 0xD1 ∷ 0x4B ∷ 0x7B ∷ 0x5B ∷ 0xD9 ∷ 0xD1 ∷ [])) (attr 68) 1 0 3 0)) 9
-    ∷ ok (allocate (request (nm (0xE2 ∷ 0xE9 ∷ 0xF9 ∷ 0x60 ∷ 0xF5 ∷ 0xE2 ∷ 0xD9 ∷ 0xE2 ∷ 0x4B ∷ 0xC1 ∷ 0x60 ∷ 0xD1 ∷ 0x60 ∷ 0xD1 ∷ 0x60 ∷ 0x4B ∷ 0xD9 ∷ 0x7B ∷ 0xD1 ∷ 0xC1 ∷ 0x5B ∷ 0x7C ∷ 0xC9 ∷ 0xE2 ∷ [])) (attr 50) 1 0 2 1)) 0x601000C00060000000000000000000000000000000000 0x18AAC8E0200FD8C7
-    ∷ ok (allocate (request (nm (0xC9 ∷ 0xF0 ∷ 0xF0 ∷ 0xF5 ∷ 0xC1 ∷ 0xE9 ∷ [])) (attr 110) 0 3960809976 2 16777215)) 0x201000400020000000000000000000000000000000000 0x1AB35FF5710A9CE7
-    ∷ ok (allocate (request (nm (0xE2 ∷ 0x7B ∷ 0xF0 ∷ 0xC1 ∷ 0xC9 ∷ 0x7B ∷ 0xF5 ∷ 0x4B ∷ 0xD1 ∷ 0xC9 ∷ 0xF5 ∷ 0x5B ∷ 0x60 ∷ 0xF0 ∷ [])) (attr 4) 0 1332741620 1 0)) 0x101001A00010000000000000000000000000000000000 0x79F40D9D3E86BD7
-    ∷ sized 1259 24 280 (allocate (request (nm (0xE9 ∷ 0xF9 ∷ 0xD1 ∷ 0x5B ∷ 0xC1 ∷ 0xE2 ∷ 0xF0 ∷ 0xF9 ∷ 0x4B ∷ 0xD9 ∷ 0x5B ∷ 0xE9 ∷ 0xF5 ∷ [])) (attr 31) 0 1289748154 2 1)) 2
-    ∷ no (allocate (request (nm (0xE2 ∷ 0x5B ∷ 0xC1 ∷ 0x4B ∷ 0xE9 ∷ 0xD1 ∷ 0xF9 ∷ [])) (attr 197) 1 0 1 0)) 9
-    ∷ sized 1259 24 280 (release (nm (0xC9 ∷ 0xF0 ∷ 0xF0 ∷ 0xF5 ∷ 0xC1 ∷ 0xE9 ∷ [])) 0x100) 2
-    ∷ no (allocate (request (nm (0x5B ∷ 0x5B ∷ 0x7B ∷ 0xF5 ∷ 0x60 ∷ 0xE9 ∷ 0x60 ∷ [])) (attr 243) 0 1961271584 2 0)) 9
-    ∷ no (allocate (request (nm (0x7B ∷ 0x4B ∷ 0xE2 ∷ 0x4B ∷ 0xD9 ∷ 0x4B ∷ 0xE9 ∷ 0x4B ∷ 0xD1 ∷ 0x4B ∷ 0xC1 ∷ 0x4B ∷ 0xD9 ∷ [])) (attr 10) 1 0 2 0)) 9
-    ∷ []
-
-pub case21 : T (right [] sequence21)
-unfolding held gaps free used unused format0s choose extentPart format4 format5 format1 format3 records encode readGeometry readExtents readLabel readRecords read goodName limits goodLabel valid taken goodLength settle grant rule goodLengths perform initialise printable listing
-case21 = tt
-
--- Random calls, H = 5
-
-abbrev pub sequence22 : List Row
-sequence22 =
-    begin 11 5 12 20 1 0 0x187888AF3FDB19AF
-    ∷ ok (allocate (request (nm (0xC9 ∷ 0xF0 ∷ 0x60 ∷ 0x60 ∷ 0x4B ∷ 0xC9 ∷ 0xC1 ∷ 0xF0 ∷ 0x4B ∷ 0x7C ∷ 0x7C ∷ [])) (attr 151) 2 22 1 0)) 0x101001600010000000000000000000000000000000000 0x322C4D20A67A6FE
-    ∷ ok (allocate (request (nm (0x7B ∷ 0x7B ∷ 0xD1 ∷ 0x4B ∷ 0xD9 ∷ 0xF9 ∷ 0x7B ∷ 0xF9 ∷ 0xE2 ∷ 0x5B ∷ 0xD1 ∷ [])) (attr 157) 0 914082126 2 16777215)) 0x201000100020000000000000000000000000000000000 0x4C2E0127F3FCEEB
-    ∷ ok (release (nm (0x7B ∷ 0x7B ∷ 0xD1 ∷ 0x4B ∷ 0xD9 ∷ 0xF9 ∷ 0x7B ∷ 0xF9 ∷ 0xE2 ∷ 0x5B ∷ 0xD1 ∷ [])) 0x1) 0x100000000000000000000000000000000000000000000 0x101B3E6620B91348
-    ∷ ok (scratch (nm (0x7B ∷ 0x7B ∷ 0xD1 ∷ 0x4B ∷ 0xD9 ∷ 0xF9 ∷ 0x7B ∷ 0xF9 ∷ 0xE2 ∷ 0x5B ∷ 0xD1 ∷ []))) 0x100000000000000000000000000000000000000000000 0x322C4D20A67A6FE
-    ∷ ok (allocate (request (nm (0x5B ∷ 0x5B ∷ 0xD9 ∷ [])) (attr 142) 2 21 1 0)) 0x101001500010000000000000000000000000000000000 0x16DE9D000EBE1492
-    ∷ ok (allocate (request (nm (0xD1 ∷ 0xC1 ∷ 0xF5 ∷ 0xD9 ∷ [])) (attr 130) 0 1159283786 12 41)) 0xC010001000C0000000000000000000000000000000000 0x481366A7923A225
-    ∷ ok (allocate (request (nm (0x7C ∷ 0x7C ∷ 0xD9 ∷ 0xE2 ∷ 0xC9 ∷ 0xC1 ∷ 0x7C ∷ 0x4B ∷ 0xD9 ∷ 0xC1 ∷ 0x60 ∷ 0xC1 ∷ 0xF5 ∷ 0xF5 ∷ 0xE9 ∷ 0x4B ∷ 0x7B ∷ 0x60 ∷ 0xD1 ∷ 0x7B ∷ 0xF9 ∷ 0xF9 ∷ 0xD1 ∷ 0xF9 ∷ [])) (attr 99) 0 403246841 36 0)) 0x240200170020000D000400000000000000000000000000 0x13B498AD3BED1A8A
-    ∷ hurt ((275, 0xC0) ∷ []) (extend (nm (0x5B ∷ 0x5B ∷ 0xD9 ∷ []))) 3
-    ∷ ok (allocate (request (nm (0xC1 ∷ 0xD9 ∷ 0x4B ∷ 0xC1 ∷ 0xC9 ∷ 0x5B ∷ 0xF9 ∷ 0x7B ∷ 0xC1 ∷ 0xD9 ∷ 0x4B ∷ 0xE2 ∷ 0xF5 ∷ 0xF5 ∷ [])) (attr 46) 2 18 1 0)) 0x101001200010000000000000000000000000000000000 0xA14D1D78DD3DEC4
-    ∷ ok (allocate (request (nm (0xD9 ∷ 0x4B ∷ 0xD1 ∷ 0x4B ∷ 0xD1 ∷ 0x7C ∷ 0x60 ∷ 0xD9 ∷ 0x60 ∷ 0xC9 ∷ 0xE9 ∷ 0xC1 ∷ [])) (attr 39) 2 19 1 0)) 0x101001300010000000000000000000000000000000000 0x6AED87C79CE4D56
-    ∷ no (extend (nm (0xD1 ∷ 0xC1 ∷ 0xF5 ∷ 0xD9 ∷ []))) 9
-    ∷ ok (allocate (request (nm (0xE2 ∷ 0xD1 ∷ 0x60 ∷ [])) (attr 226) 0 1408777556 1 2)) 0x101001100010000000000000000000000000000000000 0x16085F8796B5F64F
+    ∷ ok (allocate (request (nm (0xC3 ∷ [])) (attr 53) 1 0 1 3 0)) 0x201000800020000000000000000000000000000000000 0x93BBB6275BFF77B
+    ∷ ok (extend (nm (0xC3 ∷ []))) 0x603000E000200140002001A0002000000000000000000 0x5BD0A4144019057
+    ∷ okLabels (obtain (nm (0xC3 ∷ []))) 0x0 0x5BD0A4144019057 0x148BAFE6F4B1DDBF
+    ∷ ok (scratch (nm (0xC3 ∷ []))) 0x800000000000000000000000000000000000000000000 0xEF6F6751AAAC689
+    ∷ ok (allocate (request (nm (0xC3 ∷ [])) (attr 57) 1 0 1 0 3)) 0xA0500080002000E000200140002001A00020020000200 0x1798830CA799AC03
+    ∷ ok (scratch (nm (0xE6 ∷ 0xF2 ∷ 0xF5 ∷ []))) 0x100000000000000000000000000000000000000000000 0x19EE7E7BA7CEC4B0
+    ∷ ok (allocate (request (nm (0xC4 ∷ [])) (attr 59) 0 0 1 0 3)) 0x805004800040005000100070001000A0001000D000100 0x3DE2228F74F4F9B
     ∷ []
 
 pub case22 : T (right [] sequence22)
 unfolding held gaps free used unused format0s choose extentPart format4 format5 format1 format3 records encode readGeometry readExtents readLabel readRecords read goodName limits goodLabel valid taken goodLength settle grant rule goodLengths perform initialise printable listing
 case22 = tt
 
--- X'81' starts a cylinder and ends one
+-- Random calls, H = 3
 
 abbrev pub sequence23 : List Row
 sequence23 =
-    begin 6 4 3 1 2 0 0x7A8069976F8FAB0
-    ∷ ok (allocate (request (nm (0xE2 ∷ 0xE3 ∷ 0xC1 ∷ 0xD9 ∷ 0xE3 ∷ [])) (attr 1) 2 4 3 0)) 0x301000400030000000000000000000000000000000000 0x461BB6BFBDD385D
-    ∷ ok (allocate (request (nm (0xC5 ∷ 0xD5 ∷ 0xC4 ∷ [])) (attr 2) 2 9 3 0)) 0x301000900030000000000000000000000000000000000 0x166BEA77AC8227D
-    ∷ ok (allocate (request (nm (0xE2 ∷ 0xD3 ∷ 0xC1 ∷ 0xD5 ∷ 0xE3 ∷ [])) (attr 3) 2 13 4 0)) 0x401000D00040000000000000000000000000000000000 0xD14E4C007BBD959
-    ∷ ok (allocate (request (nm (0xE6 ∷ 0xC8 ∷ 0xD6 ∷ 0xD3 ∷ 0xC5 ∷ [])) (attr 4) 2 20 4 0)) 0x401001400040000000000000000000000000000000000 0x19FD9DC0401C57C5
-    ∷ hurt ((385, 0x81) ∷ []) lspace 3
-    ∷ hurt ((525, 0x81) ∷ []) lspace 3
-    ∷ hurt ((665, 0x81) ∷ []) lspace 3
-    ∷ hurt ((805, 0x81) ∷ []) lspace 0
+    begin 9 3 3 1 3 0 0x192F20BA354C35C9
+    ∷ ok (allocate (request (nm (0x7B ∷ 0xE9 ∷ 0xF9 ∷ [])) (attr 234) 2 4 1 0 0)) 0x101000400010000000000000000000000000000000000 0x1FBC51776E468231
+    ∷ no (extend (nm (0x7B ∷ 0xE9 ∷ 0xF9 ∷ []))) 8
+    ∷ no (extend (nm (0x7B ∷ 0xE9 ∷ 0xF9 ∷ []))) 8
+    ∷ ok (allocate (request (nm (0x7C ∷ 0xF0 ∷ 0x7B ∷ 0xF5 ∷ 0xD1 ∷ 0xE2 ∷ 0x4B ∷ 0x7B ∷ [])) (attr 186) 1 0 2 18 0)) 0x601000600060000000000000000000000000000000000 0x2A7C3C1CD11E75E
+    ∷ ok (allocate (request (nm (0xC1 ∷ 0xF5 ∷ 0xF9 ∷ 0xF0 ∷ 0x4B ∷ 0xD1 ∷ 0xF9 ∷ 0xF9 ∷ 0x7B ∷ 0x4B ∷ 0xC1 ∷ 0xF5 ∷ 0xE2 ∷ 0xE9 ∷ 0xD9 ∷ 0xF5 ∷ 0xD9 ∷ 0xF9 ∷ [])) (attr 34) 1 0 4 0 0)) 0xC01000C000C0000000000000000000000000000000000 0x1FB03BF01A6A1740
+    ∷ hurt ((145, 0x02) ∷ (148, 0x00) ∷ []) (allocate (request (nm (0xE9 ∷ 0xF5 ∷ 0xC9 ∷ 0xE9 ∷ 0xF9 ∷ 0xE2 ∷ 0x4B ∷ 0x5B ∷ 0x7C ∷ 0x5B ∷ 0xD1 ∷ 0x4B ∷ 0xC9 ∷ 0x60 ∷ [])) (attr 109) 0 3426709810 4 2 1)) 3
+    ∷ ok (allocate (request (nm (0xE2 ∷ 0x7B ∷ 0xF0 ∷ 0xC1 ∷ 0xC9 ∷ 0x7B ∷ 0xF5 ∷ 0x4B ∷ 0xD1 ∷ 0xC9 ∷ 0xF5 ∷ 0x5B ∷ 0x60 ∷ 0xF0 ∷ [])) (attr 4) 1 0 1 2 3)) 0x301001800030000000000000000000000000000000000 0x102338E6050DCC0D
+    ∷ ok (scratch (nm (0xE2 ∷ 0x7B ∷ 0xF0 ∷ 0xC1 ∷ 0xC9 ∷ 0x7B ∷ 0xF5 ∷ 0x4B ∷ 0xD1 ∷ 0xC9 ∷ 0xF5 ∷ 0x5B ∷ 0x60 ∷ 0xF0 ∷ []))) 0x300000000000000000000000000000000000000000000 0x1FB03BF01A6A1740
+    ∷ no (allocate (request (nm (0xC2 ∷ 0xC3 ∷ 0xFD ∷ 0xE6 ∷ 0x34 ∷ 0x5C ∷ 0xBE ∷ 0xD1 ∷ 0x66 ∷ 0xBB ∷ 0x9E ∷ 0x62 ∷ 0xD1 ∷ 0xF3 ∷ 0x13 ∷ 0x6E ∷ 0x20 ∷ 0xE0 ∷ 0x6C ∷ 0x0A ∷ 0xF3 ∷ 0x98 ∷ 0xD5 ∷ 0xB5 ∷ 0x34 ∷ 0xC1 ∷ 0x22 ∷ 0x60 ∷ 0x35 ∷ 0x5B ∷ 0x0A ∷ 0x35 ∷ 0xC2 ∷ 0xB7 ∷ 0x1B ∷ 0xB9 ∷ 0xDF ∷ 0xA5 ∷ 0x2D ∷ 0xA1 ∷ 0x95 ∷ 0x93 ∷ 0x2B ∷ 0xF8 ∷ [])) (attr 242) 1 0 1 3 3)) 4
+    ∷ no (allocate (request (nm (0x5B ∷ 0x60 ∷ 0xC9 ∷ 0x5B ∷ 0x4B ∷ 0x7B ∷ 0xC1 ∷ 0x5B ∷ 0x4B ∷ 0xE9 ∷ 0x60 ∷ 0x7C ∷ 0xD9 ∷ 0x5B ∷ [])) (attr 25) 0 422176148 5 0 0)) 9
+    ∷ ok (allocate (request (nm (0xC1 ∷ [])) (attr 224) 2 25 1 0 0)) 0x101001900010000000000000000000000000000000000 0x1777C6CEC63BCCBE
+    ∷ hurt ((528, 0x04) ∷ (532, 0x07) ∷ []) (scratch (nm (0x7C ∷ 0xF0 ∷ 0x7B ∷ 0xF5 ∷ 0xD1 ∷ 0xE2 ∷ 0x4B ∷ 0x7B ∷ []))) 3
     ∷ []
 
 pub case23 : T (right [] sequence23)
 unfolding held gaps free used unused format0s choose extentPart format4 format5 format1 format3 records encode readGeometry readExtents readLabel readRecords read goodName limits goodLabel valid taken goodLength settle grant rule goodLengths perform initialise printable listing
 case23 = tt
 
--- First characters, and those beside them
+-- Random calls, H = 5
 
 abbrev pub sequence24 : List Row
 sequence24 =
+    begin 11 5 12 20 1 0 0x187888AF3FDB19AF
+    ∷ ok (allocate (request (nm (0xC9 ∷ 0xF0 ∷ 0x60 ∷ 0x60 ∷ 0x4B ∷ 0xC9 ∷ 0xC1 ∷ 0xF0 ∷ 0x4B ∷ 0x7C ∷ 0x7C ∷ [])) (attr 151) 2 22 1 0 0)) 0x101001600010000000000000000000000000000000000 0x322C4D20A67A6FE
+    ∷ no (allocate (request (nm (0xD9 ∷ 0x4B ∷ 0x5B ∷ 0x4B ∷ 0x7B ∷ 0x4B ∷ 0x5B ∷ 0x4B ∷ 0x5B ∷ 0x4B ∷ 0x7B ∷ 0x4B ∷ 0xE9 ∷ 0x4B ∷ 0xD1 ∷ 0x4B ∷ 0x7C ∷ [])) (attr 222) 0 2104727299 51 1 2)) 9
+    ∷ ok (allocate (request (nm (0xC9 ∷ 0xC1 ∷ 0xF5 ∷ 0x4B ∷ 0xD9 ∷ 0xD9 ∷ 0xD1 ∷ 0xE2 ∷ [])) (attr 233) 1 0 3 0 0)) 0xF010005000F0000000000000000000000000000000000 0x1FD3CA4A18C765F4
+    ∷ no (extend (nm (0xC9 ∷ 0xC1 ∷ 0xF5 ∷ 0x4B ∷ 0xD9 ∷ 0xD9 ∷ 0xD1 ∷ 0xE2 ∷ []))) 8
+    ∷ no (extend (nm (0xC9 ∷ 0xC1 ∷ 0xF5 ∷ 0x4B ∷ 0xD9 ∷ 0xD9 ∷ 0xD1 ∷ 0xE2 ∷ []))) 8
+    ∷ ok (release (nm (0xC9 ∷ 0xC1 ∷ 0xF5 ∷ 0x4B ∷ 0xD9 ∷ 0xD9 ∷ 0xD1 ∷ 0xE2 ∷ [])) 0x501) 0x900000000000000000000000000000000000000000000 0xDDBF978BB8D408A
+    ∷ no (extend (nm (0xC9 ∷ 0xC1 ∷ 0xF5 ∷ 0x4B ∷ 0xD9 ∷ 0xD9 ∷ 0xD1 ∷ 0xE2 ∷ []))) 8
+    ∷ no (extend (nm (0xC9 ∷ 0xC1 ∷ 0xF5 ∷ 0x4B ∷ 0xD9 ∷ 0xD9 ∷ 0xD1 ∷ 0xE2 ∷ []))) 8
+    ∷ hurt ((276, 0x04) ∷ (279, 0x02) ∷ []) (allocate (request (nm (0xE9 ∷ 0xE9 ∷ 0xF0 ∷ [])) (attr 26) 1 0 1 0 0)) 3
+    ∷ okLabels (obtain (nm (0xC9 ∷ 0xF0 ∷ 0x60 ∷ 0x60 ∷ 0x4B ∷ 0xC9 ∷ 0xC1 ∷ 0xF0 ∷ 0x4B ∷ 0x7C ∷ 0x7C ∷ []))) 0x0 0xDDBF978BB8D408A 0x14577367AAD94A08
+    ∷ okLabels (obtain (nm (0xC9 ∷ 0xF0 ∷ 0x60 ∷ 0x60 ∷ 0x4B ∷ 0xC9 ∷ 0xC1 ∷ 0xF0 ∷ 0x4B ∷ 0x7C ∷ 0x7C ∷ []))) 0x0 0xDDBF978BB8D408A 0x14577367AAD94A08
+    ∷ no (extend (nm (0xC9 ∷ 0xC1 ∷ 0xF5 ∷ 0x4B ∷ 0xD9 ∷ 0xD9 ∷ 0xD1 ∷ 0xE2 ∷ []))) 8
+    ∷ []
+
+pub case24 : T (right [] sequence24)
+unfolding held gaps free used unused format0s choose extentPart format4 format5 format1 format3 records encode readGeometry readExtents readLabel readRecords read goodName limits goodLabel valid taken goodLength settle grant rule goodLengths perform initialise printable listing
+case24 = tt
+
+-- X'81' starts a cylinder and ends one
+
+abbrev pub sequence25 : List Row
+sequence25 =
+    begin 6 4 3 1 2 0 0x7A8069976F8FAB0
+    ∷ ok (allocate (request (nm (0xE2 ∷ 0xE3 ∷ 0xC1 ∷ 0xD9 ∷ 0xE3 ∷ [])) (attr 1) 2 4 3 0 0)) 0x301000400030000000000000000000000000000000000 0x461BB6BFBDD385D
+    ∷ ok (allocate (request (nm (0xC5 ∷ 0xD5 ∷ 0xC4 ∷ [])) (attr 2) 2 9 3 0 0)) 0x301000900030000000000000000000000000000000000 0x166BEA77AC8227D
+    ∷ ok (allocate (request (nm (0xE2 ∷ 0xD3 ∷ 0xC1 ∷ 0xD5 ∷ 0xE3 ∷ [])) (attr 3) 2 13 4 0 0)) 0x401000D00040000000000000000000000000000000000 0xD14E4C007BBD959
+    ∷ ok (allocate (request (nm (0xE6 ∷ 0xC8 ∷ 0xD6 ∷ 0xD3 ∷ 0xC5 ∷ [])) (attr 4) 2 20 4 0 0)) 0x401001400040000000000000000000000000000000000 0x19FD9DC0401C57C5
+    ∷ hurt ((385, 0x81) ∷ []) lspace 3
+    ∷ hurt ((525, 0x81) ∷ []) lspace 3
+    ∷ hurt ((665, 0x81) ∷ []) lspace 3
+    ∷ hurt ((805, 0x81) ∷ []) lspace 0
+    ∷ []
+
+pub case25 : T (right [] sequence25)
+unfolding held gaps free used unused format0s choose extentPart format4 format5 format1 format3 records encode readGeometry readExtents readLabel readRecords read goodName limits goodLabel valid taken goodLength settle grant rule goodLengths perform initialise printable listing
+case25 = tt
+
+-- First characters, and those beside them
+
+abbrev pub sequence26 : List Row
+sequence26 =
     begin 2 2 3 1 1 0 0xF39EF9611A36B55
     ∷ no (scratch (nm (0xC1 ∷ []))) 5
     ∷ no (scratch (nm (0xC9 ∷ []))) 5
@@ -713,14 +804,14 @@ sequence24 =
     ∷ no (scratch (nm (0xFA ∷ []))) 4
     ∷ []
 
-pub case24 : T (right [] sequence24)
+pub case26 : T (right [] sequence26)
 unfolding held gaps free used unused format0s choose extentPart format4 format5 format1 format3 records encode readGeometry readExtents readLabel readRecords read goodName limits goodLabel valid taken goodLength settle grant rule goodLengths perform initialise printable listing
-case24 = tt
+case26 = tt
 
 -- Later characters, and those beside them; a period that ends 44 bytes
 
-abbrev pub sequence25 : List Row
-sequence25 =
+abbrev pub sequence27 : List Row
+sequence27 =
     begin 2 2 3 1 1 0 0xF39EF9611A36B55
     ∷ no (scratch (nm (0xC1 ∷ 0xC9 ∷ []))) 5
     ∷ no (scratch (nm (0xC1 ∷ 0xD1 ∷ []))) 5
@@ -746,38 +837,108 @@ sequence25 =
     ∷ no (scratch (nm (0xC1 ∷ 0xC1 ∷ 0xC1 ∷ 0xC1 ∷ 0xC1 ∷ 0xC1 ∷ 0xC1 ∷ 0xC1 ∷ 0x4B ∷ 0xC1 ∷ 0xC1 ∷ 0xC1 ∷ 0xC1 ∷ 0xC1 ∷ 0xC1 ∷ 0xC1 ∷ 0xC1 ∷ 0x4B ∷ 0xC1 ∷ 0xC1 ∷ 0xC1 ∷ 0xC1 ∷ 0xC1 ∷ 0xC1 ∷ 0xC1 ∷ 0xC1 ∷ 0x4B ∷ 0xC1 ∷ 0xC1 ∷ 0xC1 ∷ 0xC1 ∷ 0xC1 ∷ 0xC1 ∷ 0xC1 ∷ 0xC1 ∷ 0x4B ∷ 0xC1 ∷ 0xC1 ∷ 0xC1 ∷ 0xC1 ∷ 0xC1 ∷ 0xC1 ∷ 0xC1 ∷ []))) 5
     ∷ []
 
-pub case25 : T (right [] sequence25)
+pub case27 : T (right [] sequence27)
 unfolding held gaps free used unused format0s choose extentPart format4 format5 format1 format3 records encode readGeometry readExtents readLabel readRecords read goodName limits goodLabel valid taken goodLength settle grant rule goodLengths perform initialise printable listing
-case25 = tt
+case27 = tt
 
 -- Amounts and secondary amounts at their limits
 
-abbrev pub sequence26 : List Row
-sequence26 =
+abbrev pub sequence28 : List Row
+sequence28 =
     begin 4 2 4 1 1 0 0x1B369E71EBD16E27
-    ∷ no (allocate (request (nm (0xC1 ∷ [])) (attr 1) 1 0 1001 0)) 9
-    ∷ no (allocate (request (nm (0xC1 ∷ [])) (attr 2) 0 0 1001 0)) 9
-    ∷ no (allocate (request (nm (0xC1 ∷ [])) (attr 3) 1 0 65535 0)) 9
-    ∷ no (allocate (request (nm (0xC1 ∷ [])) (attr 4) 0 0 65535 0)) 9
-    ∷ no (allocate (request (nm (0xC1 ∷ [])) (attr 5) 1 0 0 0)) 7
-    ∷ no (allocate (request (nm (0xC1 ∷ [])) (attr 6) 0 0 0 0)) 7
-    ∷ no (allocate (request (nm (0xC1 ∷ [])) (attr 7) 1 0 65536 0)) 7
-    ∷ no (allocate (request (nm (0xC1 ∷ [])) (attr 8) 0 0 65536 0)) 7
-    ∷ no (allocate (request (nm (0xC1 ∷ [])) (attr 9) 1 0 1 16777216)) 7
-    ∷ no (allocate (request (nm (0xC1 ∷ [])) (attr 10) 0 0 1 16777216)) 7
-    ∷ ok (allocate (request (nm (0xC1 ∷ [])) (attr 11) 1 0 1 16777215)) 0x201000200020000000000000000000000000000000000 0xA5160EC2A19BC80
-    ∷ ok (allocate (request (nm (0xC2 ∷ [])) (attr 12) 0 0 1 16777215)) 0x101000400010000000000000000000000000000000000 0x1118A8333355ED68
+    ∷ no (allocate (request (nm (0xC1 ∷ [])) (attr 1) 1 0 1001 0 0)) 9
+    ∷ no (allocate (request (nm (0xC1 ∷ [])) (attr 2) 0 0 1001 0 0)) 9
+    ∷ no (allocate (request (nm (0xC1 ∷ [])) (attr 3) 1 0 65535 0 0)) 9
+    ∷ no (allocate (request (nm (0xC1 ∷ [])) (attr 4) 0 0 65535 0 0)) 9
+    ∷ no (allocate (request (nm (0xC1 ∷ [])) (attr 5) 1 0 0 0 0)) 7
+    ∷ no (allocate (request (nm (0xC1 ∷ [])) (attr 6) 0 0 0 0 0)) 7
+    ∷ no (allocate (request (nm (0xC1 ∷ [])) (attr 7) 1 0 65536 0 0)) 7
+    ∷ no (allocate (request (nm (0xC1 ∷ [])) (attr 8) 0 0 65536 0 0)) 7
+    ∷ no (allocate (request (nm (0xC1 ∷ [])) (attr 9) 1 0 1 16777216 0)) 7
+    ∷ no (allocate (request (nm (0xC1 ∷ [])) (attr 10) 0 0 1 16777216 0)) 7
+    ∷ ok (allocate (request (nm (0xC1 ∷ [])) (attr 11) 1 0 1 16777215 0)) 0x201000200020000000000000000000000000000000000 0xA5160EC2A19BC80
+    ∷ ok (allocate (request (nm (0xC2 ∷ [])) (attr 12) 0 0 1 16777215 0)) 0x101000400010000000000000000000000000000000000 0x1118A8333355ED68
     ∷ no (extend (nm (0xC1 ∷ []))) 9
     ∷ []
 
-pub case26 : T (right [] sequence26)
+pub case28 : T (right [] sequence28)
 unfolding held gaps free used unused format0s choose extentPart format4 format5 format1 format3 records encode readGeometry readExtents readLabel readRecords read goodName limits goodLabel valid taken goodLength settle grant rule goodLengths perform initialise printable listing
-case26 = tt
+case28 = tt
+
+-- Options at a candidate's length; longer in tracks, shorter in cylinders
+
+abbrev pub sequence29 : List Row
+sequence29 =
+    begin 8 3 4 1 2 0 0x13382A71A9E4AD4A
+    ∷ ok (allocate (request (nm (0xE6 ∷ 0xF0 ∷ [])) (attr 1) 2 3 1 0 0)) 0x101000300010000000000000000000000000000000000 0x12377E64189EE0C1
+    ∷ ok (allocate (request (nm (0xE6 ∷ 0xF1 ∷ [])) (attr 2) 2 11 1 0 0)) 0x101000B00010000000000000000000000000000000000 0xDE3A5248D79D25F
+    ∷ ok (allocate (request (nm (0xE6 ∷ 0xF2 ∷ [])) (attr 3) 2 18 6 0 0)) 0x601001200060000000000000000000000000000000000 0x175F37C53435E9E8
+    ∷ no (allocate (request (nm (0xC1 ∷ [])) (attr 4) 0 0 8 0 1)) 9
+    ∷ no (allocate (request (nm (0xC1 ∷ [])) (attr 5) 1 0 3 0 1)) 9
+    ∷ no (allocate (request (nm (0xC1 ∷ [])) (attr 6) 0 0 8 0 2)) 9
+    ∷ no (allocate (request (nm (0xC1 ∷ [])) (attr 7) 1 0 3 0 2)) 9
+    ∷ no (allocate (request (nm (0xC1 ∷ [])) (attr 8) 0 0 8 0 3)) 9
+    ∷ no (allocate (request (nm (0xC1 ∷ [])) (attr 9) 1 0 3 0 3)) 9
+    ∷ ok (allocate (request (nm (0xC1 ∷ [])) (attr 10) 0 4 6 0 1)) 0x601000C00060000000000000000000000000000000000 0x18143E36B4282355
+    ∷ ok (scratch (nm (0xC1 ∷ []))) 0x600000000000000000000000000000000000000000000 0x175F37C53435E9E8
+    ∷ ok (allocate (request (nm (0xC1 ∷ [])) (attr 12) 0 4 7 0 1)) 0x701000400070000000000000000000000000000000000 0x1681FB099817AA4C
+    ∷ ok (scratch (nm (0xC1 ∷ []))) 0x700000000000000000000000000000000000000000000 0x175F37C53435E9E8
+    ∷ ok (allocate (request (nm (0xC1 ∷ [])) (attr 14) 0 4 7 0 2)) 0x701000400070000000000000000000000000000000000 0xDE997BE72BE336D
+    ∷ ok (scratch (nm (0xC1 ∷ []))) 0x700000000000000000000000000000000000000000000 0x175F37C53435E9E8
+    ∷ ok (allocate (request (nm (0xC1 ∷ [])) (attr 16) 0 4 6 0 3)) 0xD0200040007000C000600000000000000000000000000 0x59D62E7D815F91F
+    ∷ ok (scratch (nm (0xC1 ∷ []))) 0xD00000000000000000000000000000000000000000000 0x175F37C53435E9E8
+    ∷ ok (allocate (request (nm (0xC1 ∷ [])) (attr 18) 0 4 7 0 3)) 0x701000400070000000000000000000000000000000000 0x195046AA80D03662
+    ∷ ok (scratch (nm (0xC1 ∷ []))) 0x700000000000000000000000000000000000000000000 0x175F37C53435E9E8
+    ∷ ok (allocate (request (nm (0xC1 ∷ [])) (attr 20) 1 4 2 0 1)) 0x601000C00060000000000000000000000000000000000 0xF5977B580B285A6
+    ∷ ok (scratch (nm (0xC1 ∷ []))) 0x600000000000000000000000000000000000000000000 0x175F37C53435E9E8
+    ∷ ok (allocate (request (nm (0xC1 ∷ [])) (attr 22) 1 4 1 0 2)) 0x601000C00060000000000000000000000000000000000 0x12066E3A26A7F49E
+    ∷ ok (scratch (nm (0xC1 ∷ []))) 0x600000000000000000000000000000000000000000000 0x175F37C53435E9E8
+    ∷ ok (allocate (request (nm (0xC1 ∷ [])) (attr 24) 1 4 1 0 3)) 0x902000C00060006000300000000000000000000000000 0x374F8394088AA84
+    ∷ ok (scratch (nm (0xC1 ∷ []))) 0x900000000000000000000000000000000000000000000 0x175F37C53435E9E8
+    ∷ ok (allocate (request (nm (0xC1 ∷ [])) (attr 26) 1 4 2 0 3)) 0x601000C00060000000000000000000000000000000000 0x174655F1F018FD8D
+    ∷ ok (scratch (nm (0xC1 ∷ []))) 0x600000000000000000000000000000000000000000000 0x175F37C53435E9E8
+    ∷ []
+
+pub case29 : T (right [] sequence29)
+unfolding held gaps free used unused format0s choose extentPart format4 format5 format1 format3 records encode readGeometry readExtents readLabel readRecords read goodName limits goodLabel valid taken goodLength settle grant rule goodLengths perform initialise printable listing
+case29 = tt
+
+-- Options that are unknown, or on absolute tracks
+
+abbrev pub sequence30 : List Row
+sequence30 =
+    begin 8 3 4 1 2 0 0x13382A71A9E4AD4A
+    ∷ ok (allocate (request (nm (0xE6 ∷ 0xF0 ∷ [])) (attr 1) 2 3 1 0 0)) 0x101000300010000000000000000000000000000000000 0x12377E64189EE0C1
+    ∷ ok (allocate (request (nm (0xE6 ∷ 0xF1 ∷ [])) (attr 2) 2 11 1 0 0)) 0x101000B00010000000000000000000000000000000000 0xDE3A5248D79D25F
+    ∷ ok (allocate (request (nm (0xE6 ∷ 0xF2 ∷ [])) (attr 3) 2 18 6 0 0)) 0x601001200060000000000000000000000000000000000 0x175F37C53435E9E8
+    ∷ no (allocate (request (nm (0xC1 ∷ [])) (attr 4) 0 0 1 0 256)) 7
+    ∷ no (allocate (request (nm (0xC1 ∷ [])) (attr 5) 1 0 1 0 256)) 7
+    ∷ no (allocate (request (nm (0xC1 ∷ [])) (attr 6) 2 4 1 0 256)) 7
+    ∷ no (allocate (request (nm (0xC1 ∷ [])) (attr 7) 0 0 1 0 65537)) 7
+    ∷ no (allocate (request (nm (0xC1 ∷ [])) (attr 8) 1 0 1 0 65537)) 7
+    ∷ no (allocate (request (nm (0xC1 ∷ [])) (attr 9) 2 4 1 0 65537)) 7
+    ∷ no (allocate (request (nm (0xC1 ∷ [])) (attr 10) 0 0 0 0 1)) 7
+    ∷ no (allocate (request (nm (0xC1 ∷ [])) (attr 11) 1 0 65536 0 2)) 7
+    ∷ no (allocate (request (nm (0xC1 ∷ [])) (attr 12) 0 0 1 16777216 3)) 7
+    ∷ no (allocate (request (nm (0xC1 ∷ [])) (attr 13) 3 4 1 0 2)) 7
+    ∷ no (allocate (request (nm (0xC1 ∷ [])) (attr 14) 1 0 65535 16777215 1)) 9
+    ∷ no (allocate (request (nm (0xC1 ∷ [])) (attr 15) 1 0 65535 16777215 2)) 9
+    ∷ no (allocate (request (nm (0xC1 ∷ [])) (attr 16) 1 0 65535 16777215 3)) 9
+    ∷ no (allocate (request (nm []) (attr 17) 0 0 1 0 4)) 4
+    ∷ no (allocate (request (nm (0xE6 ∷ 0xF0 ∷ [])) (attr 18) 2 4 1 0 3)) 7
+    ∷ no (allocate (request (nm (0xC1 ∷ [])) (attr 19) 0 0 14 0 4)) 7
+    ∷ no (allocate (request (nm (0xC1 ∷ [])) (attr 20) 2 3 1 0 1)) 7
+    ∷ ok (allocate (request (nm (0xC1 ∷ [])) (attr 21) 2 4 1 0 0)) 0x101000400010000000000000000000000000000000000 0x1EA7E153900E4621
+    ∷ []
+
+pub case30 : T (right [] sequence30)
+unfolding held gaps free used unused format0s choose extentPart format4 format5 format1 format3 records encode readGeometry readExtents readLabel readRecords read goodName limits goodLabel valid taken goodLength settle grant rule goodLengths perform initialise printable listing
+case30 = tt
 
 -- Initialise with buffers of other lengths; tables of 2, 468 and 469 records
 
-abbrev pub sequence27 : List Row
-sequence27 =
+abbrev pub sequence31 : List Row
+sequence31 =
     beginSized 4 5 4 1 2 1119 24 2
     ∷ beginSized 4 5 4 1 2 1121 24 2
     ∷ beginSized 4 5 4 1 2 0 24 2
@@ -791,18 +952,18 @@ sequence27 =
     ∷ sized 65660 24 0 lspace 2
     ∷ []
 
-pub case27 : T (right [] sequence27)
+pub case31 : T (right [] sequence31)
 unfolding held gaps free used unused format0s choose extentPart format4 format5 format1 format3 records encode readGeometry readExtents readLabel readRecords read goodName limits goodLabel valid taken goodLength settle grant rule goodLengths perform initialise printable listing
-case27 = tt
+case31 = tt
 
 -- Listings: all 41 characters of names; tables that are refused
 
-abbrev pub sequence28 : List Row
-sequence28 =
+abbrev pub sequence32 : List Row
+sequence32 =
     begin 4 3 4 1 2 0 0x12B74DDC0C209218
-    ∷ ok (allocate (request (nm (0xC1 ∷ 0xC2 ∷ 0xC3 ∷ 0xC4 ∷ 0xC5 ∷ 0xC6 ∷ 0xC7 ∷ 0xC8 ∷ 0x4B ∷ 0xC9 ∷ 0xD1 ∷ 0xD2 ∷ 0xD3 ∷ 0xD4 ∷ 0xD5 ∷ 0xD6 ∷ 0xD7 ∷ 0x4B ∷ 0xD8 ∷ 0xD9 ∷ 0xE2 ∷ 0xE3 ∷ 0xE4 ∷ 0xE5 ∷ 0xE6 ∷ 0xE7 ∷ 0x4B ∷ 0xE8 ∷ 0xE9 ∷ 0xF0 ∷ 0xF1 ∷ 0xF2 ∷ 0xF3 ∷ 0xF4 ∷ 0xF5 ∷ 0x4B ∷ 0x7B ∷ 0xF6 ∷ 0xF7 ∷ 0xF8 ∷ 0xF9 ∷ 0x60 ∷ 0x5B ∷ 0x7C ∷ [])) (attr 1) 0 0 4 0)) 0x401000300040000000000000000000000000000000000 0x1E4A0C439C81AE9F
-    ∷ ok (allocate (request (nm (0x5B ∷ [])) (attr 2) 2 8 1 0)) 0x101000800010000000000000000000000000000000000 0x1E3B2ECA2202FD6F
-    ∷ ok (allocate (request (nm (0x7C ∷ [])) (attr 3) 2 10 1 0)) 0x101000A00010000000000000000000000000000000000 0xFAAE32605CAA54A
+    ∷ ok (allocate (request (nm (0xC1 ∷ 0xC2 ∷ 0xC3 ∷ 0xC4 ∷ 0xC5 ∷ 0xC6 ∷ 0xC7 ∷ 0xC8 ∷ 0x4B ∷ 0xC9 ∷ 0xD1 ∷ 0xD2 ∷ 0xD3 ∷ 0xD4 ∷ 0xD5 ∷ 0xD6 ∷ 0xD7 ∷ 0x4B ∷ 0xD8 ∷ 0xD9 ∷ 0xE2 ∷ 0xE3 ∷ 0xE4 ∷ 0xE5 ∷ 0xE6 ∷ 0xE7 ∷ 0x4B ∷ 0xE8 ∷ 0xE9 ∷ 0xF0 ∷ 0xF1 ∷ 0xF2 ∷ 0xF3 ∷ 0xF4 ∷ 0xF5 ∷ 0x4B ∷ 0x7B ∷ 0xF6 ∷ 0xF7 ∷ 0xF8 ∷ 0xF9 ∷ 0x60 ∷ 0x5B ∷ 0x7C ∷ [])) (attr 1) 0 0 4 0 0)) 0x401000300040000000000000000000000000000000000 0x1E4A0C439C81AE9F
+    ∷ ok (allocate (request (nm (0x5B ∷ [])) (attr 2) 2 8 1 0 0)) 0x101000800010000000000000000000000000000000000 0x1E3B2ECA2202FD6F
+    ∷ ok (allocate (request (nm (0x7C ∷ [])) (attr 3) 2 10 1 0 0)) 0x101000A00010000000000000000000000000000000000 0xFAAE32605CAA54A
     ∷ listed [] 1120 0x19E71294436AE79A
     ∷ listed ((51, 0x00) ∷ []) 1120 0x46F448A6
     ∷ listed [] 1260 0x46F448A6
@@ -811,26 +972,26 @@ sequence28 =
     ∷ listed [] 0 0x46F447A5
     ∷ []
 
-pub case28 : T (right [] sequence28)
+pub case32 : T (right [] sequence32)
 unfolding held gaps free used unused format0s choose extentPart format4 format5 format1 format3 records encode readGeometry readExtents readLabel readRecords read goodName limits goodLabel valid taken goodLength settle grant rule goodLengths perform initialise printable listing
-case28 = tt
+case32 = tt
 
 -- A listing with numbers of four and of five digits
 
-abbrev pub sequence29 : List Row
-sequence29 =
+abbrev pub sequence33 : List Row
+sequence33 =
     begin 2053 5 3 1234 2 0 0x182881641D66FF20
     ∷ listed [] 840 0x16CFC4F91D0A3FD3
     ∷ []
 
-pub case29 : T (right [] sequence29)
+pub case33 : T (right [] sequence33)
 unfolding held gaps free used unused format0s choose extentPart format4 format5 format1 format3 records encode readGeometry readExtents readLabel readRecords read goodName limits goodLabel valid taken goodLength settle grant rule goodLengths perform initialise printable listing
-case29 = tt
+case33 = tt
 
 -- The ten bytes of an extent, or none
 
-abbrev pub sequence30 : List Row
-sequence30 =
+abbrev pub sequence34 : List Row
+sequence34 =
     parts 140 140 0x98E1F3858409312
     ∷ parts 139 140 0xC79538BFF0E4274
     ∷ parts 140 139 0xC79538BFF0E4274
@@ -841,6 +1002,6 @@ sequence30 =
     ∷ parts 139 139 0xC79538BFF0E4274
     ∷ []
 
-pub case30 : T (right [] sequence30)
+pub case34 : T (right [] sequence34)
 unfolding held gaps free used unused format0s choose extentPart format4 format5 format1 format3 records encode readGeometry readExtents readLabel readRecords read goodName limits goodLabel valid taken goodLength settle grant rule goodLengths perform initialise printable listing
-case30 = tt
+case34 = tt
