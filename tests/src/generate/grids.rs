@@ -124,7 +124,7 @@ pub fn amounts() -> Vec<Row> {
     let mut rows = vec![];
     for option in [NO_OPTION, CONTIG, MXIG, ALX, 4, top] {
         for kind in [0, 1, 2, 3, 4, 255, 256, 1 << 31, top] {
-            // A start counts for absolute requests only; that it does, option 0 shows for all kinds.
+            // A start counts for absolute requests only, which option 0 shows for every kind.
             let few = option != NO_OPTION && kind != 2;
             for &start in if few { &starts[..3] } else { &starts[..] } {
                 for amount in [0, 1, 2, 6, 7, 8, 9, 12, 20, 21, 65_535, 65_536, 1 << 31, top] {

@@ -107,7 +107,8 @@ impl Patient<'_> {
 
     /// A set and one of its extents: record, byte in the table, number.
     fn an_extent(&mut self) -> Option<(SetGlance, usize, usize)> {
-        let set = self.a_set()?;
+        // A table that was damaged before may have a set without any.
+        let set = self.a_set().filter(|set| !set.extents.is_empty())?;
         let e = self.rng.below(set.extents.len());
         let at = extent_at(&set, e);
         Some((set, at, e))
