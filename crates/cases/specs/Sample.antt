@@ -336,85 +336,10 @@ pub case12 : T (right [] sequence12)
 unfolding held gaps free used unused format0s choose extentPart format4 format5 format1 format3 records encode readGeometry readExtents readLabel readRecords read goodName limits goodLabel valid taken goodLength settle grant rule goodLengths perform initialise printable listing
 case12 = tt
 
--- CONTIG, MXIG and ALX of tracks
+-- Absolute tracks in every place of a free extent
 
 abbrev pub sequence13 : List Row
 sequence13 =
-    begin 31 1 6 1 2 0 0x1F24C8886BE88DF4
-    ∷ ok (allocate (request (nm (0xE6 ∷ 0xF0 ∷ [])) (attr 1) 2 6 1 0 0)) 0x101000600010000000000000000000000000000000000 0x82E7402E0EE8DFF
-    ∷ ok (allocate (request (nm (0xE6 ∷ 0xF1 ∷ [])) (attr 2) 2 12 1 0 0)) 0x101000C00010000000000000000000000000000000000 0xD85A08315B08EEE
-    ∷ ok (allocate (request (nm (0xE6 ∷ 0xF2 ∷ [])) (attr 3) 2 16 1 0 0)) 0x101001000010000000000000000000000000000000000 0x1920F9D2E9829D8D
-    ∷ ok (allocate (request (nm (0xE6 ∷ 0xF3 ∷ [])) (attr 4) 2 22 1 0 0)) 0x101001600010000000000000000000000000000000000 0x1C2BF6803DC0AD15
-    ∷ ok (allocate (request (nm (0xE6 ∷ 0xF4 ∷ [])) (attr 5) 2 26 1 0 0)) 0x101001A00010000000000000000000000000000000000 0x175A309E5518C310
-    ∷ ok (allocate (request (nm (0xE6 ∷ 0xF5 ∷ [])) (attr 6) 2 30 1 0 0)) 0x101001E00010000000000000000000000000000000000 0x224C9BBAB9FEF7D
-    ∷ no (allocate (request (nm (0xC1 ∷ [])) (attr 7) 0 0 6 0 1)) 9
-    ∷ no (allocate (request (nm (0xC1 ∷ [])) (attr 8) 0 0 6 0 2)) 9
-    ∷ no (allocate (request (nm (0xC1 ∷ [])) (attr 9) 0 0 6 0 3)) 9
-    ∷ ok (allocate (request (nm (0xC1 ∷ [])) (attr 10) 0 0 3 0 3)) 0x1305000700050011000500030003000D00030017000300 0x93B3F5634B6B083
-    ∷ okLabels (obtain (nm (0xC1 ∷ []))) 0x0 0x93B3F5634B6B083 0x19EEB0206B1B525E
-    ∷ ok (scratch (nm (0xC1 ∷ []))) 0x1300000000000000000000000000000000000000000000 0x224C9BBAB9FEF7D
-    ∷ ok (allocate (request (nm (0xC1 ∷ [])) (attr 13) 0 0 2 4 2)) 0x501000700050000000000000000000000000000000000 0x197AE6D7F37915C5
-    ∷ ok (allocate (request (nm (0xC2 ∷ [])) (attr 14) 0 0 5 0 2)) 0x501001100050000000000000000000000000000000000 0x18F27DBF5C1A5B5
-    ∷ ok (allocate (request (nm (0xC3 ∷ [])) (attr 15) 0 0 1 0 3)) 0xC0400030003000D000300170003001B00030000000000 0x185A8A08D86B213E
-    ∷ ok (scratch (nm (0xC3 ∷ []))) 0xC00000000000000000000000000000000000000000000 0x18F27DBF5C1A5B5
-    ∷ ok (allocate (request (nm (0xC3 ∷ [])) (attr 17) 0 0 2 0 1)) 0x201000300020000000000000000000000000000000000 0x2A521AB0688AC65
-    ∷ no (allocate (request (nm (0xC4 ∷ [])) (attr 18) 0 0 1 0 3)) 11
-    ∷ ok (allocate (request (nm (0xC4 ∷ [])) (attr 19) 0 0 2 0 3)) 0x903000D000300170003001B0003000000000000000000 0xC6B0840FC17A430
-    ∷ no (allocate (request (nm (0xC5 ∷ [])) (attr 20) 0 0 1 0 3)) 11
-    ∷ ok (scratch (nm (0xC4 ∷ []))) 0x900000000000000000000000000000000000000000000 0x2A521AB0688AC65
-    ∷ ok (allocate (request (nm (0xC4 ∷ [])) (attr 22) 0 0 3 0 1)) 0x301000D00030000000000000000000000000000000000 0x8538CF3FFFC4329
-    ∷ ok (extend (nm (0xC1 ∷ []))) 0x40200170003001B000100000000000000000000000000 0x90A3647A81303EF
-    ∷ ok (scratch (nm (0xC2 ∷ []))) 0x500000000000000000000000000000000000000000000 0x10147D9247A2C3F0
-    ∷ ok (allocate (request (nm (0xC2 ∷ [])) (attr 25) 0 0 3 0 3)) 0x501001100050000000000000000000000000000000000 0xF887B56B5CF7799
-    ∷ ok (scratch (nm (0xC2 ∷ []))) 0x500000000000000000000000000000000000000000000 0x10147D9247A2C3F0
-    ∷ ok (allocate (request (nm (0xC2 ∷ [])) (attr 27) 0 0 2 0 3)) 0x70200110005001C000200000000000000000000000000 0xECDB49B4082A1F
-    ∷ []
-
-pub case13 : T (right [] sequence13)
-unfolding held gaps free used unused format0s choose extentPart format4 format5 format1 format3 records encode readGeometry readExtents readLabel readRecords read goodName limits goodLabel valid taken goodLength settle grant rule goodLengths perform initialise printable listing
-case13 = tt
-
--- CONTIG, MXIG and ALX of cylinders, never the rest of a free extent
-
-abbrev pub sequence14 : List Row
-sequence14 =
-    begin 16 3 7 1 2 0 0x14AF8B63850CAB34
-    ∷ ok (allocate (request (nm (0xE6 ∷ 0xF0 ∷ [])) (attr 1) 2 3 1 0 0)) 0x101000300010000000000000000000000000000000000 0xBB2F0E30FE1985
-    ∷ ok (allocate (request (nm (0xE6 ∷ 0xF1 ∷ [])) (attr 2) 2 11 1 0 0)) 0x101000B00010000000000000000000000000000000000 0x12A6F2C352CE47F4
-    ∷ ok (allocate (request (nm (0xE6 ∷ 0xF2 ∷ [])) (attr 3) 2 18 1 0 0)) 0x101001200010000000000000000000000000000000000 0xCB9D16AD7756776
-    ∷ ok (allocate (request (nm (0xE6 ∷ 0xF3 ∷ [])) (attr 4) 2 27 3 0 0)) 0x301001B00030000000000000000000000000000000000 0xC496D4C02B647B5
-    ∷ ok (allocate (request (nm (0xE6 ∷ 0xF4 ∷ [])) (attr 5) 2 33 2 0 0)) 0x201002100020000000000000000000000000000000000 0x1C403511912D2AA6
-    ∷ ok (allocate (request (nm (0xE6 ∷ 0xF5 ∷ [])) (attr 6) 2 41 1 0 0)) 0x101002900010000000000000000000000000000000000 0x10312413AB33257F
-    ∷ ok (allocate (request (nm (0xE6 ∷ 0xF6 ∷ [])) (attr 7) 2 46 2 0 0)) 0x201002E00020000000000000000000000000000000000 0x11C7760549BF6682
-    ∷ ok (allocate (request (nm (0xC1 ∷ [])) (attr 8) 1 0 1 0 3)) 0x1505000C00060015000600060003001E00030024000300 0xCCCBA62AC860375
-    ∷ ok (scratch (nm (0xC1 ∷ []))) 0x1500000000000000000000000000000000000000000000 0x11C7760549BF6682
-    ∷ ok (allocate (request (nm (0xC1 ∷ [])) (attr 10) 1 0 1 0 2)) 0x601000C00060000000000000000000000000000000000 0x83C320F01782FF3
-    ∷ ok (allocate (request (nm (0xC2 ∷ [])) (attr 11) 1 0 2 1 2)) 0x601001500060000000000000000000000000000000000 0x1E246975C11B46FF
-    ∷ no (allocate (request (nm (0xC3 ∷ [])) (attr 12) 1 0 2 0 1)) 9
-    ∷ no (allocate (request (nm (0xC3 ∷ [])) (attr 13) 1 0 2 0 2)) 9
-    ∷ no (allocate (request (nm (0xC3 ∷ [])) (attr 14) 1 0 2 0 3)) 9
-    ∷ ok (allocate (request (nm (0xC3 ∷ [])) (attr 15) 1 0 1 0 3)) 0xC0400060003001E000300240003002A00030000000000 0x15C1496CBF57B31C
-    ∷ ok (scratch (nm (0xC3 ∷ []))) 0xC00000000000000000000000000000000000000000000 0x1E246975C11B46FF
-    ∷ ok (allocate (request (nm (0xC3 ∷ [])) (attr 17) 1 0 1 0 1)) 0x301000600030000000000000000000000000000000000 0x75C735E123CE8E7
-    ∷ ok (allocate (request (nm (0xC4 ∷ [])) (attr 18) 1 0 1 0 3)) 0x903001E000300240003002A0003000000000000000000 0x15303F545655E01D
-    ∷ ok (release (nm (0xC2 ∷ [])) 0x201) 0x300000000000000000000000000000000000000000000 0x119982D488DA9D36
-    ∷ ok (extend (nm (0xC2 ∷ []))) 0x301001800030000000000000000000000000000000000 0xBF73D1DE0925667
-    ∷ ok (scratch (nm (0xC2 ∷ []))) 0x600000000000000000000000000000000000000000000 0x129CACF82B35EBEA
-    ∷ ok (allocate (request (nm (0xC2 ∷ [])) (attr 22) 1 0 1 0 1)) 0x301001500030000000000000000000000000000000000 0x4EE83E6D7D8FA1A
-    ∷ ok (allocate (request (nm (0xC5 ∷ [])) (attr 23) 1 0 1 0 3)) 0x301001800030000000000000000000000000000000000 0x820E0D150CC584F
-    ∷ ok (scratch (nm (0xC1 ∷ []))) 0x600000000000000000000000000000000000000000000 0xE107DB26B929512
-    ∷ ok (scratch (nm (0xC5 ∷ []))) 0x300000000000000000000000000000000000000000000 0x11D33AC2A6DFF5D5
-    ∷ ok (allocate (request (nm (0xC1 ∷ [])) (attr 26) 1 0 1 0 3)) 0x902000C00060018000300000000000000000000000000 0x1D128197F0315D
-    ∷ []
-
-pub case14 : T (right [] sequence14)
-unfolding held gaps free used unused format0s choose extentPart format4 format5 format1 format3 records encode readGeometry readExtents readLabel readRecords read goodName limits goodLabel valid taken goodLength settle grant rule goodLengths perform initialise printable listing
-case14 = tt
-
--- Absolute tracks in every place of a free extent
-
-abbrev pub sequence15 : List Row
-sequence15 =
     begin 4 5 5 1 2 0 0x1A5E83DFF644553
     ∷ ok (allocate (request (nm (0xD4 ∷ 0xC9 ∷ 0xC4 ∷ 0xC4 ∷ 0xD3 ∷ 0xC5 ∷ [])) (attr 1) 2 8 3 0 0)) 0x301000800030000000000000000000000000000000000 0x1DC2109796AFE179
     ∷ ok (allocate (request (nm (0xC6 ∷ 0xD9 ∷ 0xD6 ∷ 0xD5 ∷ 0xE3 ∷ [])) (attr 2) 2 3 2 0 0)) 0x201000300020000000000000000000000000000000000 0x123C6314CE332051
@@ -429,14 +354,14 @@ sequence15 =
     ∷ ok (allocate (request (nm (0xE7 ∷ [])) (attr 11) 2 7 11 0 0)) 0xB010007000B0000000000000000000000000000000000 0x18F170E7F135AEB0
     ∷ []
 
-pub case15 : T (right [] sequence15)
+pub case13 : T (right [] sequence13)
 unfolding held gaps free used unused format0s choose extentPart format4 format5 format1 format3 records encode readGeometry readExtents readLabel readRecords read goodName limits goodLabel valid taken goodLength settle grant rule goodLengths perform initialise printable listing
-case15 = tt
+case13 = tt
 
 -- Release inside and at the end of an extent, with and without its format 3
 
-abbrev pub sequence16 : List Row
-sequence16 =
+abbrev pub sequence14 : List Row
+sequence14 =
     begin 10 5 7 1 1 0 0x42DD2CC37093B3E
     ∷ ok (allocate (request (nm (0xC1 ∷ [])) (attr 1) 1 0 2 1 0)) 0xA010005000A0000000000000000000000000000000000 0x1EAB8ADF15DAB898
     ∷ ok (extend (nm (0xC1 ∷ []))) 0x501000F00050000000000000000000000000000000000 0x1EA24A606AB8FEE6
@@ -455,14 +380,14 @@ sequence16 =
     ∷ ok (release (nm (0xC1 ∷ [])) 0x501) 0x0 0xA9FEC38758815FE
     ∷ []
 
-pub case16 : T (right [] sequence16)
+pub case14 : T (right [] sequence14)
 unfolding held gaps free used unused format0s choose extentPart format4 format5 format1 format3 records encode readGeometry readExtents readLabel readRecords read goodName limits goodLabel valid taken goodLength settle grant rule goodLengths perform initialise printable listing
-case16 = tt
+case14 = tt
 
 -- Lengths of every buffer
 
-abbrev pub sequence17 : List Row
-sequence17 =
+abbrev pub sequence15 : List Row
+sequence15 =
     begin 4 5 2 1 2 0 0x1D56B5422AF11817
     ∷ ok (allocate (request (nm (0xC1 ∷ [])) (attr 1) 0 0 4 0 0)) 0x401000300040000000000000000000000000000000000 0xBEEBC1A27153530
     ∷ ok (allocate (request (nm (0xC2 ∷ [])) (attr 2) 0 0 10 2 0)) 0xA010007000A0000000000000000000000000000000000 0x11ADBB01FF443CD5
@@ -489,14 +414,14 @@ sequence17 =
     ∷ sized 560 24 0 (scratch (nm (0xC2 ∷ []))) 0
     ∷ []
 
-pub case17 : T (right [] sequence17)
+pub case15 : T (right [] sequence15)
 unfolding held gaps free used unused format0s choose extentPart format4 format5 format1 format3 records encode readGeometry readExtents readLabel readRecords read goodName limits goodLabel valid taken goodLength settle grant rule goodLengths perform initialise printable listing
-case17 = tt
+case15 = tt
 
 -- Names against the rule
 
-abbrev pub sequence18 : List Row
-sequence18 =
+abbrev pub sequence16 : List Row
+sequence16 =
     begin 4 5 2 1 2 0 0x1D56B5422AF11817
     ∷ ok (allocate (request (nm (0xC1 ∷ [])) (attr 1) 0 0 4 0 0)) 0x401000300040000000000000000000000000000000000 0xBEEBC1A27153530
     ∷ ok (allocate (request (nm (0xC2 ∷ [])) (attr 2) 0 0 10 2 0)) 0xA010007000A0000000000000000000000000000000000 0x11ADBB01FF443CD5
@@ -520,14 +445,14 @@ sequence18 =
     ∷ ok (scratch (nm (0xC1 ∷ 0xC1 ∷ 0xC1 ∷ 0xC1 ∷ 0xC1 ∷ 0xC1 ∷ 0xC1 ∷ 0xC1 ∷ 0x4B ∷ 0xC1 ∷ 0xC1 ∷ 0xC1 ∷ 0xC1 ∷ 0xC1 ∷ 0xC1 ∷ 0xC1 ∷ 0xC1 ∷ 0x4B ∷ 0xC1 ∷ 0xC1 ∷ 0xC1 ∷ 0xC1 ∷ 0xC1 ∷ 0xC1 ∷ 0xC1 ∷ 0xC1 ∷ 0x4B ∷ 0xC1 ∷ 0xC1 ∷ 0xC1 ∷ 0xC1 ∷ 0xC1 ∷ 0xC1 ∷ 0xC1 ∷ 0xC1 ∷ 0x4B ∷ 0xC1 ∷ 0xC1 ∷ 0xC1 ∷ 0xC1 ∷ 0xC1 ∷ 0xC1 ∷ 0xC1 ∷ 0xC1 ∷ []))) 0xA00000000000000000000000000000000000000000000 0x116021D442B3CF39
     ∷ []
 
-pub case18 : T (right [] sequence18)
+pub case16 : T (right [] sequence16)
 unfolding held gaps free used unused format0s choose extentPart format4 format5 format1 format3 records encode readGeometry readExtents readLabel readRecords read goodName limits goodLabel valid taken goodLength settle grant rule goodLengths perform initialise printable listing
-case18 = tt
+case16 = tt
 
 -- Kinds, amounts and TTRs out of their ranges
 
-abbrev pub sequence19 : List Row
-sequence19 =
+abbrev pub sequence17 : List Row
+sequence17 =
     begin 4 5 2 1 2 0 0x1D56B5422AF11817
     ∷ ok (allocate (request (nm (0xC1 ∷ [])) (attr 1) 0 0 4 0 0)) 0x401000300040000000000000000000000000000000000 0xBEEBC1A27153530
     ∷ ok (allocate (request (nm (0xC2 ∷ [])) (attr 2) 0 0 10 2 0)) 0xA010007000A0000000000000000000000000000000000 0x11ADBB01FF443CD5
@@ -557,14 +482,14 @@ sequence19 =
     ∷ no (extend (nm (0xC3 ∷ []))) 9
     ∷ []
 
-pub case19 : T (right [] sequence19)
+pub case17 : T (right [] sequence17)
 unfolding held gaps free used unused format0s choose extentPart format4 format5 format1 format3 records encode readGeometry readExtents readLabel readRecords read goodName limits goodLabel valid taken goodLength settle grant rule goodLengths perform initialise printable listing
-case19 = tt
+case17 = tt
 
 -- Where several refusals apply, the first of them
 
-abbrev pub sequence20 : List Row
-sequence20 =
+abbrev pub sequence18 : List Row
+sequence18 =
     begin 4 5 2 1 2 0 0x1D56B5422AF11817
     ∷ ok (allocate (request (nm (0xC1 ∷ [])) (attr 1) 0 0 4 0 0)) 0x401000300040000000000000000000000000000000000 0xBEEBC1A27153530
     ∷ ok (allocate (request (nm (0xC2 ∷ [])) (attr 2) 0 0 10 2 0)) 0xA010007000A0000000000000000000000000000000000 0x11ADBB01FF443CD5
@@ -593,14 +518,14 @@ sequence20 =
     ∷ hurt ((60, 0x01) ∷ []) lspace 3
     ∷ []
 
-pub case20 : T (right [] sequence20)
+pub case18 : T (right [] sequence18)
 unfolding held gaps free used unused format0s choose extentPart format4 format5 format1 format3 records encode readGeometry readExtents readLabel readRecords read goodName limits goodLabel valid taken goodLength settle grant rule goodLengths perform initialise printable listing
-case20 = tt
+case18 = tt
 
 -- Damaged tables with a format 3
 
-abbrev pub sequence21 : List Row
-sequence21 =
+abbrev pub sequence19 : List Row
+sequence19 =
     begin 11 3 4 4 2 0 0xB433BC0EC5C5BCD
     ∷ ok (allocate (request (nm (0xC7 ∷ 0xC1 ∷ 0xD7 ∷ [])) (attr 1) 2 9 1 0 0)) 0x101000900010000000000000000000000000000000000 0x165A0968A7CA8336
     ∷ ok (allocate (request (nm (0xC3 ∷ 0xE8 ∷ 0xD3 ∷ [])) (attr 2) 1 0 1 1 0)) 0x301000600030000000000000000000000000000000000 0x199EE5ABFFE151E3
@@ -630,14 +555,14 @@ sequence21 =
     ∷ hurt ((668, 0x04) ∷ (670, 0x02) ∷ (672, 0x05) ∷ (674, 0x00) ∷ (707, 0x00) ∷ (709, 0x01) ∷ (711, 0x00) ∷ (713, 0x02) ∷ []) (extend (nm (0xD3 ∷ 0xD6 ∷ 0xD5 ∷ 0xC7 ∷ []))) 0
     ∷ []
 
-pub case21 : T (right [] sequence21)
+pub case19 : T (right [] sequence19)
 unfolding held gaps free used unused format0s choose extentPart format4 format5 format1 format3 records encode readGeometry readExtents readLabel readRecords read goodName limits goodLabel valid taken goodLength settle grant rule goodLengths perform initialise printable listing
-case21 = tt
+case19 = tt
 
 -- 26 free extents and more, and a full VTOC
 
-abbrev pub sequence22 : List Row
-sequence22 =
+abbrev pub sequence20 : List Row
+sequence20 =
     build 38 2 31 1 1
     (allocate (request (nm (0xC1 ∷ [])) (attr 1) 0 0 1 1 0)
     ∷ extend (nm (0xC1 ∷ []))
@@ -702,14 +627,14 @@ sequence22 =
     ∷ ok (allocate (request (nm (0xC4 ∷ [])) (attr 59) 0 0 1 0 3)) 0x805004800040005000100070001000A0001000D000100 0x3DE2228F74F4F9B
     ∷ []
 
-pub case22 : T (right [] sequence22)
+pub case20 : T (right [] sequence20)
 unfolding held gaps free used unused format0s choose extentPart format4 format5 format1 format3 records encode readGeometry readExtents readLabel readRecords read goodName limits goodLabel valid taken goodLength settle grant rule goodLengths perform initialise printable listing
-case22 = tt
+case20 = tt
 
 -- Random calls, H = 3
 
-abbrev pub sequence23 : List Row
-sequence23 =
+abbrev pub sequence21 : List Row
+sequence21 =
     begin 9 3 3 1 3 0 0x192F20BA354C35C9
     ∷ ok (allocate (request (nm (0x7B ∷ 0xE9 ∷ 0xF9 ∷ [])) (attr 234) 2 4 1 0 0)) 0x101000400010000000000000000000000000000000000 0x1FBC51776E468231
     ∷ no (extend (nm (0x7B ∷ 0xE9 ∷ 0xF9 ∷ []))) 8
@@ -725,14 +650,14 @@ sequence23 =
     ∷ hurt ((528, 0x04) ∷ (532, 0x07) ∷ []) (scratch (nm (0x7C ∷ 0xF0 ∷ 0x7B ∷ 0xF5 ∷ 0xD1 ∷ 0xE2 ∷ 0x4B ∷ 0x7B ∷ []))) 3
     ∷ []
 
-pub case23 : T (right [] sequence23)
+pub case21 : T (right [] sequence21)
 unfolding held gaps free used unused format0s choose extentPart format4 format5 format1 format3 records encode readGeometry readExtents readLabel readRecords read goodName limits goodLabel valid taken goodLength settle grant rule goodLengths perform initialise printable listing
-case23 = tt
+case21 = tt
 
 -- Random calls, H = 5
 
-abbrev pub sequence24 : List Row
-sequence24 =
+abbrev pub sequence22 : List Row
+sequence22 =
     begin 11 5 12 20 1 0 0x187888AF3FDB19AF
     ∷ ok (allocate (request (nm (0xC9 ∷ 0xF0 ∷ 0x60 ∷ 0x60 ∷ 0x4B ∷ 0xC9 ∷ 0xC1 ∷ 0xF0 ∷ 0x4B ∷ 0x7C ∷ 0x7C ∷ [])) (attr 151) 2 22 1 0 0)) 0x101001600010000000000000000000000000000000000 0x322C4D20A67A6FE
     ∷ no (allocate (request (nm (0xD9 ∷ 0x4B ∷ 0x5B ∷ 0x4B ∷ 0x7B ∷ 0x4B ∷ 0x5B ∷ 0x4B ∷ 0x5B ∷ 0x4B ∷ 0x7B ∷ 0x4B ∷ 0xE9 ∷ 0x4B ∷ 0xD1 ∷ 0x4B ∷ 0x7C ∷ [])) (attr 222) 0 2104727299 51 1 2)) 9
@@ -748,14 +673,14 @@ sequence24 =
     ∷ no (extend (nm (0xC9 ∷ 0xC1 ∷ 0xF5 ∷ 0x4B ∷ 0xD9 ∷ 0xD9 ∷ 0xD1 ∷ 0xE2 ∷ []))) 8
     ∷ []
 
-pub case24 : T (right [] sequence24)
+pub case22 : T (right [] sequence22)
 unfolding held gaps free used unused format0s choose extentPart format4 format5 format1 format3 records encode readGeometry readExtents readLabel readRecords read goodName limits goodLabel valid taken goodLength settle grant rule goodLengths perform initialise printable listing
-case24 = tt
+case22 = tt
 
 -- X'81' starts a cylinder and ends one
 
-abbrev pub sequence25 : List Row
-sequence25 =
+abbrev pub sequence23 : List Row
+sequence23 =
     begin 6 4 3 1 2 0 0x7A8069976F8FAB0
     ∷ ok (allocate (request (nm (0xE2 ∷ 0xE3 ∷ 0xC1 ∷ 0xD9 ∷ 0xE3 ∷ [])) (attr 1) 2 4 3 0 0)) 0x301000400030000000000000000000000000000000000 0x461BB6BFBDD385D
     ∷ ok (allocate (request (nm (0xC5 ∷ 0xD5 ∷ 0xC4 ∷ [])) (attr 2) 2 9 3 0 0)) 0x301000900030000000000000000000000000000000000 0x166BEA77AC8227D
@@ -767,14 +692,14 @@ sequence25 =
     ∷ hurt ((805, 0x81) ∷ []) lspace 0
     ∷ []
 
-pub case25 : T (right [] sequence25)
+pub case23 : T (right [] sequence23)
 unfolding held gaps free used unused format0s choose extentPart format4 format5 format1 format3 records encode readGeometry readExtents readLabel readRecords read goodName limits goodLabel valid taken goodLength settle grant rule goodLengths perform initialise printable listing
-case25 = tt
+case23 = tt
 
 -- First characters, and those beside them
 
-abbrev pub sequence26 : List Row
-sequence26 =
+abbrev pub sequence24 : List Row
+sequence24 =
     begin 2 2 3 1 1 0 0xF39EF9611A36B55
     ∷ no (scratch (nm (0xC1 ∷ []))) 5
     ∷ no (scratch (nm (0xC9 ∷ []))) 5
@@ -804,14 +729,14 @@ sequence26 =
     ∷ no (scratch (nm (0xFA ∷ []))) 4
     ∷ []
 
-pub case26 : T (right [] sequence26)
+pub case24 : T (right [] sequence24)
 unfolding held gaps free used unused format0s choose extentPart format4 format5 format1 format3 records encode readGeometry readExtents readLabel readRecords read goodName limits goodLabel valid taken goodLength settle grant rule goodLengths perform initialise printable listing
-case26 = tt
+case24 = tt
 
 -- Later characters, and those beside them; a period that ends 44 bytes
 
-abbrev pub sequence27 : List Row
-sequence27 =
+abbrev pub sequence25 : List Row
+sequence25 =
     begin 2 2 3 1 1 0 0xF39EF9611A36B55
     ∷ no (scratch (nm (0xC1 ∷ 0xC9 ∷ []))) 5
     ∷ no (scratch (nm (0xC1 ∷ 0xD1 ∷ []))) 5
@@ -837,14 +762,14 @@ sequence27 =
     ∷ no (scratch (nm (0xC1 ∷ 0xC1 ∷ 0xC1 ∷ 0xC1 ∷ 0xC1 ∷ 0xC1 ∷ 0xC1 ∷ 0xC1 ∷ 0x4B ∷ 0xC1 ∷ 0xC1 ∷ 0xC1 ∷ 0xC1 ∷ 0xC1 ∷ 0xC1 ∷ 0xC1 ∷ 0xC1 ∷ 0x4B ∷ 0xC1 ∷ 0xC1 ∷ 0xC1 ∷ 0xC1 ∷ 0xC1 ∷ 0xC1 ∷ 0xC1 ∷ 0xC1 ∷ 0x4B ∷ 0xC1 ∷ 0xC1 ∷ 0xC1 ∷ 0xC1 ∷ 0xC1 ∷ 0xC1 ∷ 0xC1 ∷ 0xC1 ∷ 0x4B ∷ 0xC1 ∷ 0xC1 ∷ 0xC1 ∷ 0xC1 ∷ 0xC1 ∷ 0xC1 ∷ 0xC1 ∷ []))) 5
     ∷ []
 
-pub case27 : T (right [] sequence27)
+pub case25 : T (right [] sequence25)
 unfolding held gaps free used unused format0s choose extentPart format4 format5 format1 format3 records encode readGeometry readExtents readLabel readRecords read goodName limits goodLabel valid taken goodLength settle grant rule goodLengths perform initialise printable listing
-case27 = tt
+case25 = tt
 
 -- Amounts and secondary amounts at their limits
 
-abbrev pub sequence28 : List Row
-sequence28 =
+abbrev pub sequence26 : List Row
+sequence26 =
     begin 4 2 4 1 1 0 0x1B369E71EBD16E27
     ∷ no (allocate (request (nm (0xC1 ∷ [])) (attr 1) 1 0 1001 0 0)) 9
     ∷ no (allocate (request (nm (0xC1 ∷ [])) (attr 2) 0 0 1001 0 0)) 9
@@ -861,14 +786,160 @@ sequence28 =
     ∷ no (extend (nm (0xC1 ∷ []))) 9
     ∷ []
 
+pub case26 : T (right [] sequence26)
+unfolding held gaps free used unused format0s choose extentPart format4 format5 format1 format3 records encode readGeometry readExtents readLabel readRecords read goodName limits goodLabel valid taken goodLength settle grant rule goodLengths perform initialise printable listing
+case26 = tt
+
+-- Initialise with buffers of other lengths; tables of 2, 468 and 469 records
+
+abbrev pub sequence27 : List Row
+sequence27 =
+    beginSized 4 5 4 1 2 1119 24 2
+    ∷ beginSized 4 5 4 1 2 1121 24 2
+    ∷ beginSized 4 5 4 1 2 0 24 2
+    ∷ beginSized 4 5 4 1 2 1120 23 2
+    ∷ beginSized 4 5 4 1 2 1120 25 2
+    ∷ beginSized 4 5 4 1 2 1120 0 2
+    ∷ begin 2 2 3 1 1 0 0xF39EF9611A36B55
+    ∷ sized 280 24 0 lspace 2
+    ∷ sized 560 24 0 lspace 3
+    ∷ sized 65520 24 0 lspace 3
+    ∷ sized 65660 24 0 lspace 2
+    ∷ []
+
+pub case27 : T (right [] sequence27)
+unfolding held gaps free used unused format0s choose extentPart format4 format5 format1 format3 records encode readGeometry readExtents readLabel readRecords read goodName limits goodLabel valid taken goodLength settle grant rule goodLengths perform initialise printable listing
+case27 = tt
+
+-- Listings: all 41 characters of names; tables that are refused
+
+abbrev pub sequence28 : List Row
+sequence28 =
+    begin 4 3 4 1 2 0 0x12B74DDC0C209218
+    ∷ ok (allocate (request (nm (0xC1 ∷ 0xC2 ∷ 0xC3 ∷ 0xC4 ∷ 0xC5 ∷ 0xC6 ∷ 0xC7 ∷ 0xC8 ∷ 0x4B ∷ 0xC9 ∷ 0xD1 ∷ 0xD2 ∷ 0xD3 ∷ 0xD4 ∷ 0xD5 ∷ 0xD6 ∷ 0xD7 ∷ 0x4B ∷ 0xD8 ∷ 0xD9 ∷ 0xE2 ∷ 0xE3 ∷ 0xE4 ∷ 0xE5 ∷ 0xE6 ∷ 0xE7 ∷ 0x4B ∷ 0xE8 ∷ 0xE9 ∷ 0xF0 ∷ 0xF1 ∷ 0xF2 ∷ 0xF3 ∷ 0xF4 ∷ 0xF5 ∷ 0x4B ∷ 0x7B ∷ 0xF6 ∷ 0xF7 ∷ 0xF8 ∷ 0xF9 ∷ 0x60 ∷ 0x5B ∷ 0x7C ∷ [])) (attr 1) 0 0 4 0 0)) 0x401000300040000000000000000000000000000000000 0x1E4A0C439C81AE9F
+    ∷ ok (allocate (request (nm (0x5B ∷ [])) (attr 2) 2 8 1 0 0)) 0x101000800010000000000000000000000000000000000 0x1E3B2ECA2202FD6F
+    ∷ ok (allocate (request (nm (0x7C ∷ [])) (attr 3) 2 10 1 0 0)) 0x101000A00010000000000000000000000000000000000 0xFAAE32605CAA54A
+    ∷ listed [] 1120 0x19E71294436AE79A
+    ∷ listed ((51, 0x00) ∷ []) 1120 0x46F448A6
+    ∷ listed [] 1260 0x46F448A6
+    ∷ listed [] 1119 0x46F447A5
+    ∷ listed ((51, 0x00) ∷ []) 280 0x46F447A5
+    ∷ listed [] 0 0x46F447A5
+    ∷ []
+
 pub case28 : T (right [] sequence28)
 unfolding held gaps free used unused format0s choose extentPart format4 format5 format1 format3 records encode readGeometry readExtents readLabel readRecords read goodName limits goodLabel valid taken goodLength settle grant rule goodLengths perform initialise printable listing
 case28 = tt
 
--- Options at a candidate's length; longer in tracks, shorter in cylinders
+-- A listing with numbers of four and of five digits
 
 abbrev pub sequence29 : List Row
 sequence29 =
+    begin 2053 5 3 1234 2 0 0x182881641D66FF20
+    ∷ listed [] 840 0x16CFC4F91D0A3FD3
+    ∷ []
+
+pub case29 : T (right [] sequence29)
+unfolding held gaps free used unused format0s choose extentPart format4 format5 format1 format3 records encode readGeometry readExtents readLabel readRecords read goodName limits goodLabel valid taken goodLength settle grant rule goodLengths perform initialise printable listing
+case29 = tt
+
+-- The ten bytes of an extent, or none
+
+abbrev pub sequence30 : List Row
+sequence30 =
+    parts 140 140 0x98E1F3858409312
+    ∷ parts 139 140 0xC79538BFF0E4274
+    ∷ parts 140 139 0xC79538BFF0E4274
+    ∷ parts 141 140 0xC79538BFF0E4274
+    ∷ parts 140 141 0xC79538BFF0E4274
+    ∷ parts 0 140 0xC79538BFF0E4274
+    ∷ parts 140 0 0xC79538BFF0E4274
+    ∷ parts 139 139 0xC79538BFF0E4274
+    ∷ []
+
+pub case30 : T (right [] sequence30)
+unfolding held gaps free used unused format0s choose extentPart format4 format5 format1 format3 records encode readGeometry readExtents readLabel readRecords read goodName limits goodLabel valid taken goodLength settle grant rule goodLengths perform initialise printable listing
+case30 = tt
+
+-- CONTIG, MXIG and ALX of tracks
+
+abbrev pub sequence31 : List Row
+sequence31 =
+    begin 31 1 6 1 2 0 0x1F24C8886BE88DF4
+    ∷ ok (allocate (request (nm (0xE6 ∷ 0xF0 ∷ [])) (attr 1) 2 6 1 0 0)) 0x101000600010000000000000000000000000000000000 0x82E7402E0EE8DFF
+    ∷ ok (allocate (request (nm (0xE6 ∷ 0xF1 ∷ [])) (attr 2) 2 12 1 0 0)) 0x101000C00010000000000000000000000000000000000 0xD85A08315B08EEE
+    ∷ ok (allocate (request (nm (0xE6 ∷ 0xF2 ∷ [])) (attr 3) 2 16 1 0 0)) 0x101001000010000000000000000000000000000000000 0x1920F9D2E9829D8D
+    ∷ ok (allocate (request (nm (0xE6 ∷ 0xF3 ∷ [])) (attr 4) 2 22 1 0 0)) 0x101001600010000000000000000000000000000000000 0x1C2BF6803DC0AD15
+    ∷ ok (allocate (request (nm (0xE6 ∷ 0xF4 ∷ [])) (attr 5) 2 26 1 0 0)) 0x101001A00010000000000000000000000000000000000 0x175A309E5518C310
+    ∷ ok (allocate (request (nm (0xE6 ∷ 0xF5 ∷ [])) (attr 6) 2 30 1 0 0)) 0x101001E00010000000000000000000000000000000000 0x224C9BBAB9FEF7D
+    ∷ no (allocate (request (nm (0xC1 ∷ [])) (attr 7) 0 0 6 0 1)) 9
+    ∷ no (allocate (request (nm (0xC1 ∷ [])) (attr 8) 0 0 6 0 2)) 9
+    ∷ no (allocate (request (nm (0xC1 ∷ [])) (attr 9) 0 0 6 0 3)) 9
+    ∷ ok (allocate (request (nm (0xC1 ∷ [])) (attr 10) 0 0 3 0 3)) 0x1305000700050011000500030003000D00030017000300 0x93B3F5634B6B083
+    ∷ okLabels (obtain (nm (0xC1 ∷ []))) 0x0 0x93B3F5634B6B083 0x19EEB0206B1B525E
+    ∷ ok (scratch (nm (0xC1 ∷ []))) 0x1300000000000000000000000000000000000000000000 0x224C9BBAB9FEF7D
+    ∷ ok (allocate (request (nm (0xC1 ∷ [])) (attr 13) 0 0 2 4 2)) 0x501000700050000000000000000000000000000000000 0x197AE6D7F37915C5
+    ∷ ok (allocate (request (nm (0xC2 ∷ [])) (attr 14) 0 0 5 0 2)) 0x501001100050000000000000000000000000000000000 0x18F27DBF5C1A5B5
+    ∷ ok (allocate (request (nm (0xC3 ∷ [])) (attr 15) 0 0 1 0 3)) 0xC0400030003000D000300170003001B00030000000000 0x185A8A08D86B213E
+    ∷ ok (scratch (nm (0xC3 ∷ []))) 0xC00000000000000000000000000000000000000000000 0x18F27DBF5C1A5B5
+    ∷ ok (allocate (request (nm (0xC3 ∷ [])) (attr 17) 0 0 2 0 1)) 0x201000300020000000000000000000000000000000000 0x2A521AB0688AC65
+    ∷ no (allocate (request (nm (0xC4 ∷ [])) (attr 18) 0 0 1 0 3)) 11
+    ∷ ok (allocate (request (nm (0xC4 ∷ [])) (attr 19) 0 0 2 0 3)) 0x903000D000300170003001B0003000000000000000000 0xC6B0840FC17A430
+    ∷ no (allocate (request (nm (0xC5 ∷ [])) (attr 20) 0 0 1 0 3)) 11
+    ∷ ok (scratch (nm (0xC4 ∷ []))) 0x900000000000000000000000000000000000000000000 0x2A521AB0688AC65
+    ∷ ok (allocate (request (nm (0xC4 ∷ [])) (attr 22) 0 0 3 0 1)) 0x301000D00030000000000000000000000000000000000 0x8538CF3FFFC4329
+    ∷ ok (extend (nm (0xC1 ∷ []))) 0x40200170003001B000100000000000000000000000000 0x90A3647A81303EF
+    ∷ ok (scratch (nm (0xC2 ∷ []))) 0x500000000000000000000000000000000000000000000 0x10147D9247A2C3F0
+    ∷ ok (allocate (request (nm (0xC2 ∷ [])) (attr 25) 0 0 3 0 3)) 0x501001100050000000000000000000000000000000000 0xF887B56B5CF7799
+    ∷ ok (scratch (nm (0xC2 ∷ []))) 0x500000000000000000000000000000000000000000000 0x10147D9247A2C3F0
+    ∷ ok (allocate (request (nm (0xC2 ∷ [])) (attr 27) 0 0 2 0 3)) 0x70200110005001C000200000000000000000000000000 0xECDB49B4082A1F
+    ∷ []
+
+pub case31 : T (right [] sequence31)
+unfolding held gaps free used unused format0s choose extentPart format4 format5 format1 format3 records encode readGeometry readExtents readLabel readRecords read goodName limits goodLabel valid taken goodLength settle grant rule goodLengths perform initialise printable listing
+case31 = tt
+
+-- CONTIG, MXIG and ALX of cylinders, never the rest of a free extent
+
+abbrev pub sequence32 : List Row
+sequence32 =
+    begin 16 3 7 1 2 0 0x14AF8B63850CAB34
+    ∷ ok (allocate (request (nm (0xE6 ∷ 0xF0 ∷ [])) (attr 1) 2 3 1 0 0)) 0x101000300010000000000000000000000000000000000 0xBB2F0E30FE1985
+    ∷ ok (allocate (request (nm (0xE6 ∷ 0xF1 ∷ [])) (attr 2) 2 11 1 0 0)) 0x101000B00010000000000000000000000000000000000 0x12A6F2C352CE47F4
+    ∷ ok (allocate (request (nm (0xE6 ∷ 0xF2 ∷ [])) (attr 3) 2 18 1 0 0)) 0x101001200010000000000000000000000000000000000 0xCB9D16AD7756776
+    ∷ ok (allocate (request (nm (0xE6 ∷ 0xF3 ∷ [])) (attr 4) 2 27 3 0 0)) 0x301001B00030000000000000000000000000000000000 0xC496D4C02B647B5
+    ∷ ok (allocate (request (nm (0xE6 ∷ 0xF4 ∷ [])) (attr 5) 2 33 2 0 0)) 0x201002100020000000000000000000000000000000000 0x1C403511912D2AA6
+    ∷ ok (allocate (request (nm (0xE6 ∷ 0xF5 ∷ [])) (attr 6) 2 41 1 0 0)) 0x101002900010000000000000000000000000000000000 0x10312413AB33257F
+    ∷ ok (allocate (request (nm (0xE6 ∷ 0xF6 ∷ [])) (attr 7) 2 46 2 0 0)) 0x201002E00020000000000000000000000000000000000 0x11C7760549BF6682
+    ∷ ok (allocate (request (nm (0xC1 ∷ [])) (attr 8) 1 0 1 0 3)) 0x1505000C00060015000600060003001E00030024000300 0xCCCBA62AC860375
+    ∷ ok (scratch (nm (0xC1 ∷ []))) 0x1500000000000000000000000000000000000000000000 0x11C7760549BF6682
+    ∷ ok (allocate (request (nm (0xC1 ∷ [])) (attr 10) 1 0 1 0 2)) 0x601000C00060000000000000000000000000000000000 0x83C320F01782FF3
+    ∷ ok (allocate (request (nm (0xC2 ∷ [])) (attr 11) 1 0 2 1 2)) 0x601001500060000000000000000000000000000000000 0x1E246975C11B46FF
+    ∷ no (allocate (request (nm (0xC3 ∷ [])) (attr 12) 1 0 2 0 1)) 9
+    ∷ no (allocate (request (nm (0xC3 ∷ [])) (attr 13) 1 0 2 0 2)) 9
+    ∷ no (allocate (request (nm (0xC3 ∷ [])) (attr 14) 1 0 2 0 3)) 9
+    ∷ ok (allocate (request (nm (0xC3 ∷ [])) (attr 15) 1 0 1 0 3)) 0xC0400060003001E000300240003002A00030000000000 0x15C1496CBF57B31C
+    ∷ ok (scratch (nm (0xC3 ∷ []))) 0xC00000000000000000000000000000000000000000000 0x1E246975C11B46FF
+    ∷ ok (allocate (request (nm (0xC3 ∷ [])) (attr 17) 1 0 1 0 1)) 0x301000600030000000000000000000000000000000000 0x75C735E123CE8E7
+    ∷ ok (allocate (request (nm (0xC4 ∷ [])) (attr 18) 1 0 1 0 3)) 0x903001E000300240003002A0003000000000000000000 0x15303F545655E01D
+    ∷ ok (release (nm (0xC2 ∷ [])) 0x201) 0x300000000000000000000000000000000000000000000 0x119982D488DA9D36
+    ∷ ok (extend (nm (0xC2 ∷ []))) 0x301001800030000000000000000000000000000000000 0xBF73D1DE0925667
+    ∷ ok (scratch (nm (0xC2 ∷ []))) 0x600000000000000000000000000000000000000000000 0x129CACF82B35EBEA
+    ∷ ok (allocate (request (nm (0xC2 ∷ [])) (attr 22) 1 0 1 0 1)) 0x301001500030000000000000000000000000000000000 0x4EE83E6D7D8FA1A
+    ∷ ok (allocate (request (nm (0xC5 ∷ [])) (attr 23) 1 0 1 0 3)) 0x301001800030000000000000000000000000000000000 0x820E0D150CC584F
+    ∷ ok (scratch (nm (0xC1 ∷ []))) 0x600000000000000000000000000000000000000000000 0xE107DB26B929512
+    ∷ ok (scratch (nm (0xC5 ∷ []))) 0x300000000000000000000000000000000000000000000 0x11D33AC2A6DFF5D5
+    ∷ ok (allocate (request (nm (0xC1 ∷ [])) (attr 26) 1 0 1 0 3)) 0x902000C00060018000300000000000000000000000000 0x1D128197F0315D
+    ∷ []
+
+pub case32 : T (right [] sequence32)
+unfolding held gaps free used unused format0s choose extentPart format4 format5 format1 format3 records encode readGeometry readExtents readLabel readRecords read goodName limits goodLabel valid taken goodLength settle grant rule goodLengths perform initialise printable listing
+case32 = tt
+
+-- Options at a candidate's length; longer in tracks, shorter in cylinders
+
+abbrev pub sequence33 : List Row
+sequence33 =
     begin 8 3 4 1 2 0 0x13382A71A9E4AD4A
     ∷ ok (allocate (request (nm (0xE6 ∷ 0xF0 ∷ [])) (attr 1) 2 3 1 0 0)) 0x101000300010000000000000000000000000000000000 0x12377E64189EE0C1
     ∷ ok (allocate (request (nm (0xE6 ∷ 0xF1 ∷ [])) (attr 2) 2 11 1 0 0)) 0x101000B00010000000000000000000000000000000000 0xDE3A5248D79D25F
@@ -899,14 +970,14 @@ sequence29 =
     ∷ ok (scratch (nm (0xC1 ∷ []))) 0x600000000000000000000000000000000000000000000 0x175F37C53435E9E8
     ∷ []
 
-pub case29 : T (right [] sequence29)
+pub case33 : T (right [] sequence33)
 unfolding held gaps free used unused format0s choose extentPart format4 format5 format1 format3 records encode readGeometry readExtents readLabel readRecords read goodName limits goodLabel valid taken goodLength settle grant rule goodLengths perform initialise printable listing
-case29 = tt
+case33 = tt
 
 -- Options that are unknown, or on absolute tracks
 
-abbrev pub sequence30 : List Row
-sequence30 =
+abbrev pub sequence34 : List Row
+sequence34 =
     begin 8 3 4 1 2 0 0x13382A71A9E4AD4A
     ∷ ok (allocate (request (nm (0xE6 ∷ 0xF0 ∷ [])) (attr 1) 2 3 1 0 0)) 0x101000300010000000000000000000000000000000000 0x12377E64189EE0C1
     ∷ ok (allocate (request (nm (0xE6 ∷ 0xF1 ∷ [])) (attr 2) 2 11 1 0 0)) 0x101000B00010000000000000000000000000000000000 0xDE3A5248D79D25F
@@ -929,77 +1000,6 @@ sequence30 =
     ∷ no (allocate (request (nm (0xC1 ∷ [])) (attr 19) 0 0 14 0 4)) 7
     ∷ no (allocate (request (nm (0xC1 ∷ [])) (attr 20) 2 3 1 0 1)) 7
     ∷ ok (allocate (request (nm (0xC1 ∷ [])) (attr 21) 2 4 1 0 0)) 0x101000400010000000000000000000000000000000000 0x1EA7E153900E4621
-    ∷ []
-
-pub case30 : T (right [] sequence30)
-unfolding held gaps free used unused format0s choose extentPart format4 format5 format1 format3 records encode readGeometry readExtents readLabel readRecords read goodName limits goodLabel valid taken goodLength settle grant rule goodLengths perform initialise printable listing
-case30 = tt
-
--- Initialise with buffers of other lengths; tables of 2, 468 and 469 records
-
-abbrev pub sequence31 : List Row
-sequence31 =
-    beginSized 4 5 4 1 2 1119 24 2
-    ∷ beginSized 4 5 4 1 2 1121 24 2
-    ∷ beginSized 4 5 4 1 2 0 24 2
-    ∷ beginSized 4 5 4 1 2 1120 23 2
-    ∷ beginSized 4 5 4 1 2 1120 25 2
-    ∷ beginSized 4 5 4 1 2 1120 0 2
-    ∷ begin 2 2 3 1 1 0 0xF39EF9611A36B55
-    ∷ sized 280 24 0 lspace 2
-    ∷ sized 560 24 0 lspace 3
-    ∷ sized 65520 24 0 lspace 3
-    ∷ sized 65660 24 0 lspace 2
-    ∷ []
-
-pub case31 : T (right [] sequence31)
-unfolding held gaps free used unused format0s choose extentPart format4 format5 format1 format3 records encode readGeometry readExtents readLabel readRecords read goodName limits goodLabel valid taken goodLength settle grant rule goodLengths perform initialise printable listing
-case31 = tt
-
--- Listings: all 41 characters of names; tables that are refused
-
-abbrev pub sequence32 : List Row
-sequence32 =
-    begin 4 3 4 1 2 0 0x12B74DDC0C209218
-    ∷ ok (allocate (request (nm (0xC1 ∷ 0xC2 ∷ 0xC3 ∷ 0xC4 ∷ 0xC5 ∷ 0xC6 ∷ 0xC7 ∷ 0xC8 ∷ 0x4B ∷ 0xC9 ∷ 0xD1 ∷ 0xD2 ∷ 0xD3 ∷ 0xD4 ∷ 0xD5 ∷ 0xD6 ∷ 0xD7 ∷ 0x4B ∷ 0xD8 ∷ 0xD9 ∷ 0xE2 ∷ 0xE3 ∷ 0xE4 ∷ 0xE5 ∷ 0xE6 ∷ 0xE7 ∷ 0x4B ∷ 0xE8 ∷ 0xE9 ∷ 0xF0 ∷ 0xF1 ∷ 0xF2 ∷ 0xF3 ∷ 0xF4 ∷ 0xF5 ∷ 0x4B ∷ 0x7B ∷ 0xF6 ∷ 0xF7 ∷ 0xF8 ∷ 0xF9 ∷ 0x60 ∷ 0x5B ∷ 0x7C ∷ [])) (attr 1) 0 0 4 0 0)) 0x401000300040000000000000000000000000000000000 0x1E4A0C439C81AE9F
-    ∷ ok (allocate (request (nm (0x5B ∷ [])) (attr 2) 2 8 1 0 0)) 0x101000800010000000000000000000000000000000000 0x1E3B2ECA2202FD6F
-    ∷ ok (allocate (request (nm (0x7C ∷ [])) (attr 3) 2 10 1 0 0)) 0x101000A00010000000000000000000000000000000000 0xFAAE32605CAA54A
-    ∷ listed [] 1120 0x19E71294436AE79A
-    ∷ listed ((51, 0x00) ∷ []) 1120 0x46F448A6
-    ∷ listed [] 1260 0x46F448A6
-    ∷ listed [] 1119 0x46F447A5
-    ∷ listed ((51, 0x00) ∷ []) 280 0x46F447A5
-    ∷ listed [] 0 0x46F447A5
-    ∷ []
-
-pub case32 : T (right [] sequence32)
-unfolding held gaps free used unused format0s choose extentPart format4 format5 format1 format3 records encode readGeometry readExtents readLabel readRecords read goodName limits goodLabel valid taken goodLength settle grant rule goodLengths perform initialise printable listing
-case32 = tt
-
--- A listing with numbers of four and of five digits
-
-abbrev pub sequence33 : List Row
-sequence33 =
-    begin 2053 5 3 1234 2 0 0x182881641D66FF20
-    ∷ listed [] 840 0x16CFC4F91D0A3FD3
-    ∷ []
-
-pub case33 : T (right [] sequence33)
-unfolding held gaps free used unused format0s choose extentPart format4 format5 format1 format3 records encode readGeometry readExtents readLabel readRecords read goodName limits goodLabel valid taken goodLength settle grant rule goodLengths perform initialise printable listing
-case33 = tt
-
--- The ten bytes of an extent, or none
-
-abbrev pub sequence34 : List Row
-sequence34 =
-    parts 140 140 0x98E1F3858409312
-    ∷ parts 139 140 0xC79538BFF0E4274
-    ∷ parts 140 139 0xC79538BFF0E4274
-    ∷ parts 141 140 0xC79538BFF0E4274
-    ∷ parts 140 141 0xC79538BFF0E4274
-    ∷ parts 0 140 0xC79538BFF0E4274
-    ∷ parts 140 0 0xC79538BFF0E4274
-    ∷ parts 139 139 0xC79538BFF0E4274
     ∷ []
 
 pub case34 : T (right [] sequence34)

@@ -44,7 +44,7 @@ skip-later b c (some d) h =
     (λ q. simp q)
 
 module _ (n : ℕ) (pos : 1 ≤ n) (b c : Run) where
-  too-short : c .count < n → better n b c ≡ b
+  pub too-short : c .count < n → better n b c ≡ b
   unfolding fitsBetter
   too-short h = rw (lt-leb n (c .count) h)
 
@@ -73,10 +73,6 @@ module _ (n : ℕ) (pos : 1 ≤ n) (b c : Run) where
       (λ k. let l : b .count ≤ c .count = ltb-false _ _ k in rw (other-fit h e l, is-run b (omega arith)) (sym (skip-later b c o l))))
 
 -- ---- all of them
-
--- an extent with no whole unit changes nothing
-pub best-none : (n : ℕ) (b c : Run) → 1 ≤ n → c .count ≡ 0 → better n b c ≡ b
-best-none n b c pos e = too-short n pos b c (omega arith)
 
 -- once the best has exactly n units, no candidate is better
 pub exact-stays : (u n : ℕ) (b : Run) (rs : List Run) → 1 ≤ n → b .count ≡ n → bestAfter u n b rs ≡ b

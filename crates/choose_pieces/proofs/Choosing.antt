@@ -7,11 +7,11 @@ use Prim.Native.Nat.{ℕ, zero, suc, _+_, _*_, _/_, _≤_, _<_}
 use native.Mathlib.Nat.{le-trans, div-mul-le-self, mul-le-mul-right}
 use native.Mathlib.Omega.{arith}
 use borrow.Author.Tests.{leb-true, le-leb, lt-leb}
-use lib.ListN.{getD, set}
+use lib.ListN.{getD, take}
 use lib.Dec.{T, leb, leb→le}
 use Rattle.model.specs.Basics.{mapOption}
 use Rattle.model.specs.Model.{Run, run, total, Separate}
-use Rattle.model.specs.Choice.{wholeIn, candidates, serving, shorter, shortest, longestFirst, gather, oneOrFive, choose, scale}
+use Rattle.model.specs.Choice.{wholeIn, candidates, serving, shorter, shortest, longestFirst, firstPart, gather, mostPieces, otherwise, choose}
 use Rattle.model.proofs.Lists.{by, All-filter, All-both, filter-pass, some-is}
 use Rattle.model.specs.Predicates.{All}
 use Rattle.model.proofs.Choose.{sorted-All}
@@ -89,4 +89,5 @@ module _ (f : List Run) (n : ℕ) {u k : ℕ} {best : Run} {five : List Run} (ap
   unfolding choose
   several-of e =
       let c = candidates u f in
-      sym (ap (oneOrFive k c) (not-found e) ∙ sym (gather-padded 5 k (longestFirst c) pos) ∙ ap (gather k) (sym (s .longest e)))
+      ap (gather k) (s .longest e) ∙ gather-padded 5 k (longestFirst c) pos
+      ∙ sym (ap (λ (o : Option Run). otherwise (mapOption (λ d. firstPart k d ∷ []) o) (gather k (take mostPieces (longestFirst c)))) (not-found e))

@@ -117,15 +117,12 @@ enter-one c ds h s =
     (λ q. rw q (placed-behind c 5 ds h s))
     (λ q. rw q (sym (stays (c .count) c (padded 5 ds) (as-long (c .count) 4 ds s (ltb-false _ _ q))) ∙ placed-behind c 5 ds h s))
 
-enter-none : (c : Run) (five : List Run) → c .count ≡ 0 → entered c five ≡ five
+-- one that is no longer than the fifth changes nothing
+pub no-longer : (c : Run) (five : List Run) → c .count ≤ getD five 4 noRun .count → entered c five ≡ five
 unfolding entered
-enter-none c five e = rw (le-ltb (getD five 4 noRun .count) (c .count) (omega arith))
+no-longer c five h = rw (le-ltb (getD five 4 noRun .count) (c .count) h)
 
 -- ---- entering all
-
--- an extent with no whole unit changes nothing
-pub longest-none : (u : ℕ) (r : Run) (five : List Run) → wholeIn u r .count ≡ 0 → entered (wholeIn u r) five ≡ five
-longest-none u r five e = enter-none (wholeIn u r) five e
 
 from-left : (u : ℕ) (cs rs : List Run) → fiveAfter u (padded 5 (longestFirst cs)) rs ≡ padded 5 (longestFirst (cs ++ candidates u rs))
 from-left u cs [] = ap (λ (x : List Run). padded 5 (longestFirst x)) (sym (append-nil cs))
@@ -139,7 +136,7 @@ from-left u cs (r ∷ rs) =
     ∙ from-left u (cs ++ (c ∷ [])) rs ∙ ap (λ (x : List Run). padded 5 (longestFirst x)) (append-assoc cs (c ∷ []) (candidates u rs))))
     (λ h.
     let k : c .count < 1 = leb-false _ _ h in
-    rw h (ap (λ (x : List Run). fiveAfter u x rs) (enter-none c (padded 5 (longestFirst cs)) (omega arith)) ∙ from-left u cs rs))
+    rw h (ap (λ (x : List Run). fiveAfter u x rs) (no-longer c (padded 5 (longestFirst cs)) (omega arith)) ∙ from-left u cs rs))
 
 pub five-law : (u : ℕ) (rs : List Run) → fiveAfter u (padded 5 []) rs ≡ padded 5 (longestFirst (candidates u rs))
 five-law u rs = from-left u [] rs

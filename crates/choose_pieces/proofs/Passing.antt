@@ -2,10 +2,10 @@
 use mathlib.Core.Path.{_≡_, refl, sym, ap, _∙_, subst}
 use mathlib.Core.Bool.{Bool, cond}
 use mathlib.Core.List.{List, [], _∷_, _++_}
-use Prim.Native.Nat.{ℕ, _+_, _-_, _/_, _≤_, _<_}
-use native.Mathlib.Nat.{div-mul-le-self, le-div-iff-mul-le}
+use Prim.Native.Nat.{ℕ, _+_, _-_, _*_, _/_, _≤_, _<_}
+use native.Mathlib.Nat.{add-mul, div-lt-iff-lt-mul, lt-div-mul-add, mul-le-mul-right}
 use native.Mathlib.Omega.{arith}
-use lib.ListN.{drop, take, take-append-drop}
+use lib.ListN.{drop, getD, take, take-append-drop, List·getD-map}
 use Rattle.model.specs.Model.{Geometry, Run, run}
 use Rattle.model.specs.Choice.{wholeIn}
 use Rattle.rules.specs.Predicates.{Limits}
@@ -13,15 +13,16 @@ use Rattle.dscb.specs.Records.{slotBytes}
 use Rattle.free_extents.specs.FreeList.{Entries}
 use Rattle.free_extents.proofs.Chain.{lists-next}
 use Rattle.free_extents.proofs.Walk.{Going, going-next}
-use Rattle.choose_pieces.specs.Pass.{LookedOver, Surveyed, better, bestAfter, entered, fiveAfter, fitsBetter, noRun, padded, runOrNone}
-use Rattle.choose_pieces.proofs.Longest.{longest-none, five-law}
-use Rattle.choose_pieces.proofs.BestFit.{best-none, best-law, exact-stays}
+use Rattle.choose_pieces.specs.Pass.{LookedOver, Surveyed, better, bestAfter, entered, fiveAfter, fitsBetter, noRun, padded, runOrNone, toRun, toRuns}
+use Rattle.choose_pieces.proofs.Longest.{five-law, no-longer}
+use Rattle.choose_pieces.proofs.BestFit.{best-law, exact-stays, too-short}
 
--- fewer tracks than a unit has hold no unit
-pub no-units : (u a c : ℕ) → 1 ≤ u → c < u → wholeIn u (run a c) .count ≡ 0
-no-units u a c h k =
-    let d = div-mul-le-self (a + c) u in
-    let l : (a + c) / u ≤ (a + u - 1) / u = le-div-iff-mul-le h .1 (omega arith) in
+-- fewer tracks than k units have hold fewer units
+few-units : (u a c k : ℕ) → 1 ≤ u → 1 ≤ k → c < k * u → wholeIn u (run a c) .count < k
+few-units u a c k h some l =
+    let d = lt-div-mul-add {a = a + u - 1} {b = u} h in
+    let m = add-mul ((a + u - 1) / u) k u in
+    let e : (a + c) / u < (a + u - 1) / u + k = div-lt-iff-lt-mul h .1 (omega arith) in
     omega arith
 
 -- ---- one free extent more
@@ -34,13 +35,32 @@ looked-next u n x f rest best best′ b five five′ d e p q r = record {
   five-is = λ h. ap (fiveAfter u five) e ∙ ap (λ (z : List Run). fiveAfter u z rest) (sym q) ∙ r .five-is h;
 }
 
+-- too short to fit better, or to be among the five longest
+module _ (u n a c : ℕ) (pos : 1 ≤ u) (some : 1 ≤ n) where
+  pub no-better : (best : Run) → c < n * u → best ≡ better n best (wholeIn u (run a c))
+  no-better best k = sym (too-short n some best (wholeIn u (run a c)) (few-units u a c n pos some k))
+
+  not-among : (five : List Run) → c < (getD five 4 noRun .count + 1) * u → five ≡ entered (wholeIn u (run a c)) five
+  not-among five k = sym (no-longer (wholeIn u (run a c)) five (let l = few-units u a c (getD five 4 noRun .count + 1) pos (omega arith) k in omega arith))
+
+-- the same of the rows that the code holds
+fifth-is : (rs : List (List ℕ)) → getD (getD rs 4 []) 1 0 ≡ getD (toRuns rs) 4 noRun .count
+fifth-is rs = ap (λ (r : Run). r .count) (sym (List·getD-map toRun rs 4 []))
+
+pub not-among-rows : (u n a c : ℕ) → 1 ≤ u → 1 ≤ n → (rs : List (List ℕ)) → c < (getD (getD rs 4 []) 1 0 + 1) * u → toRuns rs ≡ entered (wholeIn u (run a c)) (toRuns rs)
+not-among-rows u n a c pos some rs k = not-among u n a c pos some (toRuns rs) (subst (λ (m : ℕ). c < (m + 1) * u) (fifth-is rs) k)
+
 -- too short for a unit
 module _ (u n a c : ℕ) (pos : 1 ≤ u) (some : 1 ≤ n) (k : c < u) where
+  -- it has fewer tracks than any number of units
+  below : (m : ℕ) → 1 ≤ m → c < m * u
+  below m h = let w = mul-le-mul-right u h in omega arith
+
   pub same-best : (best : Run) → best ≡ better n best (wholeIn u (run a c))
-  same-best best = sym (best-none n best (wholeIn u (run a c)) some (no-units u a c pos k))
+  same-best best = no-better u n a c pos some best (below n some)
 
   pub same-five : (five : List Run) → five ≡ entered (wholeIn u (run a c)) five
-  same-five five = sym (longest-none u (run a c) five (no-units u a c pos k))
+  same-five five = not-among u n a c pos some five (below (getD five 4 noRun .count + 1) (omega arith))
 
 -- ---- one after the other
 

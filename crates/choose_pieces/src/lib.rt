@@ -5,7 +5,7 @@ use dscb::Geometry;
 ghost use mathlib.Core.Path.{_≡_};
 ghost use mathlib.Core.Bool.{true};
 ghost use mathlib.Core.List.{List, [], map};
-ghost use Prim.Native.Nat.{_-_, _*_, _≤_, _<_};
+ghost use Prim.Native.Nat.{_+_, _-_, _*_, _≤_, _<_};
 ghost use lib.ListN.{length, take};
 ghost use Rattle.model.specs.Basics.{mapOption};
 ghost use Rattle.model.specs.Model.{Run, run, slots, total};
@@ -90,7 +90,18 @@ fn look(u: u32, amount: u32, start: u32, count: u32, best: Units, five: &mut [[u
     best
 }
 
-// Looks at the entries of one format 5, up to one that fits exactly.
+// The fewest tracks that a free extent of use may have: with fewer it has neither the amount nor more units than the fifth longest.
+fn least_of_use(u: u32, amount: u32, fifth: u32) -> u64
+    requires { ⌜ u ≤ 255 ⌝ }
+    ensures { λ r. ⌜ (r ≤ amount * u) × (r ≤ (fifth + 1) * u) ⌝ }
+{
+    if fifth < amount {
+        return (fifth as u64 + 1) * (u as u64);
+    }
+    (amount as u64) * (u as u64)
+}
+
+// Looks at the entries of one format 5, up to one that fits exactly. Most are of no use once five longer ones are known.
 fn look_member(
     rec: &[u8],
     h: u32,
@@ -103,16 +114,22 @@ fn look_member(
     ensures { λ r. ⌜ (length (now (five .exit)) ≡ 5) × ((f : List Run) → Entries h (now (rec .entry)) f → LookedOver u amount f (run (best .start) (best .count)) (run (r .start) (r .count)) (toRuns (now (five .entry))) (toRuns (now (five .exit)))) ⌝ }
 {
     let mut now = best;
+    let mut least = least_of_use(u, amount, five[4][1]);
     let mut j: usize = 0;
     while j < 26 {
         let hole = free_extents::entry(rec, j, h);
         if hole.count == 0 {
             return now;
         }
+        if (hole.count as u64) < least {
+            j += 1;
+            continue;
+        }
         now = look(u, amount, hole.start, hole.count, now, five);
         if now.count == amount {
             return now;
         }
+        least = least_of_use(u, amount, five[4][1]);
         j += 1;
     }
     now

@@ -1,3 +1,4 @@
 pub mod Steps
 pub mod VolumeA
 pub mod Blunders
+pub mod Options

@@ -1,9 +1,9 @@
 -- Document 02, [1]: the options against the paper's words, in units of any size. Assumes nothing.
 use mathlib.Core.Path.{_≡_, refl, sym, ap, _∙_, subst}
-use mathlib.Core.Bool.{Bool}
+use mathlib.Core.Bool.{Bool, cond}
 use mathlib.Core.Option.{Option, none, some}
 use mathlib.Core.List.{List, [], _∷_, _++_, List·Memᴰ, List·Memᴰ·head, List·Memᴰ·tail}
-use Prim.Native.Nat.{ℕ, zero, suc, _≤_, _<_}
+use Prim.Native.Nat.{ℕ, zero, suc, _+_, _≤_, _<_}
 use native.Mathlib.Nat.{le-refl, lt-of-not-le}
 use native.Mathlib.Decide.{decLe}
 use native.Mathlib.Omega.{arith}
@@ -11,10 +11,10 @@ use lib.ListN.{length, take, drop, length-take, length-drop, take-append-drop}
 use lib.Dec.{T, leb, leb→le}
 use Rattle.model.specs.Basics.{bit, mapOption, sumOf}
 use Rattle.model.specs.Choice.{SpaceOption, alx, chooseBy, contig, firstPart, longestFirst, mxig, noOption, orNone, serving, shortest, wholes}
-use Rattle.model.specs.Model.{Run, covers, times}
+use Rattle.model.specs.Model.{Run, covers, total}
 use Rattle.model.specs.Predicates.{All}
-use Rattle.model.proofs.Choose.{Ahead, BestFit, Chosen, Full, Rising, Sorted, best-fit, choose-law, from-best, none-empty, pass-all, rising-filter, serving-none, sorted, sorted-All, sorted-sum, unsorted-All}
-use Rattle.model.proofs.Lists.{All-both, All-filter, All-left, All-map, All-right, filter-pass, some-is, sum-append, sum-filter}
+use Rattle.model.proofs.Choose.{Ahead, BestFit, Chosen, Full, Rising, Sorted, best-amount, best-fit, choose-amount, choose-law, from-best, none-empty, pass-all, rising-filter, serving-none, sorted, sorted-All, sorted-sum, unsorted-All}
+use Rattle.model.proofs.Lists.{All-both, All-filter, All-left, All-map, All-right, by, filter-pass, some-is, sum-append, sum-filter}
 
 -- no candidate is as long as the amount
 abbrev pub NoneServes : ℕ → List Run → Type 0
@@ -45,22 +45,22 @@ none-contig n cs a = rw (serving-none n cs a)
 
 -- ---- MXIG and ALX: whole candidates that serve, longest first
 
--- `ps` are taken and `left` not. Together they are exactly the candidates that serve, whatever is counted over them; they stand
--- longest first, lowest start on ties; and one is left only where `most` are taken
+-- `ps` are taken and `left` are not. Together they are the candidates at least as long as the amount, whatever is counted over
+-- them: none is lost and none doubled. They stand longest first, lowest start on ties, and one is left only where `most` are taken
 pub record Wholes (most n : ℕ) (cs ps : List Run) : Type 0 where
   pub left : List Run
-  pub those : (F : Run → ℕ) → sumOf F (ps ++ left) ≡ sumOf F (serving n cs)
+  pub those : (F : Run → ℕ) → sumOf F (ps ++ left) ≡ sumOf (λ c. cond (leb n (c .count)) (F c) 0) cs
   pub order : Sorted (ps ++ left)
   pub serve : All (λ p. n ≤ p .count) ps
-  pub some : 1 ≤ length ps
+  pub one : 1 ≤ length ps
   pub few : length ps ≤ most
-  pub all : 1 ≤ length left → length ps ≡ most
+  pub full : 1 ≤ length left → length ps ≡ most
 
--- none that is left is longer than one taken, or as long and starts lower
 sorted-left : (ps left : List Run) → Sorted (ps ++ left) → All (λ p. All (Ahead p) left) ps
 sorted-left [] left s = tt
 sorted-left (p ∷ ps) left s = (All-right (Ahead p) ps left (s .0), sorted-left ps left (s .1))
 
+-- none that is left is longer than one taken, or as long and starts lower
 pub none-longer : {most n : ℕ} {cs ps : List Run} (w : Wholes most n cs ps) → All (λ p. All (Ahead p) (w .left)) ps
 none-longer {ps = ps} w = sorted-left ps (w .left) (w .order)
 
@@ -68,9 +68,14 @@ some-there : (qs ps : List Run) → orNone qs ≡ some ps → (qs ≡ ps) × (1 
 some-there [] ps e = absurd (let z : _≡_ {A = ℕ} 0 1 = cc in omega arith)
 some-there (q ∷ qs) ps e = (some-is (q ∷ qs) ps e, omega arith)
 
--- the candidates that serve
 serving-serve : (n : ℕ) (cs : List Run) → All (λ p. n ≤ p .count) (serving n cs)
 serving-serve n cs = All-map (λ p. T (leb n (p .count))) (λ p. n ≤ p .count) (λ p x. leb→le n (p .count) x) (serving n cs) (filter-pass (λ c. leb n (c .count)) cs)
+
+serving-sum : (F : Run → ℕ) (n : ℕ) (cs : List Run) → sumOf F (serving n cs) ≡ sumOf (λ c. cond (leb n (c .count)) (F c) 0) cs
+serving-sum F n [] = refl
+serving-sum F n (c ∷ cs) =
+    let i = serving-sum F n cs in
+    by (leb n (c .count)) (λ h. rw h (ap (λ (x : ℕ). F c + x) i)) (λ h. rw h (i ∙ omega arith))
 
 wholes-some : (most n : ℕ) (cs ps : List Run) → Rising cs → wholes most n cs ≡ some ps → Wholes most n cs ps
 wholes-some most n cs ps r e =
@@ -83,15 +88,18 @@ wholes-some most n cs ps r e =
     subst (Wholes most n cs) (x .0)
     (record {
       left = drop most qs;
-      those = λ F. ap (sumOf F) (sym back) ∙ sorted-sum F (serving n cs);
+      those = λ F. ap (sumOf F) (sym back) ∙ sorted-sum F (serving n cs) ∙ serving-sum F n cs;
       order = subst Sorted back (sorted (serving n cs) (rising-filter (λ c. leb n (c .count)) cs r));
       serve = All-left (λ p. n ≤ p .count) (take most qs) (drop most qs) (subst (All (λ p. n ≤ p .count)) back serve);
-      some = x .1;
+      one = x .1;
       few = omega arith;
-      all = λ h. omega arith;
+      full = λ h. omega arith;
     })
 
--- "No candidate that serves is refusal 9": exactly then
+none-there : (qs : List Run) → orNone qs ≡ none → length qs ≡ 0
+none-there [] e = refl
+none-there (q ∷ qs) e = absurd (let z : _≡_ {A = ℕ} 0 1 = cc in omega arith)
+
 length-sum : (qs : List Run) → length qs ≡ sumOf (λ r. 1) qs
 length-sum [] = refl
 length-sum (q ∷ qs) = let i = length-sum qs in omega arith
@@ -100,10 +108,7 @@ empty-All : (qs : List Run) → length qs ≡ 0 → All (λ d. ⊥) qs
 empty-All [] e = tt
 empty-All (q ∷ qs) e = absurd (omega arith)
 
-none-there : (qs : List Run) → orNone qs ≡ none → length qs ≡ 0
-none-there [] e = refl
-none-there (q ∷ qs) e = absurd (let z : _≡_ {A = ℕ} 0 1 = cc in omega arith)
-
+-- "No candidate that serves is refusal 9", and only then is it
 wholes-none : (most n : ℕ) (cs : List Run) → 1 ≤ most → wholes most n cs ≡ none → NoneServes n cs
 wholes-none most n cs h e =
     let qs = longestFirst (serving n cs) in
@@ -192,10 +197,11 @@ from-wholes most n cs ps h pos w =
           let F : Run → ℕ = λ r. bit (covers r k) in
           let a = w .those F in
           let b = sum-append F ps (w .left) in
-          let c = sum-filter F (λ c. leb n (c .count)) cs in
+          let c = serving-sum F n cs in
+          let d = sum-filter F (λ c. leb n (c .count)) cs in
           omega arith;
       full = All-map (λ p. n ≤ p .count) Full (λ p k. omega arith) ps (w .serve);
-      least = w .some;
+      least = w .one;
       most = let x = w .few in omega arith;
     }
 
@@ -204,3 +210,14 @@ option-law noOption n cs ps h r f e = choose-law n cs ps h r f e
 option-law contig n cs ps h r f e = from-best n cs ps h (contig-some n cs ps r e)
 option-law mxig n cs ps h r f e = from-wholes 1 n cs ps (omega arith) h (wholes-some 1 n cs ps r e)
 option-law alx n cs ps h r f e = from-wholes 5 n cs ps (omega arith) h (wholes-some 5 n cs ps r e)
+
+-- at least the amount, by every option
+first-serves : (n : ℕ) (ps : List Run) → 1 ≤ length ps → All (λ p. n ≤ p .count) ps → n ≤ total ps
+first-serves n [] h a = absurd (omega arith)
+first-serves n (p ∷ ps) h a = omega (arith, a .0)
+
+pub option-amount : (o : SpaceOption) (n : ℕ) (cs ps : List Run) → 1 ≤ n → Rising cs → chooseBy o n cs ≡ some ps → n ≤ total ps
+option-amount noOption n cs ps h r e = let x = choose-amount n cs ps h r e in omega arith
+option-amount contig n cs ps h r e = let x = best-amount n cs ps (contig-some n cs ps r e) in omega arith
+option-amount mxig n cs ps h r e = let w = wholes-some 1 n cs ps r e in first-serves n ps (w .one) (w .serve)
+option-amount alx n cs ps h r e = let w = wholes-some 5 n cs ps r e in first-serves n ps (w .one) (w .serve)

@@ -23,8 +23,9 @@ pub extern "C" fn vtoc_initialise(
 }
 
 // Allocates tracks to a new data set, by an option: 0 none, 1 CONTIG, 2 MXIG, 3 ALX. The refusals, in the order of `perform` and
-// `rule`: 2 length, 3 VTOC unsound, 4 name, 7 amount, 6 duplicate, 9 no space, 11 VTOC full. The pieces are those of `grant`, the
-// table that of the volume which `added` leaves, the answer `answer (granted pieces)`.
+// `rule`: 2 length, 3 VTOC unsound, 4 name, 7 amount (an unknown option, or one on an absolute request, too), 6 duplicate, 9 no
+// space, 11 VTOC full. The pieces are those of `grant`, the table that of the volume which `added` leaves, the answer
+// `answer (granted pieces)`.
 #[no_mangle]
 pub extern "C" fn vtoc_allocate(
     table: &mut [u8],

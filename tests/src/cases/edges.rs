@@ -2,7 +2,7 @@
 //! otherwise.
 
 use super::{sequence, Sequence};
-use crate::call::{Call, ALX, CONTIG, MXIG};
+use crate::call::Call;
 use crate::desk::Desk;
 use crate::volumes::name;
 
@@ -12,8 +12,6 @@ pub fn sequences() -> Vec<Sequence> {
         first_characters(),
         later_characters(),
         amounts(),
-        options(),
-        options_against_the_rule(),
         lengths(),
         listings(),
         digits(),
@@ -95,64 +93,6 @@ fn amounts() -> Sequence {
         desk.cylinders("A", 1, 16_777_215).granted(&[(2, 2)]);
         desk.tracks("B", 1, 16_777_215).granted(&[(4, 1)]);
         desk.extend("A").refused(9);
-    })
-}
-
-/// H = 3. Free 4–10, seven tracks with one whole cylinder from 6, and 12–17, six with two.
-fn two_candidates(desk: &mut Desk) {
-    desk.initialise(8, 3, 4, 1, 2).without_numbers();
-    for (text, start, count) in [("W0", 3, 1), ("W1", 11, 1), ("W2", 18, 6)] {
-        desk.absolute(text, start, count).accepted();
-    }
-}
-
-fn options() -> Sequence {
-    sequence("Options at a candidate's length; longer in tracks, shorter in cylinders", |desk| {
-        two_candidates(desk);
-        // Without an option, two pieces would do.
-        for option in [CONTIG, MXIG, ALX] {
-            desk.tracks_by(option, "A", 8, 0).refused(9);
-            desk.cylinders_by(option, "A", 3, 0).refused(9);
-        }
-        for (option, kind, amount, pieces) in [
-            (CONTIG, 0, 6, &[(12, 6)][..]),
-            (CONTIG, 0, 7, &[(4, 7)]),
-            (MXIG, 0, 7, &[(4, 7)]),
-            (ALX, 0, 6, &[(4, 7), (12, 6)]),
-            (ALX, 0, 7, &[(4, 7)]),
-            (CONTIG, 1, 2, &[(12, 6)]),
-            (MXIG, 1, 1, &[(12, 6)]),
-            (ALX, 1, 1, &[(12, 6), (6, 3)]),
-            (ALX, 1, 2, &[(12, 6)]),
-        ] {
-            // A start counts for absolute requests only.
-            desk.allocate_by(option, "A", kind, 4, amount, 0).granted(pieces);
-            desk.scratch("A").accepted();
-        }
-    })
-}
-
-fn options_against_the_rule() -> Sequence {
-    sequence("Options that are unknown, or on absolute tracks", |desk| {
-        two_candidates(desk);
-        for option in [256, 65_537] {
-            desk.tracks_by(option, "A", 1, 0).refused(7);
-            desk.cylinders_by(option, "A", 1, 0).refused(7);
-            desk.allocate_by(option, "A", 2, 4, 1, 0).refused(7);
-        }
-        desk.tracks_by(CONTIG, "A", 0, 0).refused(7);
-        desk.cylinders_by(MXIG, "A", 65_536, 0).refused(7);
-        desk.tracks_by(ALX, "A", 1, 16_777_216).refused(7);
-        desk.allocate_by(MXIG, "A", 3, 4, 1, 0).refused(7);
-        for option in [CONTIG, MXIG, ALX] {
-            desk.cylinders_by(option, "A", 65_535, 16_777_215).refused(9);
-        }
-        // 4 comes before 7, and 7 before 6 and 9.
-        desk.tracks_by(4, "", 1, 0).refused(4);
-        desk.allocate_by(ALX, "W0", 2, 4, 1, 0).refused(7);
-        desk.tracks_by(4, "A", 14, 0).refused(7);
-        desk.allocate_by(CONTIG, "A", 2, 3, 1, 0).refused(7);
-        desk.absolute("A", 4, 1).granted(&[(4, 1)]);
     })
 }
 

@@ -1,7 +1,6 @@
 //! Which tracks are granted, and how they come back.
 
 use super::{sequence, Sequence};
-use crate::call::{ALX, CONTIG, MXIG};
 use crate::desk::Desk;
 
 pub fn sequences() -> Vec<Sequence> {
@@ -11,15 +10,13 @@ pub fn sequences() -> Vec<Sequence> {
         extend_in_pieces(),
         sixteen_extents(),
         whole_cylinders(),
-        options_of_tracks(),
-        options_of_cylinders(),
         absolute(),
         release(),
     ]
 }
 
 /// H = 1; holes of these lengths from track 3 on, each with a one-track set after it.
-fn holes(desk: &mut Desk, lengths: &[u32], slots: u32) {
+pub fn holes(desk: &mut Desk, lengths: &[u32], slots: u32) {
     let total: u32 = lengths.iter().map(|length| length + 1).sum();
     desk.initialise(3 + total, 1, slots / 2, 1, 2).accepted();
     let mut at = 3;
@@ -109,70 +106,6 @@ fn whole_cylinders() -> Sequence {
         desk.release("A", 9, 1).gave_back(14);
         desk.cylinders("B", 1, 0).granted(&[(8, 4)]);
         desk.cylinders("C", 2, 0).granted(&[(16, 4), (44, 4)]);
-    })
-}
-
-fn options_of_tracks() -> Sequence {
-    sequence("CONTIG, MXIG and ALX of tracks", |desk| {
-        // Free 3–5, 7–11, 13–15, 17–21, 23–25, 27–29; four records.
-        holes(desk, &[3, 5, 3, 5, 3, 3], 12);
-        for option in [CONTIG, MXIG, ALX] {
-            desk.tracks_by(option, "A", 6, 0).refused(9);
-        }
-        // Six serve; of the last four the one at 27 is left.
-        let five = [(7, 5), (17, 5), (3, 3), (13, 3), (23, 3)];
-        desk.tracks_by(ALX, "A", 3, 0).granted(&five);
-        desk.obtain("A").without_numbers();
-        desk.scratch("A").gave_back(19);
-        desk.tracks_by(MXIG, "A", 2, 4).granted(&[(7, 5)]);
-        desk.tracks_by(MXIG, "B", 5, 0).granted(&[(17, 5)]);
-        desk.tracks_by(ALX, "C", 1, 0).granted(&[(3, 3), (13, 3), (23, 3), (27, 3)]);
-        desk.scratch("C").gave_back(12);
-        desk.tracks_by(CONTIG, "C", 2, 0).granted(&[(3, 2)]);
-        // One record: four pieces would need two, three do with it.
-        desk.tracks_by(ALX, "D", 1, 0).refused(11);
-        desk.tracks_by(ALX, "D", 2, 0).granted(&[(13, 3), (23, 3), (27, 3)]);
-        desk.tracks_by(ALX, "E", 1, 0).refused(11);
-        desk.scratch("D").gave_back(9);
-        desk.tracks_by(CONTIG, "D", 3, 0).granted(&[(13, 3)]);
-        // The option of its allocate is not kept: two pieces.
-        desk.extend("A").granted(&[(23, 3), (27, 1)]);
-        desk.scratch("B").gave_back(5);
-        desk.tracks_by(ALX, "B", 3, 0).granted(&[(17, 5)]);
-        desk.scratch("B").gave_back(5);
-        desk.tracks_by(ALX, "B", 2, 0).granted(&[(17, 5), (28, 2)]);
-    })
-}
-
-fn options_of_cylinders() -> Sequence {
-    sequence("CONTIG, MXIG and ALX of cylinders, never the rest of a free extent", |desk| {
-        desk.initialise(16, 3, 7, 1, 2).without_numbers();
-        // Free 4–10 with one whole cylinder from 6, 12–17 with two, 19–26 with two from 21, 30–32
-        // with one, 35–40 with one from 36, 42–45 with one.
-        let walls = [(3, 1), (11, 1), (18, 1), (27, 3), (33, 2), (41, 1), (46, 2)];
-        for (i, (start, count)) in walls.into_iter().enumerate() {
-            desk.absolute(&format!("W{i}"), start, count).accepted();
-        }
-        let five = [(12, 6), (21, 6), (6, 3), (30, 3), (36, 3)];
-        desk.cylinders_by(ALX, "A", 1, 0).granted(&five);
-        desk.scratch("A").gave_back(21);
-        desk.cylinders_by(MXIG, "A", 1, 0).granted(&[(12, 6)]);
-        desk.cylinders_by(MXIG, "B", 2, 1).granted(&[(21, 6)]);
-        for option in [CONTIG, MXIG, ALX] {
-            desk.cylinders_by(option, "C", 2, 0).refused(9);
-        }
-        desk.cylinders_by(ALX, "C", 1, 0).granted(&[(6, 3), (30, 3), (36, 3), (42, 3)]);
-        desk.scratch("C").gave_back(12);
-        desk.cylinders_by(CONTIG, "C", 1, 0).granted(&[(6, 3)]);
-        desk.cylinders_by(ALX, "D", 1, 0).granted(&[(30, 3), (36, 3), (42, 3)]);
-        desk.release("B", 2, 1).gave_back(3);
-        desk.extend("B").granted(&[(24, 3)]);
-        desk.scratch("B").gave_back(6);
-        desk.cylinders_by(CONTIG, "B", 1, 0).granted(&[(21, 3)]);
-        desk.cylinders_by(ALX, "E", 1, 0).granted(&[(24, 3)]);
-        desk.scratch("A").gave_back(6);
-        desk.scratch("E").gave_back(3);
-        desk.cylinders_by(ALX, "A", 1, 0).granted(&[(12, 6), (24, 3)]);
     })
 }
 

@@ -4,6 +4,7 @@ mod chains;
 mod damages;
 mod edges;
 mod grants;
+mod options;
 pub mod print;
 mod random;
 mod refusals;
@@ -27,15 +28,23 @@ fn sequence(title: &'static str, play: impl FnOnce(&mut Desk)) -> Sequence {
     Sequence { title, desk }
 }
 
-/// All sequences, always the same.
+/// All sequences, always the same. New ones come last: tests/definitions names them by number.
 pub fn sequences() -> Vec<Sequence> {
-    let mut all = stories();
+    let mut all = stories_of_the_base();
     all.extend(edges::sequences());
+    all.extend(options::stories());
+    all.extend(options::edges());
     all
 }
 
 /// Those in which volumes live, which the stored recording has too.
 pub fn stories() -> Vec<Sequence> {
+    let mut all = stories_of_the_base();
+    all.extend(options::stories());
+    all
+}
+
+fn stories_of_the_base() -> Vec<Sequence> {
     let mut all = volumes::sequences();
     all.extend(grants::sequences());
     all.extend(refusals::sequences());
