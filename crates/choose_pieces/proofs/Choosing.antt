@@ -2,22 +2,20 @@
 use mathlib.Core.Path.{_≡_, refl, sym, ap, _∙_, subst}
 use mathlib.Core.Bool.{Bool}
 use mathlib.Core.Option.{Option, none, some}
-use mathlib.Core.List.{List, [], _∷_, map}
-use Prim.Native.Nat.{ℕ, zero, suc, _+_, _*_, _/_, _≤_, _<_}
+use mathlib.Core.List.{List, [], _∷_}
+use Prim.Native.Nat.{ℕ, zero, suc, _+_, _*_, _/_, _≤_}
 use native.Mathlib.Nat.{le-trans, div-mul-le-self, mul-le-mul-right}
 use native.Mathlib.Omega.{arith}
 use borrow.Author.Tests.{leb-true, le-leb, lt-leb}
 use lib.ListN.{getD, take}
 use lib.Dec.{T, leb, leb→le}
 use Rattle.model.specs.Basics.{mapOption}
-use Rattle.model.specs.Model.{Run, run, total, Separate}
+use Rattle.model.specs.Model.{Run, Separate}
 use Rattle.model.specs.Choice.{wholeIn, candidates, serving, shorter, shortest, longestFirst, firstPart, gather, mostPieces, otherwise, choose}
 use Rattle.model.proofs.Lists.{by, All-filter, All-both, filter-pass, some-is}
 use Rattle.model.specs.Predicates.{All}
 use Rattle.model.proofs.Choose.{sorted-All}
-use Rattle.choose_pieces.specs.Grant.{grantedRuns, row, noPieces, grantOf}
-use Rattle.choose_pieces.specs.Pass.{noRun, runOrNone, padded, Surveyed, Within, Small}
-use Rattle.choose_pieces.proofs.Bounds.{small}
+use Rattle.choose_pieces.specs.Pass.{noRun, runOrNone, padded, Surveyed, Within}
 use Rattle.choose_pieces.proofs.Gathering.{gather-padded}
 
 -- ---- where the candidates lie

@@ -318,10 +318,11 @@ fn whole_pieces(five: [[u32; 2]; 5], u: u32, amount: u32, most: usize) -> [[u16;
     let mut k: usize = 0;
     while k < most {
         let c = five[k];
-        if c[1] < amount {
+        let size = c[1];
+        if size < amount {
             return pieces;
         }
-        let all = piece(u, c, c[1]);
+        let all = piece(u, c, size);
         pieces[k] = all;
         k += 1;
     }

@@ -1,5 +1,4 @@
 use mathlib.Core.Path.{refl}
-use mathlib.Core.List.{[]}
 use Prim.Native.Nat.{_-_}
 use native.Mathlib.Omega.{arith}
 use borrow.Author.Needs.{needs}
@@ -23,16 +22,13 @@ mul-c c = search needs
 array-copy-out-c : tie.Need-array-copy-out-c Inv-loop μ-loop
 array-copy-out-c c = search needs
 
-array-read-if1 : tie.Need-array-read-if1 Inv-loop μ-loop
-array-read-if1 c = search needs
+array-read-size : tie.Need-array-read-size Inv-loop μ-loop
+array-read-size c = search needs
 
 returns : tie.Need-returns Inv-loop μ-loop
 returns c =
     let at-loop = c .before .before .before in
     taking-short (at-loop .loop .inv) (at-loop .before .pre .0) (search needs) (c .before .before .loop-test .taken) (c .if1 .taken)
-
-array-read-piece : tie.Need-array-read-piece Inv-loop μ-loop
-array-read-piece c = search needs
 
 piece-requires : tie.Need-piece-requires Inv-loop μ-loop
 piece-requires c κs =
@@ -69,9 +65,8 @@ whole-pieces-spec =
     loop-holds
     mul-c
     array-copy-out-c
-    array-read-if1
+    array-read-size
     returns
-    array-read-piece
     piece-requires
     mul-pieces
     array-set-from-pieces

@@ -1,6 +1,5 @@
-use mathlib.Core.Path.{_≡_, refl, ap, _∙_}
+use mathlib.Core.Path.{_≡_, refl, _∙_}
 use native.Mathlib.Omega.{arith}
-use Rattle.rules.specs.Calls.{absolute, optionFor, optionOf}
 use Rattle.request.proofs.Laws.{absolute-option, known-kind, known-option}
 use Rattle.request.proofs.read_request.Statement.{statement}
 use Rattle.request.proofs.read_request.Tie as tie
@@ -12,7 +11,9 @@ returns : tie.Need-returns
 returns c = let e : c .before .before .args .kind ≡ 0 = c .if1 .taken in (rw e refl, c .before .read-option .ensures, refl)
 
 returns-2 : tie.Need-returns-2
-returns-2 c = let e : c .before .before .before .args .kind ≡ 1 = c .if2 .taken in (rw e refl, c .before .before .read-option .ensures, refl)
+returns-2 c =
+    let top = c .before .before .before in
+    let e : top .args .kind ≡ 1 = c .if2 .taken in (rw e refl, c .before .before .read-option .ensures, refl)
 
 returns-3 : tie.Need-returns-3
 returns-3 c =
