@@ -170,6 +170,16 @@ impl Desk {
         self.allocate(text, 2, start, count, 0)
     }
 
+    /// One-track sets W0, W1, ... that leave holes of these lengths from track 3 on.
+    #[track_caller]
+    pub fn walls(&mut self, lengths: &[u32]) {
+        let mut at = 3;
+        for (i, length) in lengths.iter().enumerate() {
+            self.absolute(&format!("W{i}"), at + length, 1).accepted();
+            at += length + 1;
+        }
+    }
+
     #[track_caller]
     pub fn extend(&mut self, text: &str) -> Outcome {
         self.call(Call::Extend { name: name(text).to_vec() })

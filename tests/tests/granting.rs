@@ -19,11 +19,7 @@ fn extents(desk: &Desk, slot: usize) -> Vec<Extent> {
 fn holes(lengths: &[u32]) -> Desk {
     let total: u32 = lengths.iter().map(|length| length + 1).sum();
     let mut desk = Desk::begin(3 + total, 1, 16, 1, 2);
-    let mut at = 3;
-    for (i, length) in lengths.iter().enumerate() {
-        desk.absolute(&format!("WALL{i}"), at + length, 1).accepted();
-        at += length + 1;
-    }
+    desk.walls(lengths);
     desk
 }
 

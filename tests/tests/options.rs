@@ -21,11 +21,7 @@ fn holes(lengths: &[u32], spare: u32) -> Desk {
     let total: u32 = lengths.iter().map(|length| length + 1).sum();
     let mut desk = Desk::begin(3 + total, 1, 3 + lengths.len() as u32 + spare, 1, 1);
     desk.absolute("WALL", 2, 1).accepted();
-    let mut at = 3;
-    for (i, length) in lengths.iter().enumerate() {
-        desk.absolute(&format!("WALL{i}"), at + length, 1).accepted();
-        at += length + 1;
-    }
+    desk.walls(lengths);
     desk
 }
 

@@ -14,7 +14,7 @@ use Rattle.rules.specs.Reading.{read}
 use Rattle.rules.specs.Table.{goodName, named, taken}
 use Rattle.check_table.specs.Check.{Shown}
 
--- m and s are the maps of free tracks and of free slots, a is the answer before the call
+-- m and s are the maps of free tracks and of free slots, a is the answer before the call; of the option nothing is asked
 pub record Asking (t m s name at a : List ℕ) (g : Geometry) (option : SpaceOption) (amount : Amount) (secondary : ℕ) : Type 0 where
   pub isTaken : T (taken t)
   pub geometryIs : g ≡ read t .geometry

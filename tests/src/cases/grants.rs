@@ -19,11 +19,7 @@ pub fn sequences() -> Vec<Sequence> {
 pub fn holes(desk: &mut Desk, lengths: &[u32], slots: u32) {
     let total: u32 = lengths.iter().map(|length| length + 1).sum();
     desk.initialise(3 + total, 1, slots / 2, 1, 2).accepted();
-    let mut at = 3;
-    for (i, length) in lengths.iter().enumerate() {
-        desk.absolute(&format!("W{i}"), at + length, 1).accepted();
-        at += length + 1;
-    }
+    desk.walls(lengths);
 }
 
 fn best_fit() -> Sequence {
