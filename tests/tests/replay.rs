@@ -1,6 +1,6 @@
 //! Records and lines of docs/REPLAY.md.
 
-use vtoc_tests::call::{Call, Reference, ALX, NO_OPTION};
+use vtoc_tests::call::{Call, Reference};
 use vtoc_tests::desk::attributes;
 use vtoc_tests::recording::recording;
 use vtoc_tests::replay::{adler, puts, record, Player, LINE, RECORD};
@@ -13,6 +13,25 @@ fn adler_is_the_known_one() {
     assert_eq!(adler(&[0x5A; 280]), 0x0ABA_6271);
 }
 
+/// An allocate of FLT.A on a table of 1,120 bytes: its record, written out by hand, and the call.
+fn allocation(kind: u8, amount: u8, option: u8) -> ([u8; RECORD], Call) {
+    let mut written = [0; RECORD];
+    written[..8].copy_from_slice(&[2, 44, 52, 24, 1, 24, 4, 96]);
+    (written[11], written[19], written[27]) = (kind, amount, option);
+    written[28..72].copy_from_slice(&name("FLT.A"));
+    written[74..126].copy_from_slice(&attributes(1));
+    let call = Call::Allocate {
+        name: name("FLT.A").to_vec(),
+        attributes: attributes(1),
+        kind: kind.into(),
+        start: 0,
+        amount: amount.into(),
+        secondary: 0,
+        option: option.into(),
+    };
+    (written, call)
+}
+
 /// The lines in the document, from records written out here by hand.
 #[test]
 fn volume_a() {
@@ -23,20 +42,7 @@ fn volume_a() {
     let line = player.play(&first);
     assert_eq!(line, b"01 00 000000000000000000000000000000000000000000000000 46E202CE 0ABA6271\n");
 
-    let mut second = [0; RECORD];
-    second[..8].copy_from_slice(&[2, 44, 52, 24, 1, 24, 4, 96]);
-    second[8..28].copy_from_slice(&[0, 0, 0, 0, 0, 0, 0, 0, 0, 0, 0, 4, 0, 0, 0, 0, 0, 0, 0, 0]);
-    second[28..72].copy_from_slice(&name("FLT.A"));
-    second[74..126].copy_from_slice(&attributes(1));
-    let call = Call::Allocate {
-        name: name("FLT.A").to_vec(),
-        attributes: attributes(1),
-        kind: 0,
-        start: 0,
-        amount: 4,
-        secondary: 0,
-        option: NO_OPTION,
-    };
+    let (second, call) = allocation(0, 4, 0);
     assert_eq!(record(&call, 1120, 24, 280), Some(second));
     let line = String::from_utf8(player.play(&second)).unwrap();
     assert!(line.starts_with("02 00 0004010003000400"), "{line}");
@@ -48,20 +54,7 @@ fn an_option_in_its_record() {
     let mut player = Player::new(&Reference);
     let first = Call::Initialise { c: 4, h: 5, d: 4, s: 1, v: 2 };
     player.play(&record(&first, 1120, 24, 280).expect("it fits"));
-    let mut second = [0; RECORD];
-    second[..8].copy_from_slice(&[2, 44, 52, 24, 1, 24, 4, 96]);
-    second[8..28].copy_from_slice(&[0, 0, 0, 1, 0, 0, 0, 0, 0, 0, 0, 2, 0, 0, 0, 0, 0, 0, 0, 3]);
-    second[28..72].copy_from_slice(&name("FLT.A"));
-    second[74..126].copy_from_slice(&attributes(1));
-    let call = Call::Allocate {
-        name: name("FLT.A").to_vec(),
-        attributes: attributes(1),
-        kind: 1,
-        start: 0,
-        amount: 2,
-        secondary: 0,
-        option: ALX,
-    };
+    let (second, call) = allocation(1, 2, 3);
     assert_eq!(record(&call, 1120, 24, 280), Some(second));
     let mut unknown = second;
     unknown[24] = 1;
