@@ -58,12 +58,12 @@ total-five (a ∷ b ∷ c ∷ d ∷ e ∷ f ∷ rs) h = absurd (omega arith)
 abbrev pub rows : ℕ → List Run → List (List ℕ)
 rows u ps = map row (map (scale u) ps)
 
-pub rows-snoc : (u : ℕ) (ps : List Run) (p : Run) (g : List (List ℕ)) → rows u (ps ++ (p ∷ [])) ++ g ≡ rows u ps ++ (row (scale u p) ∷ g)
+rows-snoc : (u : ℕ) (ps : List Run) (p : Run) (g : List (List ℕ)) → rows u (ps ++ (p ∷ [])) ++ g ≡ rows u ps ++ (row (scale u p) ∷ g)
 rows-snoc u [] p g = refl
 rows-snoc u (q ∷ ps) p g = ap (λ (x : List (List ℕ)). row (scale u q) ∷ x) (rows-snoc u ps p g)
 
--- the first k of five candidates, and the places that their pieces have: here and where whole candidates are taken (Options)
-module _ (u k : ℕ) (five g : List (List ℕ)) (h : k < 5) (l : length five ≡ 5) where
+-- the first k of five candidates, here and where whole candidates are taken (Options)
+module _ (k : ℕ) (five : List (List ℕ)) (h : k < 5) (l : length five ≡ 5) where
   -- the next candidate and those behind it
   pub next-of : toRuns (drop k five) ≡ toRun (getD five k []) ∷ toRuns (drop (suc k) five)
   next-of = ap toRuns (drop-cons five k [] (omega arith))
@@ -72,9 +72,10 @@ module _ (u k : ℕ) (five g : List (List ℕ)) (h : k < 5) (l : length five ≡
   pub one-more-of : toRuns (take (suc k) five) ≡ toRuns (take k five) ++ (toRun (getD five k []) ∷ [])
   one-more-of = ap toRuns (take-suc five k [] (omega arith)) ∙ map-append toRun (take k five) (getD five k [] ∷ [])
 
-  module _ (places : g ≡ rows u (toRuns (take k five)) ++ drop k noPieces) where
+  -- and the places that their pieces have
+  module _ (u : ℕ) (g : List (List ℕ)) (places : g ≡ rows u (toRuns (take k five)) ++ drop k noPieces) where
     -- a row stored at place k
-    pub stored-at : (r : List ℕ) → set g k r ≡ rows u (toRuns (take k five)) ++ (r ∷ drop (suc k) noPieces)
+    stored-at : (r : List ℕ) → set g k r ≡ rows u (toRuns (take k five)) ++ (r ∷ drop (suc k) noPieces)
     stored-at r =
         let w = toRuns (take k five) in
         let n : length (rows u w) ≡ k = length-map (map (scale u) w) row ∙ length-map w (scale u) ∙ length-map (take k five) toRun ∙ length-take k five ∙ omega arith in
@@ -105,10 +106,10 @@ filling-none u n five h l = record { few = omega arith; some = h; enough = l; so
 
 module _ {u n : ℕ} {five : List (List ℕ)} {rest : ℕ} {g : List (List ℕ)} {k : ℕ} (f : PiecesFilling u n five rest g k) (l : length five ≡ 5) where
   stored : (r : List ℕ) → set g k r ≡ rows u (toRuns (take k five)) ++ (r ∷ drop (suc k) noPieces)
-  stored r = stored-at u k five g (f .few) l (f .places) r
+  stored r = stored-at k five (f .few) l u g (f .places) r
 
   next : toRuns (drop k five) ≡ toRun (getD five k []) ∷ toRuns (drop (suc k) five)
-  next = next-of u k five g (f .few) l
+  next = next-of k five (f .few) l
 
   module _ (h : getD (getD five k []) 1 0 < rest) where
     left-over : rest - getD (getD five k []) 1 0 ≤ total (toRuns (drop (suc k) five))
@@ -122,7 +123,7 @@ module _ {u n : ℕ} {five : List (List ℕ)} {rest : ℕ} {g : List (List ℕ)}
         go (d ∷ ds) e t = omega arith
 
     one-more : toRuns (take (suc k) five) ≡ toRuns (take k five) ++ (toRun (getD five k []) ∷ [])
-    one-more = one-more-of u k five g (f .few) l
+    one-more = one-more-of k five (f .few) l
 
     taken-whole : gather n (toRuns five) ≡ mapOption (λ ps. toRuns (take (suc k) five) ++ ps) (gather (rest - getD (getD five k []) 1 0) (toRuns (drop (suc k) five)))
     taken-whole =
@@ -140,7 +141,7 @@ module _ {u n : ℕ} {five : List (List ℕ)} {rest : ℕ} {g : List (List ℕ)}
     pub filling-next : PiecesFilling u n five (rest - getD (getD five k []) 1 0) (set g k (row (scale u (toRun (getD five k []))))) (k + 1)
     filling-next =
         rw (add-one k)
-        (record { few = further; some = omega arith; enough = left-over; so-far = taken-whole; places = stored-whole u k five g (f .few) l (f .places) })
+        (record { few = further; some = omega arith; enough = left-over; so-far = taken-whole; places = stored-whole k five (f .few) l u g (f .places) })
 
   module _ (h : rest ≤ getD (getD five k []) 1 0) where
     -- the last piece is the first part of candidate k

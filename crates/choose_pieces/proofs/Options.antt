@@ -106,7 +106,7 @@ module _ {u n most : ℕ} {five g : List (List ℕ)} {k : ℕ} (t : Taking u n m
     ds = toRuns (drop (suc k) five)
 
     next : take most (serveFirst n (toRuns five)) ≡ w ++ take (most - k) (serveFirst n (d ∷ ds))
-    next = t .so-far ∙ ap (λ (x : List Run). w ++ take (most - k) (serveFirst n x)) (next-of u k five g (omega arith) l)
+    next = t .so-far ∙ ap (λ (x : List Run). w ++ take (most - k) (serveFirst n x)) (next-of k five (omega arith) l)
 
     -- the next one does not serve, nor do those behind it
     pub taking-short : getD (getD five k []) 1 0 < n → g ≡ all
@@ -125,8 +125,8 @@ module _ {u n most : ℕ} {five g : List (List ℕ)} {k : ℕ} (t : Taking u n m
               next ∙ ap (λ (x : ℕ). w ++ take x (serveFirst n (d ∷ ds))) e
               ∙ ap (λ (b : Bool). w ++ take (suc (most - suc k)) (cond b (d ∷ serveFirst n ds) [])) (le-leb n (d .count) s)
               ∙ sym (append-assoc w (d ∷ []) (take (most - suc k) (serveFirst n ds)))
-              ∙ ap (λ (x : List Run). x ++ take (most - suc k) (serveFirst n ds)) (sym (one-more-of u k five g (omega arith) l));
-          places = stored-whole u k five g (omega arith) l (t .places);
+              ∙ ap (λ (x : List Run). x ++ take (most - suc k) (serveFirst n ds)) (sym (one-more-of k five (omega arith) l));
+          places = stored-whole k five (omega arith) l u g (t .places);
         })
 
 -- ---- what the pass has found, and what is granted

@@ -35,20 +35,19 @@ looked-next u n x f rest best best′ b five five′ d e p q r = record {
   five-is = λ h. ap (fiveAfter u five) e ∙ ap (λ (z : List Run). fiveAfter u z rest) (sym q) ∙ r .five-is h;
 }
 
--- too short to fit better, or to be among the five longest
-module _ (u n a c : ℕ) (pos : 1 ≤ u) (some : 1 ≤ n) where
-  pub no-better : (best : Run) → c < n * u → best ≡ better n best (wholeIn u (run a c))
-  no-better best k = sym (too-short n some best (wholeIn u (run a c)) (few-units u a c n pos some k))
+-- too short to fit better
+pub no-better : (u n a c : ℕ) → 1 ≤ u → 1 ≤ n → (best : Run) → c < n * u → best ≡ better n best (wholeIn u (run a c))
+no-better u n a c pos some best k = sym (too-short n some best (wholeIn u (run a c)) (few-units u a c n pos some k))
 
-  not-among : (five : List Run) → c < (getD five 4 noRun .count + 1) * u → five ≡ entered (wholeIn u (run a c)) five
-  not-among five k = sym (no-longer (wholeIn u (run a c)) five (let l = few-units u a c (getD five 4 noRun .count + 1) pos (omega arith) k in omega arith))
+-- too short to be among the five longest; the same of the rows that the code holds
+not-among : (u a c : ℕ) → 1 ≤ u → (five : List Run) → c < (getD five 4 noRun .count + 1) * u → five ≡ entered (wholeIn u (run a c)) five
+not-among u a c pos five k =
+    sym (no-longer (wholeIn u (run a c)) five (let l = few-units u a c (getD five 4 noRun .count + 1) pos (omega arith) k in omega arith))
 
--- the same of the rows that the code holds
-fifth-is : (rs : List (List ℕ)) → getD (getD rs 4 []) 1 0 ≡ getD (toRuns rs) 4 noRun .count
-fifth-is rs = ap (λ (r : Run). r .count) (sym (List·getD-map toRun rs 4 []))
-
-pub not-among-rows : (u n a c : ℕ) → 1 ≤ u → 1 ≤ n → (rs : List (List ℕ)) → c < (getD (getD rs 4 []) 1 0 + 1) * u → toRuns rs ≡ entered (wholeIn u (run a c)) (toRuns rs)
-not-among-rows u n a c pos some rs k = not-among u n a c pos some (toRuns rs) (subst (λ (m : ℕ). c < (m + 1) * u) (fifth-is rs) k)
+pub not-among-rows : (u a c : ℕ) → 1 ≤ u → (rs : List (List ℕ)) → c < (getD (getD rs 4 []) 1 0 + 1) * u → toRuns rs ≡ entered (wholeIn u (run a c)) (toRuns rs)
+not-among-rows u a c pos rs k =
+    let fifth : getD (getD rs 4 []) 1 0 ≡ getD (toRuns rs) 4 noRun .count = ap (λ (r : Run). r .count) (sym (List·getD-map toRun rs 4 [])) in
+    not-among u a c pos (toRuns rs) (subst (λ (m : ℕ). c < (m + 1) * u) fifth k)
 
 -- too short for a unit
 module _ (u n a c : ℕ) (pos : 1 ≤ u) (some : 1 ≤ n) (k : c < u) where
@@ -60,7 +59,7 @@ module _ (u n a c : ℕ) (pos : 1 ≤ u) (some : 1 ≤ n) (k : c < u) where
   same-best best = no-better u n a c pos some best (below n some)
 
   pub same-five : (five : List Run) → five ≡ entered (wholeIn u (run a c)) five
-  same-five five = not-among u n a c pos some five (below (getD five 4 noRun .count + 1) (omega arith))
+  same-five five = not-among u a c pos five (below (getD five 4 noRun .count + 1) (omega arith))
 
 -- ---- one after the other
 

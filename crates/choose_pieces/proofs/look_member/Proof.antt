@@ -75,7 +75,7 @@ loop-again c =
           (looked-next (a .u) (a .amount) (run (e .start) (e .count)) _ _ (run (n .start) (n .count)) best (run (n .start) (n .count)) (toRuns (at-loop .loop .five)) ds (toRuns (at-loop .loop .five))
           (entry-next x (at-loop .loop .j) (e .start) (e .count) (omega arith) (hole .entry .ensures .0) (c .before .before .if1 .left))
           (no-better (a .u) (a .amount) (e .start) (e .count) (p .3) (p .5) (run (n .start) (n .count)) (omega (arith, i .3)))
-          (not-among-rows (a .u) (a .amount) (e .start) (e .count) (p .3) (p .5) (at-loop .loop .five) (omega (arith, i .4))) y),
+          (not-among-rows (a .u) (e .start) (e .count) (p .3) (at-loop .loop .five) (omega (arith, i .4))) y),
       i .3,
       i .4,
     )
