@@ -14,7 +14,7 @@ use Rattle.check_label.specs.Label.{namedThird}
 use Rattle.dscb_write.specs.Labels.{Format3}
 use Rattle.dscb_write.proofs.Following.{good-is}
 use Rattle.set_extents.specs.Change.{InRecords, SetIn, extentsIn}
-use Rattle.set_extents.proofs.Laws.{count-is, extents-are, set-in}
+use Rattle.set_extents.proofs.Laws.{count-is, extents-are, set-in, unit-is}
 use Rattle.open_table.specs.Opening.{FoundAt, Ready}
 use Rattle.open_table.proofs.Laws.{third-is}
 use Rattle.data_set.specs.Held.{SetAt, ThirdIn}
@@ -54,6 +54,7 @@ pub record Stored (g : Geometry) (l : Label) (t : List ℕ) (k count third : ℕ
   pub many : count ≡ length (l .extents)
   pub extents : extentsIn g (slotBytes t k) (slotBytes t third) count ≡ l .extents
   pub set : SetIn g (slotBytes t k) (slotBytes t third) count
+  pub unit : getD (slotBytes t k) 94 0 ≡ l .unit
   pub slot3 : third ≡ l .slot3
 
 module _ (t : List ℕ) (v : Volume) (h : Ready t v) (name : List ℕ) (k : ℕ) (f : FoundAt t v name k) where
@@ -72,6 +73,7 @@ module _ (t : List ℕ) (v : Volume) (h : Ready t v) (name : List ℕ) (k : ℕ)
         many = c ∙ count-is g l (y .good) (slotBytes t k) (slotBytes t third) first-is long w;
         extents = ap (λ (n : ℕ). extentsIn g (slotBytes t k) (slotBytes t third) n) c ∙ extents-are g l (y .good) (slotBytes t k) (slotBytes t third) first-is long w;
         set = subst (SetIn g (slotBytes t k) (slotBytes t third)) (sym c) (set-in g l (y .good) (slotBytes t k) (slotBytes t third) first-is long w (h .limits));
+        unit = unit-is g l (y .good) (slotBytes t k) (slotBytes t third) first-is long w;
         slot3 = q;
       }
 

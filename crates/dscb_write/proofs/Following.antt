@@ -36,17 +36,17 @@ added-next l es j d h =
 
 -- ---- the first tracks kept: whole extents, then a part of one
 
-pub keep-whole : (es : List Extent) (i n : ℕ) (d : Extent) → i < length es → getD es i d .over .count ≤ n
-    → take i es ++ keep n (drop i es) ≡ take (i + 1) es ++ keep (n - getD es i d .over .count) (drop (i + 1) es)
-keep-whole es i n d h u =
+pub keep-whole : (u : ℕ) (es : List Extent) (i n : ℕ) (d : Extent) → i < length es → getD es i d .over .count ≤ n
+    → take i es ++ keep u n (drop i es) ≡ take (i + 1) es ++ keep u (n - getD es i d .over .count) (drop (i + 1) es)
+keep-whole u es i n d h fits =
     let e = getD es i d in
-    rw (drop-cons es i d h, le-leb (e .over .count) n u)
-    (sym (append-snoc (take i es) e (keep (n - e .over .count) (drop (suc i) es)))
-    ∙ ap₂ (λ (x : List Extent) (k : ℕ). x ++ keep (n - e .over .count) (drop k es)) (sym (take-suc es i d h) ∙ ap (λ (k : ℕ). take k es) (sym (add-one i))) (sym (add-one i)))
+    rw (drop-cons es i d h, le-leb (e .over .count) n fits)
+    (sym (append-snoc (take i es) e (keep u (n - e .over .count) (drop (suc i) es)))
+    ∙ ap₂ (λ (x : List Extent) (k : ℕ). x ++ keep u (n - e .over .count) (drop k es)) (sym (take-suc es i d h) ∙ ap (λ (k : ℕ). take k es) (sym (add-one i))) (sym (add-one i)))
 
-pub keep-part : (es : List Extent) (i n : ℕ) (d : Extent) → i < length es → n < getD es i d .over .count
-    → take i es ++ keep n (drop i es) ≡ take i es ++ cut n (getD es i d)
-keep-part es i n d h u = let e = getD es i d in rw (drop-cons es i d h, lt-leb (e .over .count) n u)
+pub keep-part : (u : ℕ) (es : List Extent) (i n : ℕ) (d : Extent) → i < length es → n < getD es i d .over .count
+    → take i es ++ keep u n (drop i es) ≡ take i es ++ cut u n (getD es i d)
+keep-part u es i n d h less = let e = getD es i d in rw (drop-cons es i d h, lt-leb (e .over .count) n less)
 
-pub keep-all : (es : List Extent) (i n : ℕ) → length es ≤ i → take i es ++ keep n (drop i es) ≡ es
-keep-all es i n h = rw (drop-of-length-le es {i = i} h, append-nil) (take-all i es h)
+pub keep-all : (u : ℕ) (es : List Extent) (i n : ℕ) → length es ≤ i → take i es ++ keep u n (drop i es) ≡ es
+keep-all u es i n h = rw (drop-of-length-le es {i = i} h, append-nil) (take-all i es h)

@@ -1,10 +1,14 @@
 -- A data set that is to give tracks back, in the words of the rules. Assumes nothing.
 use mathlib.Core.Path.{_≡_, refl, sym, ap, ap₂, _∙_, subst}
 use mathlib.Core.List.{List, _∷_}
-use Prim.Native.Nat.{ℕ, zero, suc, _+_, _≤_, _<_}
+use Prim.Native.Nat.{ℕ, zero, suc, _+_, _/_, _≤_, _<_}
 use native.Mathlib.Omega.{arith}
 use lib.ListN.{getD, length}
-use Rattle.model.specs.Model.{Extent, Geometry, Label, Volume, runsOf, slots, total, tracks}
+use Rattle.model.specs.Model.{Extent, Geometry, Label, Volume, overs, runsOf, slots, total, tracks}
+use Rattle.model.specs.Tracks.{tracksKept, tracksOf}
+use Rattle.rules.specs.Calls.{tracksKeptOf}
+use Rattle.rules.specs.Table.{unitIn}
+use Rattle.model.proofs.Cylinders.{kept-within, tracks-length}
 use Rattle.rules.proofs.Labels.{without-sum}
 use Rattle.rules.proofs.Valid.{free-balance, held-total}
 use Rattle.bitmap.specs.Map.{Given}
@@ -33,10 +37,20 @@ module _ (g : Geometry) (t : List ℕ) (k q count : ℕ) (f1 f3 : List ℕ) (e1 
   pub set-looked : SetIn g (slotBytes t k) (slotBytes t q) count → SetIn g f1 f3 count
   set-looked x = subst (λ (r : List ℕ). SetIn g r f3 count) (sym e1) (subst (λ (r : List ℕ). SetIn g (slotBytes t k) r count) (sym e3) x)
 
-  pub tail-looked : (keep n whole start part : ℕ) (m m′ : List ℕ) → GaveTail keep (extentsIn g f1 f3 count) m m′ × Stays keep (extentsIn g f1 f3 count) n whole start part
-      → GaveTail keep (extentsIn g (slotBytes t k) (slotBytes t q) count) m m′ × Stays keep (extentsIn g (slotBytes t k) (slotBytes t q) count) n whole start part
-  tail-looked keep n whole start part m m′ x =
-      subst (λ (es : List Extent). GaveTail keep es m m′ × Stays keep es n whole start part) (ap₂ (λ (a b : List ℕ). extentsIn g a b count) e1 e3) x
+  extents-looked : extentsIn g f1 f3 count ≡ extentsIn g (slotBytes t k) (slotBytes t q) count
+  extents-looked = ap₂ (λ (a b : List ℕ). extentsIn g a b count) e1 e3
+
+  -- what `tracks_kept` asks, and what it gives
+  pub fits-looked : (n : ℕ) → n ≤ total (overs (extentsIn g (slotBytes t k) (slotBytes t q) count)) → n ≤ total (overs (extentsIn g f1 f3 count))
+  fits-looked n h = subst (λ (es : List Extent). n ≤ total (overs es)) (sym extents-looked) h
+
+  pub kept-looked : (unit ttr r : ℕ) → r ≡ tracksKept (g .heads) unit ttr (tracksOf (overs (extentsIn g f1 f3 count)))
+      → r ≡ tracksKept (g .heads) unit ttr (tracksOf (overs (extentsIn g (slotBytes t k) (slotBytes t q) count)))
+  kept-looked unit ttr r h = h ∙ ap (λ (es : List Extent). tracksKept (g .heads) unit ttr (tracksOf (overs es))) extents-looked
+
+  pub tail-looked : (unit keep n whole b start part : ℕ) (m m′ : List ℕ) → GaveTail keep (extentsIn g f1 f3 count) m m′ × Stays unit keep (extentsIn g f1 f3 count) n whole b start part
+      → GaveTail keep (extentsIn g (slotBytes t k) (slotBytes t q) count) m m′ × Stays unit keep (extentsIn g (slotBytes t k) (slotBytes t q) count) n whole b start part
+  tail-looked unit keep n whole b start part m m′ x = subst (λ (es : List Extent). GaveTail keep es m m′ × Stays unit keep es n whole b start part) extents-looked x
 
 -- ---- the data set
 
@@ -58,9 +72,10 @@ module _ (g : Geometry) (t m s : List ℕ) (k : ℕ) (d : At g t m s k) where
     set-of = set-looked g t k third count f1 f3 e1 e3 (stored-at .set)
 
     pub measured : (all low : ℕ) → Spreads (tracks g) (extentsIn g f1 f3 count) all low
-        → Measures g t k l (record { slot = k; slot3 = third; count = count; tracks = all; lowest = low })
+        → Measures g t k l (record { slot = k; slot3 = third; unit = getD f1 94 0; count = count; tracks = all; lowest = low })
     measured all low x = record {
       slot = refl;
+      unit = ap (λ (r : List ℕ). getD r 94 0) e1 ∙ stored-at .unit;
       stored = stored-at;
       spread = subst (λ (es : List Extent). Spreads (tracks g) es all low) (ap₂ (λ (a b : List ℕ). extentsIn g a b count) e1 e3 ∙ stored-at .extents) x;
     }
@@ -90,5 +105,23 @@ module _ {g : Geometry} {t : List ℕ} {k : ℕ} {l : Label} {x : Measured} (y :
   pub tail-is : (keep : ℕ) {m m′ : List ℕ} → GaveTail keep (measuredExtents g t x) m m′ → GaveTail keep (l .extents) m m′
   tail-is keep {m} {m′} h = subst (λ (es : List Extent). GaveTail keep es m m′) (y .stored .extents) h
 
-  pub stays-is : (keep n whole start count : ℕ) → Stays keep (measuredExtents g t x) n whole start count → Stays keep (l .extents) n whole start count
-  stays-is keep n whole start count h = subst (λ (es : List Extent). Stays keep es n whole start count) (y .stored .extents) h
+  pub stays-is : (keep n whole b start count : ℕ) → Stays (x .unit) keep (measuredExtents g t x) n whole b start count
+      → Stays (unitIn (l .unit)) keep (l .extents) n whole b start count
+  stays-is keep n whole b start count h =
+      subst (λ (u : ℕ). Stays u keep (l .extents) n whole b start count) (y .unit) (subst (λ (es : List Extent). Stays (x .unit) keep es n whole b start count) (y .stored .extents) h)
+
+  -- what `kept_of` asks, and what it gives
+  pub all-there : (n : ℕ) → n ≤ x .tracks → n ≤ total (overs (measuredExtents g t x))
+  all-there n h = let a = y .spread .sum in let b = ap (λ (es : List Extent). total (overs es)) (y .stored .extents) in omega arith
+
+  pub kept-is : (ttr n : ℕ) → n ≡ tracksKept (g .heads) (x .unit) ttr (tracksOf (overs (measuredExtents g t x))) → n ≡ tracksKeptOf g ttr l
+  kept-is ttr n h = h ∙ ap₂ (λ (u : ℕ) (es : List Extent). tracksKept (g .heads) u ttr (tracksOf (overs es))) (y .unit) (y .stored .extents)
+
+  pub kept-inside : 1 ≤ g .heads → (ttr n : ℕ) → ttr / 256 + 1 ≤ x .tracks → n ≡ tracksKept (g .heads) (x .unit) ttr (tracksOf (overs (measuredExtents g t x))) → n ≤ x .tracks
+  kept-inside pos ttr n fits h =
+      let es = measuredExtents g t x in
+      let a = y .spread .sum in
+      let b = ap (λ (es : List Extent). total (overs es)) (y .stored .extents) in
+      let e = tracks-length (overs es) in
+      let w = kept-within (g .heads) (x .unit) ttr (tracksOf (overs es)) pos (omega arith) .1 in
+      omega arith

@@ -10,11 +10,11 @@ use lib.ListN.{length}
 use Rattle.model.specs.Basics.{bit}
 use Rattle.model.specs.Model.{Extent, Geometry, Label, Volume, held, oneSlot, runsOf, slots, slotsOf, tally, times, total, tracks, used}
 use Rattle.model.proofs.Lists.{and-l, and-r, sum-append, true-is}
-use Rattle.rules.specs.Calls.{accept, answer, givenBack, goodTtr, releaseSet, settled, unless}
+use Rattle.rules.specs.Calls.{accept, answer, givenBack, goodTtr, releaseSet, releaseTracks, settled, shorter, tracksKeptOf, unless}
 use Rattle.rules.specs.Ledger.{keeps}
 use Rattle.rules.specs.Entries.{lent, result, written}
 use Rattle.rules.specs.Slots.{kept3, settleWith, without}
-use Rattle.rules.specs.Table.{fewExtents}
+use Rattle.rules.specs.Table.{fewExtents, unitIn}
 use Rattle.rules.proofs.Cut.{keep-times}
 use Rattle.rules.proofs.Grants.{release-keeps}
 use Rattle.rules.proofs.Kept.{Keeps}
@@ -39,7 +39,7 @@ use Rattle.free_space.specs.declared.Measured.{Measured}
 use Rattle.free_space.specs.Giving.{At, FreedSlot, Measures}
 use Rattle.free_space.proofs.Laws.{stays-is, tail-is}
 use Rattle.free_space.specs.declared.Cut.{Cut}
-use Rattle.free_space.specs.Shorter.{CutPlans, Shortens, shorterLabel}
+use Rattle.free_space.specs.Shorter.{CutPlans, Shortens}
 
 -- what a good TTR says
 pub ttr-fits : (ttr all : ℕ) → goodTtr ttr all ≡ true → (ttr < 16777216) × (ttr / 256 + 1 ≤ all)
@@ -76,37 +76,40 @@ module _ {g : Geometry} {t m s : List ℕ} {k : ℕ} (d : At g t m s k) (ttr : �
   abbrev others : List Label
   others = without (d .name) (v .labels)
 
-  abbrev l₀ : Label
-  l₀ = shorterLabel ttr l
-
-  abbrev n : ℕ
-  n = ttr / 256 + 1
-
   pub bad-ttr : (a : List ℕ) → goodTtr ttr (x .tracks) ≡ false → result 12 (lent t a []) ≡ written (lent t a []) (releaseSet v (d .name) ttr l)
   bad-ttr a h =
       let q : goodTtr ttr (total (runsOf l)) ≡ false = ap (goodTtr ttr) (sym (y .spread .sum)) ∙ h in
-      sym (ap (λ (b : Bool). written (lent t a []) (unless b 12 (settled (givenBack (total (runsOf l) - n)) (settleWith v others l₀)))) q)
+      sym (ap (λ (b : Bool). written (lent t a []) (unless b 12 (releaseTracks v (d .name) ttr l (tracksKeptOf (v .geometry) ttr l)))) q)
 
-  module _ (ok : goodTtr ttr (x .tracks) ≡ true) {m′ s′ c : List ℕ} {r : Cut} (z : CutPlans g t m m′ s s′ c x n r) where
+  -- n is what the code has for the number of tracks that stay
+  module _ (ok : goodTtr ttr (x .tracks) ≡ true) {n : ℕ} (count : n ≡ tracksKeptOf g ttr l) {m′ s′ c : List ℕ} {r : Cut} (z : CutPlans g t m m′ s s′ c x n r) where
+    abbrev u : ℕ
+    u = unitIn (l .unit)
+
+    abbrev l₀ : Label
+    l₀ = shorter n ttr l
+
     good : goodTtr ttr (total (runsOf l)) ≡ true
     good = ap (goodTtr ttr) (sym (y .spread .sum)) ∙ ok
 
     rule-is : releaseSet v (d .name) ttr l ≡ settled (givenBack (total (runsOf l) - n)) (settleWith v others l₀)
-    rule-is = ap (λ (b : Bool). unless b 12 (settled (givenBack (total (runsOf l) - n)) (settleWith v others l₀))) good
+    rule-is =
+        ap (λ (b : Bool). unless b 12 (releaseTracks v (d .name) ttr l (tracksKeptOf (v .geometry) ttr l))) good
+        ∙ ap (releaseTracks v (d .name) ttr l) (sym (count ∙ ap (λ (y : Geometry). tracksKeptOf y ttr l) (d .geometryIs)))
 
     -- ---- what stays
 
-    kept : Stays n (l .extents) (tracks g) (r .kept .whole) (r .kept .start) (r .kept .count)
-    kept = stays-is y n (tracks g) (r .kept .whole) (r .kept .start) (r .kept .count) (z .stays)
+    kept : Stays u n (l .extents) (tracks g) (r .kept .whole) (r .kept .«type_byte») (r .kept .start) (r .kept .count)
+    kept = stays-is y n (tracks g) (r .kept .whole) (r .kept .«type_byte») (r .kept .start) (r .kept .count) (z .stays)
 
     few-is : r .few ≡ fewExtents l₀
     few-is = z .fewIs (l .extents) (kept .most) ∙ ap (λ (es : List Extent). leb (length es) 3) (sym (kept .kept))
 
     -- what `cut_set` asks
     pub cut-fits : tracks g ≤ 65535 → (r .kept .whole ≤ 16) × (1 ≤ r .kept .count → r .kept .whole < 16) × (r .kept .start + r .kept .count ≤ 65535)
-    cut-fits u =
-        stays-fits n (tracks g) (r .kept .whole) (r .kept .start) (r .kept .count) (l .extents) kept
-        (let b = y .stored .many in let c = y .stored .set .most in omega arith) u
+    cut-fits w =
+        stays-fits u n (tracks g) (r .kept .whole) (r .kept .«type_byte») (r .kept .start) (r .kept .count) (l .extents) kept
+        (let b = y .stored .many in let c = y .stored .set .most in omega arith) w
 
     -- ---- what the maps show then
 
@@ -114,7 +117,7 @@ module _ {g : Geometry} {t m s : List ℕ} {k : ℕ} (d : At g t m s k) (ttr : �
     all-shown =
         let a : Shows m (tracks (v .geometry)) (runsOf l ++ held (v .geometry) others) = shows-same m (tracks (v .geometry)) (held (v .geometry) (v .labels)) (runsOf l ++ held (v .geometry) others) (λ t u. held-apart v (d .ready .valid) (d .name) l (d .it .same) t) (d .shown .freeTracks) in
         let b : Shows m (tracks g) (runsOf l ++ held g others) = subst (λ (y : Geometry). Shows m (tracks y) (runsOf l ++ held y others)) (sym (d .geometryIs)) a in
-        tail-is y n (z .tail) .held (tracks g) (held g others) b
+        tail-is y n (z .tail) .held u (tracks g) (held g others) b
 
     tracks-shown : Shows m′ (tracks g) (held g (kept3 l₀ ∷ others))
     tracks-shown = shows-same m′ (tracks g) (runsOf l₀ ++ held g others) (held g (kept3 l₀ ∷ others)) (λ t u. held-front g (kept3 l₀) others t) all-shown
@@ -167,7 +170,7 @@ module _ {g : Geometry} {t m s : List ℕ} {k : ℕ} (d : At g t m s k) (ttr : �
           below =
               shows-below g m′ (tracks g) (x .lowest) (v .labels) (held g others) (runsOf l) (runsOf l₀) (y .spread .lowIn)
               (λ i. subst (λ (y : Geometry). times i (held y (v .labels)) ≡ times i (runsOf l ++ held y others)) (sym (d .geometryIs)) (held-apart v (d .ready .valid) (d .name) l (d .it .same) i))
-              (λ i u. let a = y .spread .lowest i u in let b = keep-times n i (l .extents) in omega arith) all-shown;
+              (λ i u. let a = y .spread .lowest i u in let b = keep-times (unitIn (l .unit)) n i (l .extents) in omega arith) all-shown;
           shownSlots = slots-free;
           stays = others-stay v (d .ready .valid) (d .name) l (d .it .same) l₀ refl refl;
           slotOnce = slots-once v (d .ready .valid) (d .name) l (d .it .same) l₀ refl refl;
@@ -182,10 +185,10 @@ module _ {g : Geometry} {t m s : List ℕ} {k : ℕ} (d : At g t m s k) (ttr : �
     -- ---- written: f1 and f3 are the records, copied from the table and then cut
 
     module _ (fits : r .plan .fits ≡ true) (old1 old3 f1 f3 : List ℕ) (e : old1 ≡ slotBytes t k) (there : ThirdIn t (x .slot3) old3)
-        (short : Shortens g ttr (r .kept .whole) (r .kept .start) (r .kept .count) old1 old3 f1 f3) where
+        (short : Shortens g ttr (r .kept .whole) (r .kept .«type_byte») (r .kept .start) (r .kept .count) old1 old3 f1 f3) where
       records : InRecords g l₀ f1 f3
       records =
-          subst (λ (z : Label). InRecords g (withTtr ttr z) f1 f3) (shortened-is n (tracks g) (r .kept .whole) (r .kept .start) (r .kept .count) l kept)
+          subst (λ (z : Label). InRecords g (withTtr ttr z) f1 f3) (shortened-is u n (tracks g) (r .kept .whole) (r .kept .«type_byte») (r .kept .start) (r .kept .count) l kept)
           (short .records l (kept .most) (copied t v (d .ready) (d .name) k (d .it) g (d .geometryIs) (x .slot3) (y .stored .slot3) old1 old3 e there))
 
       abbrev home : Home

@@ -37,9 +37,9 @@ module _ (ttr all : ℕ) (w : ttr < 16777216) where
 length-kept : (whole : ℕ) (es : List Extent) (ps : List Extent) → whole ≤ length es → length (take whole es ++ ps) ≡ whole + length ps
 length-kept whole es ps h = length-append (take whole es) ps ∙ ap (λ (n : ℕ). n + length ps) (length-take-le whole es h)
 
-pub whole-stay : (whole start count : ℕ) → count ≡ 0 → (r : Bool) → r ≡ leb whole 3 → (es : List Extent) → whole ≤ length es → r ≡ leb (length (take whole es ++ partOf start count)) 3
-whole-stay whole start zero e r q es h = let n : length (take whole es ++ partOf start 0) ≡ whole = length-kept whole es (partOf start 0) h ∙ omega arith in q ∙ ap (λ (i : ℕ). leb i 3) (sym n)
-whole-stay whole start (suc n) e r q es h = absurd (omega arith)
+pub whole-stay : (whole b start count : ℕ) → count ≡ 0 → (r : Bool) → r ≡ leb whole 3 → (es : List Extent) → whole ≤ length es → r ≡ leb (length (take whole es ++ partOf b start count)) 3
+whole-stay whole b start zero e r q es h = let n : length (take whole es ++ partOf b start 0) ≡ whole = length-kept whole es (partOf b start 0) h ∙ omega arith in q ∙ ap (λ (i : ℕ). leb i 3) (sym n)
+whole-stay whole b start (suc n) e r q es h = absurd (omega arith)
 
 leb-suc : (n : ℕ) → leb n 2 ≡ leb (suc n) 3
 leb-suc n =
@@ -48,10 +48,10 @@ leb-suc n =
     (λ (h : 2 < n). lt-leb n 2 h ∙ sym (lt-leb (suc n) 3 (omega arith)))
     (le-or-lt n 2)
 
-pub part-stays : (whole start count : ℕ) → (count ≡ 0 → ⊥) → (r : Bool) → r ≡ leb whole 2 → (es : List Extent) → whole ≤ length es → r ≡ leb (length (take whole es ++ partOf start count)) 3
-part-stays whole start zero e r q es h = absurd (e refl)
-part-stays whole start (suc c) e r q es h =
-    let n : length (take whole es ++ partOf start (suc c)) ≡ suc whole = length-kept whole es (partOf start (suc c)) h ∙ omega arith in q ∙ leb-suc whole ∙ ap (λ (i : ℕ). leb i 3) (sym n)
+pub part-stays : (whole b start count : ℕ) → (count ≡ 0 → ⊥) → (r : Bool) → r ≡ leb whole 2 → (es : List Extent) → whole ≤ length es → r ≡ leb (length (take whole es ++ partOf b start count)) 3
+part-stays whole b start zero e r q es h = absurd (e refl)
+part-stays whole b start (suc c) e r q es h =
+    let n : length (take whole es ++ partOf b start (suc c)) ≡ suc whole = length-kept whole es (partOf b start (suc c)) h ∙ omega arith in q ∙ leb-suc whole ∙ ap (λ (i : ℕ). leb i 3) (sym n)
 
 -- ---- the data set cut
 

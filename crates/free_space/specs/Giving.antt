@@ -5,6 +5,7 @@ use mathlib.Core.List.{List, _++_}
 use lib.ListN.{length}
 use Rattle.free_space.specs.declared.Measured.{Measured}
 use Rattle.model.specs.Model.{Extent, Geometry, Label, Volume, oneSlot, tracks}
+use Rattle.rules.specs.Table.{unitIn}
 use Rattle.bitmap.specs.Map.{Shows}
 use Rattle.dscb.specs.Records.{slotBytes}
 use Rattle.check_label.specs.Marks.{units}
@@ -22,9 +23,10 @@ pub record At (g : Geometry) (t m s : List ℕ) (k : ℕ) : Type 0 where
   pub shown : Shown volume m s
   pub it : FoundAt t volume name k
 
--- x tells of that data set, whose label is l, in the records of the table t: its tracks and the lowest of them
+-- x tells of that data set, whose label is l, in the records of the table t: its unit, its tracks and the lowest of them
 pub record Measures (g : Geometry) (t : List ℕ) (k : ℕ) (l : Label) (x : Measured) : Type 0 where
   pub slot : x .slot ≡ k
+  pub unit : x .unit ≡ unitIn (l .unit)
   pub stored : Stored g l t (x .slot) (x .count) (x .slot3)
   pub spread : Spreads (tracks g) (l .extents) (x .tracks) (x .lowest)
 

@@ -7,10 +7,11 @@ use set_extents::Kept;
 use update::Home;
 use update::Plan;
 ghost use mathlib.Core.Path.{_≡_};
-ghost use Prim.Native.Nat.{ℕ, _*_, _≤_, _<_, _+_};
+ghost use Prim.Native.Nat.{ℕ, _*_, _/_, _≤_, _<_, _+_};
 ghost use mathlib.Core.List.{List, [], _++_};
 ghost use lib.ListN.{length, take};
-ghost use Rattle.model.specs.Model.{slots, tracks, Extent};
+ghost use Rattle.model.specs.Model.{slots, tracks, Extent, overs, total};
+ghost use Rattle.model.specs.Tracks.{tracksKept, tracksOf};
 ghost use Rattle.rules.specs.Predicates.{Limits};
 ghost use Rattle.dscb.specs.Forms.{geometryOf};
 ghost use Rattle.dscb.specs.Records.{slotBytes};
@@ -22,10 +23,12 @@ ghost use Rattle.rules.specs.Entries.{lent, result, written};
 ghost use Rattle.free_space.specs.Shorter.{CutPlans, Shortens};
 ghost use Rattle.free_space.specs.Going.{GoingPlans};
 
-// A data set: the slots of its format 1 and its format 3, 0 for none, how many extents it has, its tracks and the lowest of them.
+// A data set: the slots of its format 1 and its format 3, 0 for none, its unit, how many extents it has, its tracks and the lowest
+// of them.
 pub struct Measured {
     pub slot: usize,
     pub slot3: usize,
+    pub unit: u8,
     pub count: usize,
     pub tracks: u32,
     pub lowest: u32,
@@ -45,21 +48,33 @@ pub fn measure(table: &[u8], g: Geometry, k: usize) -> Measured
     Measured {
         slot: k,
         slot3,
+        unit: f1[DS1SCALO],
         count,
         tracks: x.all,
         lowest: x.lowest,
     }
 }
 
+// How many tracks of the data set stay where the block TTR is its last.
+pub fn kept_of(table: &[u8], g: Geometry, x: Measured, ttr: u32) -> u32
+    requires { ⌜ (length (now table) ≡ 140 * slots (geometryOf g)) × (x .slot < slots (geometryOf g)) × (x .slot3 < slots (geometryOf g)) × (ttr / 256 + 1 ≤ total (overs (measuredExtents (geometryOf g) (now table) x))) ⌝ }
+    requires { ⌜ SetIn (geometryOf g) (slotBytes (now table) (x .slot)) (slotBytes (now table) (x .slot3)) (x .count) ⌝ }
+    ensures { λ r. ⌜ r ≡ tracksKept (g .heads) (x .unit) ttr (tracksOf (overs (measuredExtents (geometryOf g) (now (table .entry)) x))) ⌝ }
+{
+    let f1 = dscb::record_at(table, x.slot);
+    let f3 = dscb::record_at(table, x.slot3);
+    set_extents::tracks_kept(f1, f3, x.count, g, x.unit, ttr)
+}
+
 // Makes free the tracks behind the first `keep` of the data set, and tells what stays of it.
 pub fn give_back(table: &[u8], g: Geometry, x: Measured, keep: u32, free_tracks: &mut [u64]) -> Kept
     requires { ⌜ (length (now table) ≡ 140 * slots (geometryOf g)) × (x .slot < slots (geometryOf g)) × (x .slot3 < slots (geometryOf g)) × (tracks (geometryOf g) ≤ 64 * length (now «free_tracks»)) ⌝ }
     requires { ⌜ SetIn (geometryOf g) (slotBytes (now table) (x .slot)) (slotBytes (now table) (x .slot3)) (x .count) ⌝ }
-    ensures { λ r. ⌜ GaveTail keep (measuredExtents (geometryOf g) (now (table .entry)) x) (now («free_tracks» .entry)) (now («free_tracks» .exit)) × Stays keep (measuredExtents (geometryOf g) (now (table .entry)) x) (tracks (geometryOf g)) (r .whole) (r .start) (r .count) ⌝ }
+    ensures { λ r. ⌜ GaveTail keep (measuredExtents (geometryOf g) (now (table .entry)) x) (now («free_tracks» .entry)) (now («free_tracks» .exit)) × Stays (x .unit) keep (measuredExtents (geometryOf g) (now (table .entry)) x) (tracks (geometryOf g)) (r .whole) (r .«type_byte») (r .start) (r .count) ⌝ }
 {
     let f1 = dscb::record_at(table, x.slot);
     let f3 = dscb::record_at(table, x.slot3);
-    set_extents::give_tail(f1, f3, x.count, g, keep, free_tracks)
+    set_extents::give_tail(f1, f3, x.count, g, x.unit, keep, free_tracks)
 }
 
 // Makes slot k free in the map of slots; 0 is none.
@@ -91,7 +106,7 @@ fn good_ttr(ttr: u32, all: u32) -> bool
 
 // Whether no more than three extents stay: then the format 3 is freed.
 fn few_stay(k: Kept) -> bool
-    ensures { λ r. ⌜ ((es : List Extent) → k .whole ≤ length es → r ≡ leb (length (take (k .whole) es ++ partOf (k .start) (k .count))) 3) ⌝ }
+    ensures { λ r. ⌜ ((es : List Extent) → k .whole ≤ length es → r ≡ leb (length (take (k .whole) es ++ partOf (k .«type_byte») (k .start) (k .count))) 3) ⌝ }
 {
     if k.count == 0 {
         return k.whole <= 3;
@@ -132,7 +147,7 @@ pub fn plan_release(
 // Makes the records of a data set those of what stays of it, with TTR as its last block.
 fn cut_set(f1: &mut [u8; 140], f3: &mut [u8; 140], g: Geometry, kept: Kept, ttr: u32)
     requires { ⌜ (length (now f1) ≡ 140) × (length (now f3) ≡ 140) × (kept .whole ≤ 16) × (1 ≤ kept .count → kept .whole < 16) × (kept .start + kept .count ≤ 65535) × Limits (geometryOf g) × (ttr < 16777216) ⌝ }
-    ensures { λ _. ⌜ Shortens (geometryOf g) ttr (kept .whole) (kept .start) (kept .count) (now (f1 .entry)) (now (f3 .entry)) (now (f1 .exit)) (now (f3 .exit)) ⌝ }
+    ensures { λ _. ⌜ Shortens (geometryOf g) ttr (kept .whole) (kept .«type_byte») (kept .start) (kept .count) (now (f1 .entry)) (now (f3 .entry)) (now (f1 .exit)) (now (f3 .exit)) ⌝ }
 {
     set_extents::cut_records(f1, f3, g, kept);
     dscb_write::set_ttr(f1, ttr);
@@ -156,7 +171,7 @@ pub fn release_set(
     if good_ttr(ttr, x.tracks) {} else {
         return E_TTR;
     }
-    let keep = ttr / 256 + 1;
+    let keep = kept_of(table, g, x, ttr);
     let mut chain = [0u16; 468];
     let cut = plan_release(table, g, free_tracks, free_slots, &mut chain, x, keep);
     let plan = cut.plan;

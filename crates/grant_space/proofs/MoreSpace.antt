@@ -3,29 +3,27 @@ use mathlib.Core.Path.{_≡_, refl, sym, ap, ap₂, _∙_, subst}
 use mathlib.Core.Bool.{true, false, cond}
 use mathlib.Core.Option.{Option, some}
 use mathlib.Core.List.{List, [], _++_, map}
-use Prim.Native.Nat.{ℕ, suc, _*_, _+_, _≤_, _<_}
+use Prim.Native.Nat.{ℕ, _*_, _+_, _≤_, _<_}
 use native.Mathlib.Omega.{arith}
 use borrow.Author.Tests.{le-leb, lt-leb}
 use lib.Dec.{eqb, leb}
 use lib.ListN.{length, take, getD, length-map}
-use Rattle.model.specs.Basics.{get3, upFrom}
+use Rattle.model.specs.Basics.{get3}
 use Rattle.model.specs.Choice.{noOption}
 use Rattle.model.specs.Model.{Extent, Geometry, Label, Run, Volume, extent, free, held, overs, runsOf, slots, times, total, tracks}
 use Rattle.rules.specs.Calls.{Amount, answer, extendPieces, extendSet, given, granted, inCylinders, inTracks, refuse, secondaryOf, settled, grant as granting}
 use Rattle.rules.specs.Entries.{lent, written}
-use Rattle.rules.specs.Layout.{format1, format3}
 use Rattle.rules.specs.Ledger.{appends}
-use Rattle.rules.specs.Reading.{read, readLabel, recordAt}
+use Rattle.rules.specs.Reading.{read}
 use Rattle.rules.specs.Slots.{settleWith, withExtents, without}
 use Rattle.rules.specs.Predicates.{Asks, GoodLabel, Limits, Valid}
 use Rattle.rules.proofs.Grants.{extend-keeps}
-use Rattle.rules.proofs.Keyed.{getD-map-range}
 use Rattle.rules.proofs.Kept.{Keeps}
-use Rattle.rules.proofs.LabelBack.{label-back}
 use Rattle.bitmap.specs.Map.{Shows}
 use Rattle.choose_pieces.specs.Grant.{grantOf, rowsIn, row}
 use Rattle.request.specs.Request.{piecesOf, typeOf}
 use Rattle.request.proofs.Laws.{Fulfilled, accepted, refused, secondary-asks}
+use Rattle.set_extents.proofs.Laws.{secondary-is, unit-is}
 use Rattle.set_extents.specs.Change.{granted as more}
 use Rattle.data_set.specs.Held.{SetAt}
 use Rattle.data_set.proofs.Stored.{KnownSet, known}
@@ -42,27 +40,6 @@ use Rattle.grant_space.specs.declared.Holder.{Holder}
 use Rattle.grant_space.specs.Granting.{GrantPlans, GrantWrites, Grants, grown}
 use Rattle.grant_space.proofs.Laws.{grant-full}
 use Rattle.grant_space.specs.Longer.{Extended, Longer}
-
--- ---- the fields of a label, read from its format 1
-
-module _ (g : Geometry) (l : Label) (good : GoodLabel g l) (f1 f3 : List ℕ) (one : f1 ≡ format1 g l) (long : length f3 ≡ 140) (three : f3 ≡ format3 g l) where
-  -- records of which the one in the slot of the format 3 is f3
-  abbrev rs : List (List ℕ)
-  rs = map (λ (k : ℕ). f3) (upFrom 0 (suc (l .slot3)))
-
-  third-there : recordAt rs (l .slot3) ≡ f3
-  third-there = getD-map-range (λ (k : ℕ). f3) 0 (suc (l .slot3)) (l .slot3) [] (omega arith)
-
-  back : readLabel g rs (l .slot) f1 ≡ l
-  back = ap (readLabel g rs (l .slot)) one ∙ label-back g l good rs (ap length third-there ∙ long) (λ u. third-there ∙ three)
-
-  unit-is : getD f1 94 0 ≡ l .unit
-  unfolding readLabel
-  unit-is = ap (λ (m : Label). m .unit) back
-
-  secondary-is : get3 f1 95 ≡ l .secondary
-  unfolding readLabel
-  secondary-is = ap (λ (m : Label). m .secondary) back
 
 module _ {t m s a : List ℕ} {g : Geometry} {k : ℕ} (d : Longer t m s a g k) where
   abbrev v : Volume
@@ -125,7 +102,7 @@ module _ {t m s a : List ℕ} {g : Geometry} {k : ℕ} (d : Longer t m s a g k) 
 
     module _ (sec : ℕ) (es : sec ≡ get3 one 95) where
       sec-is : sec ≡ l .secondary
-      sec-is = es ∙ secondary-is g l good one three (it .records .one .bytes) (it .set .long3) (it .records .three)
+      sec-is = es ∙ secondary-is g l good one three (it .records .one .bytes) (it .set .long3) (λ _. it .records .three)
 
       pub no-secondary : sec ≡ 0 → Extended d 8 t a
       no-secondary z = let e : leb 1 (l .secondary) ≡ false = lt-leb 1 (l .secondary) (let q = sec-is in omega arith) in rw e
@@ -135,7 +112,7 @@ module _ {t m s a : List ℕ} {g : Geometry} {k : ℕ} (d : Longer t m s a g k) 
         amount-is =
             eq
             ∙ ap₂ (λ (u n : ℕ). cond (eqb u 0xC0) (inCylinders n) (inTracks n))
-            (eu ∙ unit-is g l good one three (it .records .one .bytes) (it .set .long3) (it .records .three)) sec-is
+            (eu ∙ unit-is g l good one three (it .records .one .bytes) (it .set .long3) (λ _. it .records .three)) sec-is
 
         positive : 1 ≤ sec
         positive = omega (arith, ns)

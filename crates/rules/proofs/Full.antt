@@ -3,7 +3,7 @@ use mathlib.Core.Path.{_≡_, refl, sym, ap, _∙_}
 use mathlib.Core.Bool.{Bool, true, false, cond}
 use mathlib.Core.Option.{Option, none, some}
 use mathlib.Core.List.{List, _∷_, _++_, append-nil}
-use Prim.Native.Nat.{ℕ, zero, suc, _+_, _-_, _/_, _≤_, _<_}
+use Prim.Native.Nat.{ℕ, zero, suc, _+_, _-_, _≤_, _<_}
 use native.Mathlib.Nat.{le-trans}
 use native.Mathlib.Omega.{arith}
 use lib.ListN.{length, length-append, length-take}
@@ -13,7 +13,7 @@ use Rattle.model.specs.Basics.{bit, flat, sumOf}
 use Rattle.model.specs.Model.{Extent, Geometry, Label, Run, Volume, fivesFor, format0s, free, held, oneSlot, overs, runsOf, slots, slotsOf, tally, times, total, unused, used}
 use Rattle.model.proofs.Lists.{by, sum-take}
 use Rattle.model.specs.Predicates.{All}
-use Rattle.rules.specs.Calls.{Amount, Reply, Request, allocatePieces, extendPieces, givenBack, goodTtr, granted, keep, newSet, releaseSet, settled}
+use Rattle.rules.specs.Calls.{Amount, Reply, Request, allocatePieces, extendPieces, givenBack, goodTtr, granted, newSet, releaseSet, settled, shorter, tracksKeptOf}
 use Rattle.rules.specs.Full.{NoneExactly, RefusedExactly, fivesNeeded, format1s, format3s, freed, full, members, needed}
 use Rattle.rules.specs.Slots.{added, askedBy, asks, changed, found, insertLabel, kept3, keptFives, placed, removed, settle, settleWith, stillUsed, withExtents, without}
 use Rattle.rules.specs.Table.{fewExtents}
@@ -258,8 +258,8 @@ module _ (v : Volume) (h : Valid v) (n : List ℕ) (l : Label) (f : found v n �
       (settled-exactly (granted (overs es)) (changed v n (withExtents (l .extents ++ es) (l .ttr) l)) _ (changed-full v h n l f (l .extents ++ es) (l .ttr)))
 
   pub release-11 : (ttr : ℕ) → goodTtr ttr (total (runsOf l)) ≡ true
-      → RefusedExactly (releaseSet v n ttr l) 11 (full v others (some l) (some (withExtents (keep (ttr / 256 + 1) (l .extents)) ttr l)))
+      → RefusedExactly (releaseSet v n ttr l) 11 (full v others (some l) (some (shorter (tracksKeptOf (v .geometry) ttr l) ttr l)))
   release-11 ttr e =
+      let k : ℕ = tracksKeptOf (v .geometry) ttr l in
       rw e
-      (settled-exactly (givenBack (total (runsOf l) - (ttr / 256 + 1))) (changed v n (withExtents (keep (ttr / 256 + 1) (l .extents)) ttr l)) _
-      (changed-full v h n l f (keep (ttr / 256 + 1) (l .extents)) ttr))
+      (settled-exactly (givenBack (total (runsOf l) - k)) (changed v n (shorter k ttr l)) _ (changed-full v h n l f (shorter k ttr l .extents) ttr))

@@ -3,13 +3,13 @@ use mathlib.Core.Path.{_≡_, refl, subst}
 use mathlib.Core.Bool.{Bool, true, false, _&&_}
 use mathlib.Core.Option.{Option, none, some}
 use mathlib.Core.List.{List, _∷_, _++_}
-use Prim.Native.Nat.{ℕ, _+_, _-_, _*_, _/_}
+use Prim.Native.Nat.{ℕ, _+_, _-_, _*_}
 use lib.ListN.{length}
 use lib.Dec.{eqb, leb}
 use Rattle.model.specs.Choice.{noOption}
 use Rattle.model.specs.Model.{Geometry, Label, Volume, overs, runsOf, slots, total}
 use Rattle.model.proofs.Lists.{by, clash, true-is}
-use Rattle.rules.specs.Calls.{Call, Outcome, Reply, accept, allocate, allocateAmount, allocateBy, allocatePieces, amountOf, extend, extendPieces, extendSet, given, givenBack, goodTtr, grant, granted, inRange, keep, lspace, newSet, obtain, obtainSet, optionFor, refuse, release, releaseSet, removeSet, rename, renameSet, rule, scratch, secondaryOf, settled, unless}
+use Rattle.rules.specs.Calls.{Call, Outcome, Reply, accept, allocate, allocateAmount, allocateBy, allocatePieces, amountOf, extend, extendPieces, extendSet, given, givenBack, goodTtr, grant, granted, inRange, lspace, newSet, obtain, obtainSet, optionFor, refuse, release, releaseSet, removeSet, rename, renameSet, rule, scratch, secondaryOf, settled, shorter, tracksKeptOf, unless}
 use Rattle.rules.specs.Entries.{Lent, goodLengths, initialise, perform, written}
 use Rattle.rules.specs.Reading.{read}
 use Rattle.rules.specs.Refusals.{OneOf, ZeroOr, refusals, refusalsOfInitialise}
@@ -78,7 +78,7 @@ rule-listed v h (release n ttr) =
     listed-named v (release n ttr) n (releaseSet v n ttr) refl refl
     (λ l e.
     listed-unless (goodTtr ttr (total (runsOf l))) _ _ refl
-    (listed-settled (givenBack (total (runsOf l) - (ttr / 256 + 1))) (changed v n (withExtents (keep (ttr / 256 + 1) (l .extents)) ttr l)) (λ _. refl)))
+    (listed-settled (givenBack (total (runsOf l) - tracksKeptOf (v .geometry) ttr l)) (changed v n (shorter (tracksKeptOf (v .geometry) ttr l) ttr l)) (λ _. refl)))
 rule-listed v h (scratch n) =
     listed-named v (scratch n) n (removeSet v n) refl refl
     (λ l e. listed-settled (givenBack (total (runsOf l))) (removed v n) (λ full. absurd (scratch-fits v h n l e full)))

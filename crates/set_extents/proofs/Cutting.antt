@@ -1,5 +1,5 @@
 -- The first tracks of a data set, kept, and those behind them given back, extent by extent. Assumes nothing.
-use mathlib.Core.Path.{_≡_, refl, sym, ap, _∙_, subst}
+use mathlib.Core.Path.{_≡_, refl, sym, ap, ap₂, _∙_, subst}
 use mathlib.Core.Logic.{⊎-elim}
 use mathlib.Core.List.{List, [], _∷_, _++_, append-nil}
 use Prim.Native.Nat.{ℕ, zero, suc, _+_, _-_, _≤_, _<_, min}
@@ -15,7 +15,7 @@ use Rattle.model.specs.Model.{Extent, Geometry, Label, Run, covers, extent, ove
 use Rattle.model.proofs.Lists.{All-at, by, sum-append}
 use Rattle.model.specs.Predicates.{All}
 use Rattle.model.proofs.Runs.{hit-above, hit-below}
-use Rattle.rules.specs.Calls.{cut, keep}
+use Rattle.rules.specs.Calls.{cut, cutType, keep}
 use Rattle.rules.specs.Layout.{extentPart}
 use Rattle.rules.specs.Reading.{readExtent, readExtents, trackAt}
 use Rattle.rules.specs.Slots.{withExtents}
@@ -67,38 +67,38 @@ tracks-within g es e s c limit x = let a = x .ends in let b = limit .tracksMost 
 
 -- ---- what stays
 
-cut-is : (m s : ℕ) (e : Extent) → s ≡ e .over .start → cut m e ≡ partOf s m
-cut-is zero s e q = refl
-cut-is (suc m) s e q = ap (λ (x : ℕ). extent 0x01 (run x (suc m)) ∷ []) (sym q)
+cut-is : (u m s b : ℕ) (e : Extent) → b ≡ cutType u e → s ≡ e .over .start → cut u m e ≡ partOf b s m
+cut-is u zero s b e p q = refl
+cut-is u (suc m) s b e p q = ap₂ (λ (x y : ℕ). extent x (run y (suc m)) ∷ []) (sym p) (sym q)
 
-abbrev pub Keeping : ℕ → List Extent → ℕ → ℕ → Type 0
-Keeping k es e left = keep k es ≡ take e es ++ keep left (drop e es)
+abbrev pub Keeping : ℕ → ℕ → List Extent → ℕ → ℕ → Type 0
+Keeping u k es e left = keep u k es ≡ take e es ++ keep u left (drop e es)
 
-pub keeping-none : (k : ℕ) (es : List Extent) → Keeping k es 0 k
-keeping-none k es = refl
+pub keeping-none : (u k : ℕ) (es : List Extent) → Keeping u k es 0 k
+keeping-none u k es = refl
 
-module _ (g : Geometry) (k : ℕ) (es : List Extent) (e left s c : ℕ) (x : ExtentAt g es e s c) (before : Keeping k es e left) where
+module _ (g : Geometry) (u k : ℕ) (es : List Extent) (e left s c : ℕ) (x : ExtentAt g es e s c) (before : Keeping u k es e left) where
   size : c ≡ getD es e noExtent .over .count
   size = ap (λ (r : Run). r .count) (x .over)
 
-  pub keeping-next : c ≤ left → Keeping k es (e + 1) (left - c)
-  keeping-next h = before ∙ keep-whole es e left noExtent (x .inside) (let z = size in omega arith) ∙ ap (λ (x : ℕ). take (e + 1) es ++ keep (left - x) (drop (e + 1) es)) (sym size)
+  pub keeping-next : c ≤ left → Keeping u k es (e + 1) (left - c)
+  keeping-next h = before ∙ keep-whole u es e left noExtent (x .inside) (let z = size in omega arith) ∙ ap (λ (x : ℕ). take (e + 1) es ++ keep u (left - x) (drop (e + 1) es)) (sym size)
 
-  pub stays-part : left < c → Stays k es (tracks g) e s left
-  stays-part h =
-      let u = x .inside in
+  pub stays-part : (b : ℕ) → b ≡ cutType u (getD es e noExtent) → left < c → Stays u k es (tracks g) e b s left
+  stays-part b typed h =
+      let i = x .inside in
       let w = x .ends in
       record {
-        kept = before ∙ keep-part es e left noExtent u (let z = size in omega arith) ∙ ap (λ (y : List Extent). take e es ++ y) (cut-is left s (getD es e noExtent) (ap (λ (r : Run). r .start) (x .over)));
+        kept = before ∙ keep-part u es e left noExtent i (let z = size in omega arith) ∙ ap (λ (y : List Extent). take e es ++ y) (cut-is u left s b (getD es e noExtent) typed (ap (λ (r : Run). r .start) (x .over)));
         most = omega arith;
-        next = λ _. u;
+        next = λ _. i;
         ends = omega arith;
       }
 
-pub stays-whole : (k : ℕ) (es : List Extent) (e left n : ℕ) → length es ≤ e → Keeping k es e left → (i : ℕ) → length es ≡ i → Stays k es n i 0 0
-stays-whole k es e left n h before i q =
+pub stays-whole : (u k : ℕ) (es : List Extent) (e left n b : ℕ) → length es ≤ e → Keeping u k es e left → (i : ℕ) → length es ≡ i → Stays u k es n i b 0 0
+stays-whole u k es e left n b h before i q =
     record {
-      kept = before ∙ keep-all es e left h ∙ sym (append-nil (take i es) ∙ take-all i es (omega arith));
+      kept = before ∙ keep-all u es e left h ∙ sym (append-nil (take i es) ∙ take-all i es (omega arith));
       most = omega arith;
       next = λ v. absurd (omega arith);
       ends = omega arith;
@@ -141,42 +141,42 @@ spread-next g es e s c all low low′ x q b = record {
 pub spread-all : (n : ℕ) (es : List Extent) (e all low : ℕ) → length es ≤ e → Spreads n (take e es) all low → Spreads n es all low
 spread-all n es e all low h x = subst (λ (xs : List Extent). Spreads n xs all low) (take-all e es h) x
 
-pub keep-zero : (es : List Extent) → All (λ e. 1 ≤ e .over .count) es → keep 0 es ≡ []
-keep-zero [] a = refl
-keep-zero (e ∷ es) a = rw (lt-leb (e .over .count) 0 (a .0))
+pub keep-zero : (u : ℕ) (es : List Extent) → All (λ e. 1 ≤ e .over .count) es → keep u 0 es ≡ []
+keep-zero u [] a = refl
+keep-zero u (e ∷ es) a = rw (lt-leb (e .over .count) 0 (a .0))
 
 -- the first k tracks of two lists of extents, one behind the other
-keep-append : (k t : ℕ) (xs ys : List Extent) → All (λ e. 1 ≤ e .over .count) ys
-    → times t (overs (keep k (xs ++ ys))) ≡ times t (overs (keep k xs)) + times t (overs (keep (k - total (overs xs)) ys))
-keep-append k t [] ys a = rw (sub-zero k) (omega arith)
-keep-append k t (x ∷ xs) ys a =
+keep-append : (u k t : ℕ) (xs ys : List Extent) → All (λ e. 1 ≤ e .over .count) ys
+    → times t (overs (keep u k (xs ++ ys))) ≡ times t (overs (keep u k xs)) + times t (overs (keep u (k - total (overs xs)) ys))
+keep-append u k t [] ys a = rw (sub-zero k) (omega arith)
+keep-append u k t (x ∷ xs) ys a =
     by (leb (x .over .count) k)
     (λ h.
-    let i = keep-append (k - x .over .count) t xs ys a in
+    let i = keep-append u (k - x .over .count) t xs ys a in
     let q : k - (x .over .count + total (overs xs)) ≡ k - x .over .count - total (overs xs) = omega arith in
     rw (h, q) (omega arith))
     (λ h.
     let v : k < x .over .count = leb-false _ _ h in
     let q : k - (x .over .count + total (overs xs)) ≡ 0 = omega arith in
-    rw (h, q, keep-zero ys a) (omega arith))
+    rw (h, q, keep-zero u ys a) (omega arith))
 
 -- of one extent
-keep-one : (k t : ℕ) (e : Extent) → times t (overs (keep k (e ∷ []))) ≡ bit (covers (run (e .over .start) (min k (e .over .count))) t)
-keep-one k t e =
+keep-one : (u k t : ℕ) (e : Extent) → times t (overs (keep u k (e ∷ []))) ≡ bit (covers (run (e .over .start) (min k (e .over .count))) t)
+keep-one u k t e =
     by (leb (e .over .count) k)
     (λ h. let v : e .over .count ≤ k = leb-true _ _ h in let q : min k (e .over .count) ≡ e .over .count = omega arith in rw (h, q) (omega arith))
     (λ h. let v : k < e .over .count = leb-false _ _ h in let q : min k (e .over .count) ≡ k = omega arith in rw (h, q) (one-cut k t e))
   where
-    one-cut : (k t : ℕ) (e : Extent) → times t (overs (cut k e)) ≡ bit (covers (run (e .over .start) k) t)
+    one-cut : (k t : ℕ) (e : Extent) → times t (overs (cut u k e)) ≡ bit (covers (run (e .over .start) k) t)
     one-cut zero t e = sym (⊎-elim (λ h. hit-above (run (e .over .start) 0) t (omega arith)) (λ h. hit-below (run (e .over .start) 0) t h) (le-or-lt (e .over .start) t))
     one-cut (suc k) t e = omega arith
 
 -- the first e extents have been cut
 abbrev pub Giving : ℕ → List Extent → ℕ → List ℕ → List ℕ → Type 0
-Giving k es e m₀ m = (n : ℕ) (hs : List Run) → Shows m₀ n (overs es ++ hs) → Shows m n (overs (keep k (take e es)) ++ (overs (drop e es) ++ hs))
+Giving k es e m₀ m = (u n : ℕ) (hs : List Run) → Shows m₀ n (overs es ++ hs) → Shows m n (overs (keep u k (take e es)) ++ (overs (drop e es) ++ hs))
 
 pub giving-none : (k : ℕ) (es : List Extent) (m : List ℕ) → Giving k es 0 m m
-giving-none k es m n hs h = h
+giving-none k es m u n hs h = h
 
 -- a turn: the first `stay` tracks of extent e stay, the others go
 module _ (g : Geometry) (k : ℕ) (es : List Extent) (e left s c stay : ℕ) (a : ExtentAt g es e s c) (rest : left ≡ k - total (overs (take e es))) (w : stay ≡ min left c) where
@@ -195,40 +195,40 @@ module _ (g : Geometry) (k : ℕ) (es : List Extent) (e left s c stay : ℕ) (a 
       let d = ap (λ (r : Run). r .count) q in
       omega arith
 
-  parted : (t : ℕ) (hs : List Run)
-      → times t (overs (keep k (take e es)) ++ (overs (drop e es) ++ hs))
-      ≡ times t (run (s + stay) (c - stay) ∷ (overs (keep k (take (e + 1) es)) ++ (overs (drop (e + 1) es) ++ hs)))
-  parted t hs =
+  parted : (u t : ℕ) (hs : List Run)
+      → times t (overs (keep u k (take e es)) ++ (overs (drop e es) ++ hs))
+      ≡ times t (run (s + stay) (c - stay) ∷ (overs (keep u k (take (e + 1) es)) ++ (overs (drop (e + 1) es) ++ hs)))
+  parted u t hs =
       let F : Run → ℕ = λ r. bit (covers r t) in
-      let b1 = sum-append F (overs (keep k (take e es))) (overs (drop e es) ++ hs) in
+      let b1 = sum-append F (overs (keep u k (take e es))) (overs (drop e es) ++ hs) in
       let b2 = sum-append F (overs (drop e es)) hs in
-      let b3 = sum-append F (overs (keep k (take (e + 1) es))) (overs (drop (e + 1) es) ++ hs) in
+      let b3 = sum-append F (overs (keep u k (take (e + 1) es))) (overs (drop (e + 1) es) ++ hs) in
       let b4 = sum-append F (overs (drop (e + 1) es)) hs in
       let d : times t (overs (drop e es)) ≡ F (x .over) + times t (overs (drop (e + 1) es)) =
       ap (λ (y : List Extent). times t (overs y)) (drop-cons es e noExtent (a .inside) ∙ ap (λ (i : ℕ). x ∷ drop i es) (sym (add-one e))) in
       let full : 1 ≤ x .over .count = subst (λ (r : Run). 1 ≤ r .count) q (a .full) in
-      let f : times t (overs (keep k (take (e + 1) es))) ≡ times t (overs (keep k (take e es))) + times t (overs (keep left (x ∷ []))) =
-      ap (λ (y : List Extent). times t (overs (keep k y))) snoc
-      ∙ keep-append k t (take e es) (x ∷ []) (full, tt)
-      ∙ ap (λ (i : ℕ). times t (overs (keep k (take e es))) + times t (overs (keep i (x ∷ [])))) (sym rest) in
-      let h : times t (overs (keep left (x ∷ []))) ≡ F (run s stay) =
-      keep-one left t x ∙ ap (λ (r : Run). F (run (r .start) (min left (r .count)))) (sym q) ∙ ap (λ (i : ℕ). F (run s i)) (sym w) in
+      let f : times t (overs (keep u k (take (e + 1) es))) ≡ times t (overs (keep u k (take e es))) + times t (overs (keep u left (x ∷ []))) =
+      ap (λ (y : List Extent). times t (overs (keep u k y))) snoc
+      ∙ keep-append u k t (take e es) (x ∷ []) (full, tt)
+      ∙ ap (λ (i : ℕ). times t (overs (keep u k (take e es))) + times t (overs (keep u i (x ∷ [])))) (sym rest) in
+      let h : times t (overs (keep u left (x ∷ []))) ≡ F (run s stay) =
+      keep-one u left t x ∙ ap (λ (r : Run). F (run (r .start) (min left (r .count)))) (sym q) ∙ ap (λ (i : ℕ). F (run s i)) (sym w) in
       let i = covers-cut s c stay t (omega arith) in
       let j = ap F q in
       omega arith
 
   pub giving-next : (m₀ m m′ : List ℕ) → Given m m′ (s + stay) (s + c) → Giving k es e m₀ m → Giving k es (e + 1) m₀ m′
-  giving-next m₀ m m′ d before n hs h =
+  giving-next m₀ m m′ d before u n hs h =
       let z : s + c ≡ s + stay + (c - stay) = omega arith in
-      shows-give m m′ n (s + stay) (c - stay) (overs (keep k (take e es)) ++ (overs (drop e es) ++ hs))
-      (overs (keep k (take (e + 1) es)) ++ (overs (drop (e + 1) es) ++ hs)) (λ t v. parted t hs) (before n hs h)
+      shows-give m m′ n (s + stay) (c - stay) (overs (keep u k (take e es)) ++ (overs (drop e es) ++ hs))
+      (overs (keep u k (take (e + 1) es)) ++ (overs (drop (e + 1) es) ++ hs)) (λ t v. parted u t hs) (before u n hs h)
       (subst (λ (y : ℕ). Given m m′ (s + stay) y) z d)
 
 pub gave-all : (k : ℕ) (es : List Extent) (e : ℕ) (m₀ m : List ℕ) → length m ≡ length m₀ → length es ≤ e → Giving k es e m₀ m → GaveTail k es m₀ m
 gave-all k es e m₀ m long h b =
     record {
       long = long;
-      held = λ n hs y. rw (take-all e es h, drop-of-length-le es {i = e} h) at (b n hs y);
+      held = λ u n hs y. rw (take-all e es h, drop-of-length-le es {i = e} h) at (b u n hs y);
     }
 
 -- ---- the records of what stays
@@ -243,13 +243,13 @@ three-first g n l r h f = f ∙ sym (three-none g (firstExtents 3 l) (few-first 
 pub first-length : (n : ℕ) (l : Label) → n ≤ length (l .extents) → length (firstExtents n l .extents) ≡ n
 first-length n l h = length-take-le n (l .extents) h
 
-whole-only : (n s c : ℕ) (l : Label) → c ≡ 0 → firstExtents n l ≡ shortened n s c l
-whole-only n s c l z = ap (λ (x : List Extent). withExtents x (l .ttr) l) (sym (append-nil (take n (l .extents)))) ∙ ap (λ (i : ℕ). shortened n s i l) (sym z)
+whole-only : (n b s c : ℕ) (l : Label) → c ≡ 0 → firstExtents n l ≡ shortened n b s c l
+whole-only n b s c l z = ap (λ (x : List Extent). withExtents x (l .ttr) l) (sym (append-nil (take n (l .extents)))) ∙ ap (λ (i : ℕ). shortened n b s i l) (sym z)
 
-pub without-part : {g : Geometry} {r1 r3 : List ℕ} (n s c : ℕ) (l : Label) → c ≡ 0 → InRecords g (firstExtents n l) r1 r3 → InRecords g (shortened n s c l) r1 r3
-without-part {g} {r1} {r3} n s c l z x = subst (λ (y : Label). InRecords g y r1 r3) (whole-only n s c l z) x
+pub without-part : {g : Geometry} {r1 r3 : List ℕ} (n b s c : ℕ) (l : Label) → c ≡ 0 → InRecords g (firstExtents n l) r1 r3 → InRecords g (shortened n b s c l) r1 r3
+without-part {g} {r1} {r3} n b s c l z x = subst (λ (y : Label). InRecords g y r1 r3) (whole-only n b s c l z) x
 
-pub with-part : {g : Geometry} {r1 r3 : List ℕ} (n s c : ℕ) (l : Label) → (c ≡ 0 → ⊥)
-    → InRecords g (withExtent (extent 0x01 (run s c)) (firstExtents n l)) r1 r3 → InRecords g (shortened n s c l) r1 r3
-with-part n s zero l z x = absurd (z refl)
-with-part n s (suc c) l z x = x
+pub with-part : {g : Geometry} {r1 r3 : List ℕ} (n b s c : ℕ) (l : Label) → (c ≡ 0 → ⊥)
+    → InRecords g (withExtent (extent b (run s c)) (firstExtents n l)) r1 r3 → InRecords g (shortened n b s c l) r1 r3
+with-part n b s zero l z x = absurd (z refl)
+with-part n b s (suc c) l z x = x

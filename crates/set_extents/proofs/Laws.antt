@@ -5,7 +5,7 @@ use mathlib.Core.List.{List, [], _∷_, _++_, map}
 use Prim.Native.Nat.{ℕ, suc, _+_, _≤_, _<_}
 use native.Mathlib.Omega.{arith}
 use lib.ListN.{length, getD}
-use Rattle.model.specs.Basics.{upFrom}
+use Rattle.model.specs.Basics.{get3, upFrom}
 use Rattle.model.specs.Model.{Extent, Geometry, Label, Run, overs}
 use Rattle.model.proofs.Lists.{All-map}
 use Rattle.model.specs.Predicates.{All}
@@ -39,6 +39,14 @@ module _ (g : Geometry) (l : Label) (good : GoodLabel g l) (f1 f3 : List ℕ) (o
   back : readLabel g rs (l .slot) (format1 g l) ≡ l
   back = label-back g l good rs (ap length there ∙ long) (λ u. there ∙ three (good .many u))
 
+  pub unit-is : getD f1 94 0 ≡ l .unit
+  unfolding readLabel
+  unit-is = ap (λ (r : List ℕ). getD r 94 0) one ∙ ap (λ (m : Label). m .unit) back
+
+  pub secondary-is : get3 f1 95 ≡ l .secondary
+  unfolding readLabel
+  secondary-is = ap (λ (r : List ℕ). get3 r 95) one ∙ ap (λ (m : Label). m .secondary) back
+
   pub extents-are : extentsIn g f1 f3 (getD f1 59 0) ≡ l .extents
   unfolding readLabel
   extents-are =
@@ -68,19 +76,20 @@ pieces-good n k ps h full below rows e = subst (All (PieceIn k)) (sym e) (go ps 
 
 -- ---- a data set that is cut
 
-pub shortened-is : (k n whole start count : ℕ) (l : Label) → Stays k (l .extents) n whole start count → shortened whole start count l ≡ withExtents (keep k (l .extents)) (l .ttr) l
-shortened-is k n whole start count l x = ap (λ (es : List Extent). withExtents es (l .ttr) l) (sym (x .kept))
+pub shortened-is : (u k n whole b start count : ℕ) (l : Label) → Stays u k (l .extents) n whole b start count
+    → shortened whole b start count l ≡ withExtents (keep u k (l .extents)) (l .ttr) l
+shortened-is u k n whole b start count l x = ap (λ (es : List Extent). withExtents es (l .ttr) l) (sym (x .kept))
 
 -- what `cut_records` asks
-pub stays-fits : (k n whole start count : ℕ) (es : List Extent) → Stays k es n whole start count → length es ≤ 16 → n ≤ 65535
+pub stays-fits : (u k n whole b start count : ℕ) (es : List Extent) → Stays u k es n whole b start count → length es ≤ 16 → n ≤ 65535
     → (whole ≤ 16) × (1 ≤ count → whole < 16) × (start + count ≤ 65535)
-stays-fits k n whole start count es x h w =
-    let a = x .most in
-    let b = x .ends in
-    (omega arith, λ u. let c = x .next u in omega arith, omega arith)
+stays-fits u k n whole b start count es x h w =
+    let m = x .most in
+    let d = x .ends in
+    (omega arith, λ v. let c = x .next v in omega arith, omega arith)
 
 -- with none of its tracks kept, a data set holds nothing
 pub none-kept : (g : Geometry) (es : List Extent) (m m′ : List ℕ) → All (GoodExtent g) es → GaveTail 0 es m m′
     → (n : ℕ) (hs : List Run) → Shows m n (overs es ++ hs) → Shows m′ n hs
 none-kept g es m m′ a x n hs h =
-    subst (λ (ks : List Extent). Shows m′ n (overs ks ++ hs)) (keep-zero es (All-map (GoodExtent g) (λ e. 1 ≤ e .over .count) (λ e y. y .full) es a)) (x .held n hs h)
+    subst (λ (ks : List Extent). Shows m′ n (overs ks ++ hs)) (keep-zero 0 es (All-map (GoodExtent g) (λ e. 1 ≤ e .over .count) (λ e y. y .full) es a)) (x .held 0 n hs h)

@@ -1,3 +1,4 @@
 pub mod Pieces
 pub mod Cutting
 pub mod Laws
+pub mod Keeping

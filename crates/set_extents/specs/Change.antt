@@ -60,23 +60,24 @@ pub record Spreads (n : ℕ) (es : List Extent) (all low : ℕ) : Type 0 where
   pub lowIn : low ≤ n
   pub lowest : NoneBelow low (overs es)
 
--- the first tracks of an extent; 0 of them are none. "A shortened extent gets type X'01'"
-abbrev pub partOf : ℕ → ℕ → List Extent
-partOf start zero = []
-partOf start (suc n) = extent 0x01 (run start (suc n)) ∷ []
+-- the first tracks of an extent, with their type; 0 of them are none
+abbrev pub partOf : (typeByte start count : ℕ) → List Extent
+partOf b start zero = []
+partOf b start (suc n) = extent b (run start (suc n)) ∷ []
 
--- the first k tracks of the extents es are `whole` of them, and `count` tracks from `start` of the next; all below n
-pub record Stays (k : ℕ) (es : List Extent) (n whole start count : ℕ) : Type 0 where
-  pub kept : keep k es ≡ take whole es ++ partOf start count
+-- the first k tracks of the extents es of a set with this unit are `whole` of them, and `count` tracks from `start` of the next,
+-- with type b; all below n
+pub record Stays (unit k : ℕ) (es : List Extent) (n whole b start count : ℕ) : Type 0 where
+  pub kept : keep unit k es ≡ take whole es ++ partOf b start count
   pub most : whole ≤ length es
   pub next : 1 ≤ count → whole < length es
   pub ends : start + count ≤ n
 
--- the tracks behind the first k of the extents es are free, however many tracks the map is taken to show
+-- the tracks behind the first k of the extents es are free, whatever the unit, and however many tracks the map is taken to show
 pub record GaveTail (k : ℕ) (es : List Extent) (m m′ : List ℕ) : Type 0 where
   pub long : length m′ ≡ length m
-  pub held : (n : ℕ) (hs : List Run) → Shows m n (overs es ++ hs) → Shows m′ n (overs (keep k es) ++ hs)
+  pub held : (unit n : ℕ) (hs : List Run) → Shows m n (overs es ++ hs) → Shows m′ n (overs (keep unit k es) ++ hs)
 
 -- a label with its first extents, and a part of the next
-abbrev pub shortened : ℕ → ℕ → ℕ → Label → Label
-shortened whole start count l = withExtents (take whole (l .extents) ++ partOf start count) (l .ttr) l
+abbrev pub shortened : (whole typeByte start count : ℕ) → Label → Label
+shortened whole b start count l = withExtents (take whole (l .extents) ++ partOf b start count) (l .ttr) l

@@ -1,10 +1,12 @@
 // The extents of one data set, granted more or cut: in its records, and in the map of free tracks.
 ghost use mathlib.Core.Path.{_≡_};
-ghost use Prim.Native.Nat.{_+_, _*_, _≤_, _<_, min};
+ghost use Prim.Native.Nat.{ℕ, _+_, _*_, _/_, _≤_, _<_, min};
 ghost use mathlib.Core.List.{List, [], map};
 ghost use lib.ListN.{length, take, getD};
-ghost use Rattle.model.specs.Model.{Geometry, Label, Run, extent, run, tracks};
-ghost use Rattle.model.specs.Predicates.{All};
+ghost use Rattle.model.specs.Model.{Geometry, Label, Run, extent, overs, run, total, tracks};
+ghost use Rattle.model.specs.Predicates.{All, StaysOf, keptFrom, room};
+ghost use Rattle.model.specs.Tracks.{tracksKept, tracksOf};
+ghost use Rattle.rules.specs.Calls.{cutType};
 ghost use Rattle.rules.specs.Layout.{extentPart};
 ghost use Rattle.rules.specs.Reading.{readExtent};
 ghost use Rattle.rules.specs.Predicates.{Limits};
@@ -109,7 +111,7 @@ pub fn add_pieces(
     }
 }
 
-// ---- cut
+// ---- its tracks
 
 // The tracks of extent e, with h tracks to a cylinder.
 fn extent_at<'a>(f1: &'a [u8], f3: &'a [u8], e: usize, h: u32) -> Tracks
@@ -148,17 +150,110 @@ pub fn spread_of<'a>(f1: &'a [u8], f3: &'a [u8], n: usize, g: dscb::Geometry) ->
     Spread { all, lowest }
 }
 
-// What stays of a data set: `whole` extents, and `count` tracks from `start` of the next, 0 for none of it.
+// ---- how many tracks release keeps
+
+// How many of `count` tracks from `start` on are in the cylinder of the track before `start`.
+fn in_cylinder(start: u32, count: u32, h: u32) -> u32
+    requires { ⌜ 1 ≤ h ⌝ }
+    ensures { λ r. ⌜ r ≡ min count (room h start) ⌝ }
+{
+    let past = start % h;
+    if past == 0 {
+        return 0;
+    }
+    lesser(count, h - past)
+}
+
+// How many tracks of an extent stay: the first `left`, and those that go on from the last of these in its cylinder; where none
+// is left, those that go on from track `last`.
+fn stays_of(left: u32, last: u32, start: u32, count: u32, h: u32) -> u32
+    requires { ⌜ (1 ≤ h) × (1 ≤ count) × (start + count ≤ 65535) × (last ≤ 65535) ⌝ }
+    ensures { λ r. ⌜ StaysOf h left last start count r ⌝ }
+{
+    if count <= left {
+        return count;
+    }
+    if left == 0 && start != last + 1 {
+        return 0;
+    }
+    left + in_cylinder(start + left, count - left, h)
+}
+
+// How many tracks of a data set with n extents stay where its first `keep` stay and with them the rest of their cylinder.
+fn to_cylinder_end<'a>(f1: &'a [u8], f3: &'a [u8], n: usize, g: dscb::Geometry, keep: u32) -> u32
+    requires { ⌜ SetIn (geometryOf g) (now f1) (now f3) n ⌝ }
+    ensures { λ r. ⌜ r ≡ keptFrom (g .heads) keep 0 (tracksOf (overs (extentsIn (geometryOf g) (now (f1 .entry)) (now (f3 .entry)) n))) ⌝ }
+{
+    let mut kept: u32 = 0;
+    let mut left = keep;
+    let mut last: u32 = 0;
+    let mut e: usize = 0;
+    while e < n {
+        let x = extent_at(f1, f3, e, g.heads);
+        let stay = stays_of(left, last, x.start, x.count, g.heads);
+        kept += stay;
+        if stay < x.count {
+            return kept;
+        }
+        left -= lesser(left, stay);
+        last = x.start + stay - 1;
+        e += 1;
+    }
+    kept
+}
+
+// How many tracks of a data set with this unit and n extents stay where the block TTR is its last.
+pub fn tracks_kept<'a>(
+    f1: &'a [u8],
+    f3: &'a [u8],
+    n: usize,
+    g: dscb::Geometry,
+    unit: u8,
+    ttr: u32,
+) -> u32
+    requires { ⌜ SetIn (geometryOf g) (now f1) (now f3) n × (ttr / 256 + 1 ≤ total (overs (extentsIn (geometryOf g) (now f1) (now f3) n))) ⌝ }
+    ensures { λ r. ⌜ r ≡ tracksKept (g .heads) unit ttr (tracksOf (overs (extentsIn (geometryOf g) (now (f1 .entry)) (now (f3 .entry)) n))) ⌝ }
+{
+    let keep = ttr / 256 + 1;
+    if unit != 0xC0 {
+        return keep;
+    }
+    to_cylinder_end(f1, f3, n, g, keep)
+}
+
+// ---- cut
+
+// What stays of a data set: `whole` extents, and `count` tracks from `start` of the next, of this type; 0 for none of it.
 pub struct Kept {
     pub whole: usize,
+    pub type_byte: u8,
     pub start: u32,
     pub count: u32,
 }
 
-// Where the first `keep` tracks of a data set with n extents end.
-fn cut_at<'a>(f1: &'a [u8], f3: &'a [u8], n: usize, g: dscb::Geometry, keep: u32) -> Kept
+// The type of extent e of a data set with this unit, where it is cut: a cylinder file is cut between cylinders.
+fn cut_type<'a>(f1: &'a [u8], f3: &'a [u8], e: usize, unit: u8) -> u8
+    requires { ⌜ (length (now f1) ≡ 140) × (length (now f3) ≡ 140) × (e < 16) ⌝ }
+    ensures { λ r. ⌜ ((h : ℕ) → r ≡ cutType unit (readExtent h (extentPart (now (f1 .entry)) (now (f3 .entry)) e))) ⌝ }
+{
+    if unit != 0xC0 {
+        return 0x01;
+    }
+    let x = dscb::extent_part(f1, f3, e);
+    x[0]
+}
+
+// Where the first `keep` tracks of a data set with this unit and n extents end.
+fn cut_at<'a>(
+    f1: &'a [u8],
+    f3: &'a [u8],
+    n: usize,
+    g: dscb::Geometry,
+    unit: u8,
+    keep: u32,
+) -> Kept
     requires { ⌜ SetIn (geometryOf g) (now f1) (now f3) n ⌝ }
-    ensures { λ r. ⌜ Stays keep (extentsIn (geometryOf g) (now (f1 .entry)) (now (f3 .entry)) n) (tracks (geometryOf g)) (r .whole) (r .start) (r .count) ⌝ }
+    ensures { λ r. ⌜ Stays unit keep (extentsIn (geometryOf g) (now (f1 .entry)) (now (f3 .entry)) n) (tracks (geometryOf g)) (r .whole) (r .«type_byte») (r .start) (r .count) ⌝ }
 {
     let mut left = keep;
     let mut e: usize = 0;
@@ -167,6 +262,7 @@ fn cut_at<'a>(f1: &'a [u8], f3: &'a [u8], n: usize, g: dscb::Geometry, keep: u32
         if left < x.count {
             return Kept {
                 whole: e,
+                type_byte: cut_type(f1, f3, e, unit),
                 start: x.start,
                 count: left,
             };
@@ -176,6 +272,7 @@ fn cut_at<'a>(f1: &'a [u8], f3: &'a [u8], n: usize, g: dscb::Geometry, keep: u32
     }
     Kept {
         whole: n,
+        type_byte: 0x01,
         start: 0,
         count: 0,
     }
@@ -207,20 +304,21 @@ fn give_behind<'a>(
     }
 }
 
-// Makes free the tracks behind the first `keep` tracks of a data set with n extents, and tells what stays of it.
+// Makes free the tracks behind the first `keep` tracks of a data set with this unit and n extents, and tells what stays of it.
 pub fn give_tail<'a>(
     f1: &'a [u8],
     f3: &'a [u8],
     n: usize,
     g: dscb::Geometry,
+    unit: u8,
     keep: u32,
     free_tracks: &mut [u64],
 ) -> Kept
     requires { ⌜ SetIn (geometryOf g) (now f1) (now f3) n × (tracks (geometryOf g) ≤ 64 * length (now «free_tracks»)) ⌝ }
-    ensures { λ r. ⌜ GaveTail keep (extentsIn (geometryOf g) (now (f1 .entry)) (now (f3 .entry)) n) (now («free_tracks» .entry)) (now («free_tracks» .exit)) × Stays keep (extentsIn (geometryOf g) (now (f1 .entry)) (now (f3 .entry)) n) (tracks (geometryOf g)) (r .whole) (r .start) (r .count) ⌝ }
+    ensures { λ r. ⌜ GaveTail keep (extentsIn (geometryOf g) (now (f1 .entry)) (now (f3 .entry)) n) (now («free_tracks» .entry)) (now («free_tracks» .exit)) × Stays unit keep (extentsIn (geometryOf g) (now (f1 .entry)) (now (f3 .entry)) n) (tracks (geometryOf g)) (r .whole) (r .«type_byte») (r .start) (r .count) ⌝ }
 {
     give_behind(f1, f3, n, g, keep, free_tracks);
-    cut_at(f1, f3, n, g, keep)
+    cut_at(f1, f3, n, g, unit, keep)
 }
 
 // Makes the format 3 of a label that of the label with its first n extents. It has none of the first three.
@@ -238,12 +336,12 @@ fn keep_third(rec: &mut [u8; 140], n: usize)
 // Makes the records of a label those of what stays of it.
 pub fn cut_records(f1: &mut [u8; 140], f3: &mut [u8; 140], g: dscb::Geometry, k: Kept)
     requires { ⌜ (length (now f1) ≡ 140) × (length (now f3) ≡ 140) × (k .whole ≤ 16) × (1 ≤ k .count → k .whole < 16) × (k .start + k .count ≤ 65535) × Limits (geometryOf g) ⌝ }
-    ensures { λ _. ⌜ ((l : Label) → k .whole ≤ length (l .extents) → InRecords (geometryOf g) l (now (f1 .entry)) (now (f3 .entry)) → InRecords (geometryOf g) (shortened (k .whole) (k .start) (k .count) l) (now (f1 .exit)) (now (f3 .exit))) × (length (now (f1 .exit)) ≡ 140) ⌝ }
+    ensures { λ _. ⌜ ((l : Label) → k .whole ≤ length (l .extents) → InRecords (geometryOf g) l (now (f1 .entry)) (now (f3 .entry)) → InRecords (geometryOf g) (shortened (k .whole) (k .«type_byte») (k .start) (k .count) l) (now (f1 .exit)) (now (f3 .exit))) × (length (now (f1 .exit)) ≡ 140) ⌝ }
 {
     dscb_write::keep_extents1(f1, k.whole);
     keep_third(f3, k.whole);
     if k.count == 0 {
         return;
     }
-    add_extent(f1, f3, g, k.whole, 0x01, k.start, k.count);
+    add_extent(f1, f3, g, k.whole, k.type_byte, k.start, k.count);
 }

@@ -29,7 +29,7 @@ returns c =
     let a = top .args in
     let one = at-record-at .record-at in
     let three = at-record-at2 .record-at2 in
-    tail-looked (geometryOf (a .g)) (a .table .now) (a .x .slot) (a .x .slot3) (a .x .count) (one .result .now) (three .result .now) (one .ensures .0) (three .ensures .0) (a .keep) _ _ _ _ _ _ (c .before .before .give-tail .ensures)
+    tail-looked (geometryOf (a .g)) (a .table .now) (a .x .slot) (a .x .slot3) (a .x .count) (one .result .now) (three .result .now) (one .ensures .0) (three .ensures .0) (a .x .unit) (a .keep) _ _ _ _ _ _ _ (c .before .before .give-tail .ensures)
 
 pub give-back-spec : {M : Type 1} → statement M
 give-back-spec =

@@ -32,14 +32,18 @@ spread-of-requires c κs =
     let x = top .pre .1 in
     set-of (geometryOf (a .g)) (a .table .now) (x .0) (x .1) (a .k) (x .2) (one .result .now) (three .result .now) _ (link .result) (one .ensures .0) (three .ensures .0) (three .ensures .1) (c .wide .ensures .0) (link .ensures .0)
 
+shared-slice-read-t11 : tie.Need-shared-slice-read-t11
+shared-slice-read-t11 c = search needs
+
 returns : tie.Need-returns
 returns c =
-    let top = c .before .before .before .before .before .before .before in
+    let at-spread-of = c .before in
+    let top = at-spread-of .before .before .before .before .before .before .before in
     let a = top .args in
-    let one = c .before .before .before .before .before .record-at in
-    let three = c .before .before .before .record-at2 in
-    let link = c .before .before .before .before .link in
-    λ m s d. measured (geometryOf (a .g)) (a .table .now) m s (a .k) d (one .result .now) (three .result .now) _ (link .result) (one .ensures .0) (three .ensures .0) (three .ensures .1) (c .before .wide .ensures .0) (link .ensures .0) _ _ (c .spread-of .ensures)
+    let one = at-spread-of .before .before .before .before .before .record-at in
+    let three = at-spread-of .before .before .before .record-at2 in
+    let link = at-spread-of .before .before .before .before .link in
+    λ m s d. measured (geometryOf (a .g)) (a .table .now) m s (a .k) d (one .result .now) (three .result .now) _ (link .result) (one .ensures .0) (three .ensures .0) (three .ensures .1) (at-spread-of .before .wide .ensures .0) (link .ensures .0) _ _ (at-spread-of .spread-of .ensures)
 
 pub measure-spec : {M : Type 1} → statement M
 measure-spec =
@@ -52,4 +56,5 @@ measure-spec =
     wide-requires
     cast-count
     spread-of-requires
+    shared-slice-read-t11
     returns)

@@ -1,4 +1,6 @@
 use Rattle.free_space.proofs.Release.{freed-is, freed-small}
+use native.Mathlib.Omega.{arith}
+use mathlib.Core.Path.{_∙_}
 use borrow.Author.Needs.{needs}
 use Rattle.free_space.proofs.plan_release.Statement.{statement}
 use Rattle.free_space.proofs.plan_release.Tie as tie
@@ -26,7 +28,13 @@ cast-lo : tie.Need-cast-lo
 cast-lo c = search needs
 
 plan-slots-requires : tie.Need-plan-slots-requires
-plan-slots-requires c κs = search needs
+plan-slots-requires c κs =
+    let at-asked-for = c .before .before .before .before in
+    let at-free-slot = at-asked-for .before .before .before in
+    let at-give-back = at-free-slot .before .before .before .before .before .before in
+    let top = at-give-back .before .before .before .before .before .before in
+    let p = top .pre .0 in
+    (p .0, p .1, omega (arith, p .2, at-give-back .give-back .ensures .0 .long), at-free-slot .free-slot .ensures .long ∙ p .3, p .4, at-asked-for .asked-for .ensures .1)
 
 same-length : tie.Need-same-length
 same-length c = search needs

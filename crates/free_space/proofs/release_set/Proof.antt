@@ -1,7 +1,9 @@
 use Rattle.free_space.proofs.Release.{bad-ttr, cut-done, cut-fits, full, puts, ttr-fits}
-use Rattle.free_space.proofs.Laws.{set-small, slot-inside, slot3-inside}
+use Rattle.free_space.proofs.Laws.{all-there, kept-inside, kept-is, set-small, slot-inside, slot3-inside}
+use Prim.Native.Nat.{_+_, _/_}
 use native.Mathlib.Omega.{arith}
-use mathlib.Core.Path.{sym, refl, _∙_}
+use mathlib.Core.Path.{ap, sym, refl, _∙_}
+use lib.ListN.{length}
 use borrow.Author.Needs.{needs}
 use Rattle.free_space.proofs.release_set.Statement.{statement}
 use Rattle.free_space.proofs.release_set.Tie as tie
@@ -23,15 +25,24 @@ returns c =
     let top = at-measure .before .before .before .before .before .before in
     λ d. bad-ttr d (top .args .ttr) (at-measure .measure .ensures _ _ d) _ (sym (at-good-ttr .good-ttr .ensures) ∙ at-if1 .if1 .left)
 
-add-keep : tie.Need-add-keep
-add-keep c = search needs
+kept-of-requires : tie.Need-kept-of-requires
+kept-of-requires c κs =
+    let at-if1 = c .before in
+    let at-good-ttr = at-if1 .before in
+    let at-measure = at-good-ttr .before in
+    let top = at-measure .before .before .before .before .before .before in
+    let p = top .pre .0 in
+    let y = at-measure .measure .ensures _ _ (top .pre .1) in
+    let fits = ttr-fits (top .args .ttr) (at-measure .measure .result .tracks) (sym (at-good-ttr .good-ttr .ensures) ∙ at-if1 .if1 .taken) in
+    ((p .1, slot-inside y (p .4), slot3-inside _ _ _ _ _ (top .pre .1) _ y, all-there y (top .args .ttr / 256 + 1) (fits .1)), y .stored .set)
 
 slice-aggregate-plan-release : tie.Need-slice-aggregate-plan-release
 slice-aggregate-plan-release c = search needs
 
 plan-release-requires : tie.Need-plan-release-requires
 plan-release-requires c κs =
-    let at-measure = c .before .before .before .before .before .before in
+    let at-kept-of = c .before .before .before .before in
+    let at-measure = at-kept-of .before .before .before .before in
     let top = at-measure .before .before .before .before .before .before in
     let p = top .pre .0 in
     let y = at-measure .measure .ensures _ _ (top .pre .1) in
@@ -50,15 +61,16 @@ returns-2 : tie.Need-returns-2
 returns-2 c =
     let at-if2 = c in
     let at-plan-release = at-if2 .before .before .before .before .before .before .before in
-    let at-if1 = at-plan-release .before .before .before .before .before in
+    let at-kept-of = at-plan-release .before .before .before .before .before in
+    let at-if1 = at-kept-of .before .before in
     let at-good-ttr = at-if1 .before in
     let at-measure = at-good-ttr .before in
     let top = at-measure .before .before .before .before .before .before in
-    λ d. full d (top .args .ttr) (at-measure .measure .ensures _ _ d) (sym (at-good-ttr .good-ttr .ensures) ∙ at-if1 .if1 .taken) (at-plan-release .plan-release .ensures) _ (at-if2 .if2 .left)
+    λ d. full d (top .args .ttr) (at-measure .measure .ensures _ _ d) (sym (at-good-ttr .good-ttr .ensures) ∙ at-if1 .if1 .taken) (kept-is (at-measure .measure .ensures _ _ d) (top .args .ttr) _ (at-kept-of .kept-of .ensures)) (at-plan-release .plan-release .ensures) _ (at-if2 .if2 .left)
 
 record-at-requires : tie.Need-record-at-requires
 record-at-requires c κs =
-    let top = c .before .before .before .before .before .before .before .before .before .before .before .before .before .before .before .before .before .before .before .before .before in
+    let top = c .before .before .before .before .before .before .before .before .before .before .before .before .before .before .before .before .before .before .before .before .before .before .before in
     let p = top .pre .0 in
     omega (arith, p .1, p .4)
 
@@ -67,21 +79,28 @@ record-of-requires c κs = search needs
 
 third-record-requires : tie.Need-third-record-requires
 third-record-requires c κs =
-    let at-measure = c .before .before .before .before .before .before .before .before .before .before .before .before .before .before .before .before .before .before in
+    let at-measure = c .before .before .before .before .before .before .before .before .before .before .before .before .before .before .before .before .before .before .before .before in
     let top = at-measure .before .before .before .before .before .before in
     let a = slot3-inside _ _ _ _ _ (top .pre .1) _ (at-measure .measure .ensures _ _ (top .pre .1)) in
     omega (arith, top .pre .0 .1)
 
 cut-set-requires : tie.Need-cut-set-requires
-cut-set-requires c κs = (
-  search needs,
-  c .before .before .third-record .ensures .long,
-  cut-fits (c .before .before .before .before .before .before .before .before .before .before .before .before .before .before .before .before .before .before .before .before .before .before .before .before .before .before .before .pre .1) (c .before .before .before .before .before .before .before .before .before .before .before .before .before .before .before .before .before .before .before .before .before .before .before .before .before .before .before .args .ttr) (c .before .before .before .before .before .before .before .before .before .before .before .before .before .before .before .before .before .before .before .before .before .measure .ensures _ _ (c .before .before .before .before .before .before .before .before .before .before .before .before .before .before .before .before .before .before .before .before .before .before .before .before .before .before .before .pre .1)) (sym (c .before .before .before .before .before .before .before .before .before .before .before .before .before .before .before .before .before .before .before .before .good-ttr .ensures) ∙ c .before .before .before .before .before .before .before .before .before .before .before .before .before .before .before .before .before .before .before .if1 .taken) (c .before .before .before .before .before .before .before .before .before .before .before .before .before .before .plan-release .ensures) (c .before .before .before .before .before .before .before .before .before .before .before .before .before .before .before .before .before .before .before .before .before .before .before .before .before .before .before .pre .0 .0 .tracksMost) .0,
-  cut-fits (c .before .before .before .before .before .before .before .before .before .before .before .before .before .before .before .before .before .before .before .before .before .before .before .before .before .before .before .pre .1) (c .before .before .before .before .before .before .before .before .before .before .before .before .before .before .before .before .before .before .before .before .before .before .before .before .before .before .before .args .ttr) (c .before .before .before .before .before .before .before .before .before .before .before .before .before .before .before .before .before .before .before .before .before .measure .ensures _ _ (c .before .before .before .before .before .before .before .before .before .before .before .before .before .before .before .before .before .before .before .before .before .before .before .before .before .before .before .pre .1)) (sym (c .before .before .before .before .before .before .before .before .before .before .before .before .before .before .before .before .before .before .before .before .good-ttr .ensures) ∙ c .before .before .before .before .before .before .before .before .before .before .before .before .before .before .before .before .before .before .before .if1 .taken) (c .before .before .before .before .before .before .before .before .before .before .before .before .before .before .plan-release .ensures) (c .before .before .before .before .before .before .before .before .before .before .before .before .before .before .before .before .before .before .before .before .before .before .before .before .before .before .before .pre .0 .0 .tracksMost) .1,
-  cut-fits (c .before .before .before .before .before .before .before .before .before .before .before .before .before .before .before .before .before .before .before .before .before .before .before .before .before .before .before .pre .1) (c .before .before .before .before .before .before .before .before .before .before .before .before .before .before .before .before .before .before .before .before .before .before .before .before .before .before .before .args .ttr) (c .before .before .before .before .before .before .before .before .before .before .before .before .before .before .before .before .before .before .before .before .before .measure .ensures _ _ (c .before .before .before .before .before .before .before .before .before .before .before .before .before .before .before .before .before .before .before .before .before .before .before .before .before .before .before .pre .1)) (sym (c .before .before .before .before .before .before .before .before .before .before .before .before .before .before .before .before .before .before .before .before .good-ttr .ensures) ∙ c .before .before .before .before .before .before .before .before .before .before .before .before .before .before .before .before .before .before .before .if1 .taken) (c .before .before .before .before .before .before .before .before .before .before .before .before .before .before .plan-release .ensures) (c .before .before .before .before .before .before .before .before .before .before .before .before .before .before .before .before .before .before .before .before .before .before .before .before .before .before .before .pre .0 .0 .tracksMost) .2,
-  c .before .before .before .before .before .before .before .before .before .before .before .before .before .before .before .before .before .before .before .before .before .before .before .before .before .before .before .pre .0 .0,
-  ttr-fits (c .before .before .before .before .before .before .before .before .before .before .before .before .before .before .before .before .before .before .before .before .before .before .before .before .before .before .before .args .ttr) (c .before .before .before .before .before .before .before .before .before .before .before .before .before .before .before .before .before .before .before .before .before .measure .result .tracks) (sym (c .before .before .before .before .before .before .before .before .before .before .before .before .before .before .before .before .before .before .before .before .good-ttr .ensures) ∙ c .before .before .before .before .before .before .before .before .before .before .before .before .before .before .before .before .before .before .before .if1 .taken) .0,
-)
+cut-set-requires c κs =
+    let at-third-record = c .before .before in
+    let at-record-of = at-third-record .before .before in
+    let at-record-at = at-record-of .before in
+    let at-if2 = at-record-at .before .before in
+    let at-plan-release = at-if2 .before .before .before .before .before .before .before in
+    let at-kept-of = at-plan-release .before .before .before .before .before in
+    let at-if1 = at-kept-of .before .before in
+    let at-good-ttr = at-if1 .before in
+    let at-measure = at-good-ttr .before in
+    let top = at-measure .before .before .before .before .before .before in
+    let limits = top .pre .0 .0 in
+    let y = at-measure .measure .ensures _ _ (top .pre .1) in
+    let ok = sym (at-good-ttr .good-ttr .ensures) ∙ at-if1 .if1 .taken in
+    let fits = cut-fits (top .pre .1) (top .args .ttr) y ok (kept-is y (top .args .ttr) _ (at-kept-of .kept-of .ensures)) (at-plan-release .plan-release .ensures) (limits .tracksMost) in
+    (ap length (at-record-of .record-of .ensures) ∙ at-record-at .record-at .ensures .1, at-third-record .third-record .ensures .long, fits .0, fits .1, fits .2, limits, ttr-fits (top .args .ttr) (at-measure .measure .result .tracks) ok .0)
 
 slice-aggregate-write-set : tie.Need-slice-aggregate-write-set
 slice-aggregate-write-set c = search needs
@@ -94,7 +113,8 @@ write-set-requires c κs =
     let at-record-at = at-record-of .before in
     let at-if2 = at-record-at .before .before in
     let at-plan-release = at-if2 .before .before .before .before .before .before .before in
-    let at-if1 = at-plan-release .before .before .before .before .before in
+    let at-kept-of = at-plan-release .before .before .before .before .before in
+    let at-if1 = at-kept-of .before .before in
     let at-good-ttr = at-if1 .before in
     let at-measure = at-good-ttr .before in
     let top = at-measure .before .before .before .before .before .before in
@@ -102,20 +122,23 @@ write-set-requires c κs =
     let y = at-measure .measure .ensures _ _ (top .pre .1) in
     let z = at-plan-release .plan-release .ensures in (
       (p .0, p .1, omega (arith, p .2, z .tail .long), slot-inside y (p .4), slot3-inside _ _ _ _ _ (top .pre .1) _ y, at-cut-set .cut-set .ensures .long),
-      puts (top .pre .1) (top .args .ttr) y (sym (at-good-ttr .good-ttr .ensures) ∙ at-if1 .if1 .taken) z (at-if2 .if2 .taken) _ _ _ _ (at-record-of .record-of .ensures ∙ at-record-at .record-at .ensures .0) (at-third-record .third-record .ensures) (at-cut-set .cut-set .ensures),
+      puts (top .pre .1) (top .args .ttr) y (sym (at-good-ttr .good-ttr .ensures) ∙ at-if1 .if1 .taken) (kept-is y (top .args .ttr) _ (at-kept-of .kept-of .ensures)) z (at-if2 .if2 .taken) _ _ _ _ (at-record-of .record-of .ensures ∙ at-record-at .record-at .ensures .0) (at-third-record .third-record .ensures) (at-cut-set .cut-set .ensures),
     )
 
 sub-put-back : tie.Need-sub-put-back
 sub-put-back c =
-    let at-if1 = c .before .before .before .before .before .before .before .before .before .before .before .before .before .before .before .before .before .before .before .before .before .before .before .before .before .before .before .before .before .before in
+    let at-kept-of = c .before .before .before .before .before .before .before .before .before .before .before .before .before .before .before .before .before .before .before .before .before .before .before .before .before .before .before .before .before .before in
+    let at-if1 = at-kept-of .before .before in
     let at-good-ttr = at-if1 .before in
     let at-measure = at-good-ttr .before in
     let top = at-measure .before .before .before .before .before .before in
-    omega (arith, ttr-fits (top .args .ttr) (at-measure .measure .result .tracks) (sym (at-good-ttr .good-ttr .ensures) ∙ at-if1 .if1 .taken) .1)
+    let y = at-measure .measure .ensures _ _ (top .pre .1) in
+    let fits = ttr-fits (top .args .ttr) (at-measure .measure .result .tracks) (sym (at-good-ttr .good-ttr .ensures) ∙ at-if1 .if1 .taken) in
+    kept-inside y (top .pre .0 .0 .heads) (top .args .ttr) _ (fits .1) (at-kept-of .kept-of .ensures)
 
 put-back-requires : tie.Need-put-back-requires
 put-back-requires c κs =
-    let at-measure = c .before .before .before .before .before .before .before .before .before .before .before .before .before .before .before .before .before .before .before .before .before .before .before .before .before .before .before .before .before .before .before .before in
+    let at-measure = c .before .before .before .before .before .before .before .before .before .before .before .before .before .before .before .before .before .before .before .before .before .before .before .before .before .before .before .before .before .before .before .before .before .before in
     let top = at-measure .before .before .before .before .before .before in
     let a = set-small _ _ _ _ _ (top .pre .1) in
     let b = at-measure .measure .ensures _ _ (top .pre .1) .spread .sum in
@@ -143,11 +166,12 @@ returns-3 c =
     let at-record-at = at-record-of .before in
     let at-if2 = at-record-at .before .before in
     let at-plan-release = at-if2 .before .before .before .before .before .before .before in
-    let at-if1 = at-plan-release .before .before .before .before .before in
+    let at-kept-of = at-plan-release .before .before .before .before .before in
+    let at-if1 = at-kept-of .before .before in
     let at-good-ttr = at-if1 .before in
     let at-measure = at-good-ttr .before in
     let top = at-measure .before .before .before .before .before .before in
-    λ d. cut-done d (top .args .ttr) (at-measure .measure .ensures _ _ d) (sym (at-good-ttr .good-ttr .ensures) ∙ at-if1 .if1 .taken) (at-plan-release .plan-release .ensures) (at-if2 .if2 .taken) _ _ _ _ (at-record-of .record-of .ensures ∙ at-record-at .record-at .ensures .0) (at-third-record .third-record .ensures) (at-cut-set .cut-set .ensures) _ _ _ (at-write-set .write-set .ensures) (at-put-back .put-back .ensures)
+    λ d. cut-done d (top .args .ttr) (at-measure .measure .ensures _ _ d) (sym (at-good-ttr .good-ttr .ensures) ∙ at-if1 .if1 .taken) (kept-is (at-measure .measure .ensures _ _ d) (top .args .ttr) _ (at-kept-of .kept-of .ensures)) (at-plan-release .plan-release .ensures) (at-if2 .if2 .taken) _ _ _ _ (at-record-of .record-of .ensures ∙ at-record-at .record-at .ensures .0) (at-third-record .third-record .ensures) (at-cut-set .cut-set .ensures) _ _ _ (at-write-set .write-set .ensures) (at-put-back .put-back .ensures)
 
 pub release-set-spec : {M : Type 1} → statement M
 release-set-spec =
@@ -157,7 +181,7 @@ release-set-spec =
     good-ttr-requires
     same-length
     returns
-    add-keep
+    kept-of-requires
     slice-aggregate-plan-release
     plan-release-requires
     same-length-2

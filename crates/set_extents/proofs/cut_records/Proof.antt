@@ -21,7 +21,7 @@ returns c =
     let one = at-keep-extents1 .keep-extents1 .ensures in
     let three = c .before .before .keep-third .ensures in (
       λ l h x.
-          without-part (a .k .whole) (a .k .start) (a .k .count) l (c .if1 .taken)
+          without-part (a .k .whole) (a .k .«type_byte») (a .k .start) (a .k .count) l (c .if1 .taken)
           (record { one = one .0 g l h (x .one); three = three .0 g l (x .three) }),
       one .1,
     )
@@ -46,7 +46,7 @@ returns-2 c =
     let three = at-keep-third .keep-third .ensures in
     let more = c .add-extent .ensures in (
       λ l h x.
-          with-part (a .k .whole) (a .k .start) (a .k .count) l (at-if1 .if1 .left)
+          with-part (a .k .whole) (a .k .«type_byte») (a .k .start) (a .k .count) l (at-if1 .if1 .left)
           (more .0 (firstExtents (a .k .whole) l) (first-length (a .k .whole) l h) (record { one = one .0 g l h (x .one); three = three .0 g l (x .three) })),
       more .1,
     )
