@@ -92,7 +92,7 @@ module _ {t m s name at a : List ℕ} {g : Geometry} {o : SpaceOption} {amount :
 
   new-valid : (es : List Extent) → chosen ≡ some es → (w : Volume) → settleWith v ls (new es) ≡ some w → Valid w
   new-valid es c w e =
-      subst (Keeps v (adds name))
+      subst (Keeps v (adds name (unitOf amount)))
       (rule-is ∙ ap (λ (x : Option (List Extent)). given x 9 (allocatePieces v (asking name at sec) amount)) c ∙ ap (settled (granted (overs es))) e)
       (allocate-by-keeps v (is-ready .valid) (asking name at sec) (d .longName) (d .nameGood) (d .longAttributes) amount o) .valid
 

@@ -244,14 +244,7 @@ fn cut_type<'a>(f1: &'a [u8], f3: &'a [u8], e: usize, unit: u8) -> u8
 }
 
 // Where the first `keep` tracks of a data set with this unit and n extents end.
-fn cut_at<'a>(
-    f1: &'a [u8],
-    f3: &'a [u8],
-    n: usize,
-    g: dscb::Geometry,
-    unit: u8,
-    keep: u32,
-) -> Kept
+fn cut_at<'a>(f1: &'a [u8], f3: &'a [u8], n: usize, g: dscb::Geometry, unit: u8, keep: u32) -> Kept
     requires { ⌜ SetIn (geometryOf g) (now f1) (now f3) n ⌝ }
     ensures { λ r. ⌜ Stays unit keep (extentsIn (geometryOf g) (now (f1 .entry)) (now (f3 .entry)) n) (tracks (geometryOf g)) (r .whole) (r .«type_byte») (r .start) (r .count) ⌝ }
 {

@@ -31,8 +31,8 @@ returns-2 c =
     let top = c .before .before .before .before .before in
     let a = top .args in
     λ h.
-        ap (λ (x : List ℕ). getD x 0 0) (c .before .extent-part .ensures)
-        ∙ own-type (a .unit) (readExtent h (extentPart (a .f1 .now) (a .f3 .now) (a .e))) (c .before .before .if1 .left)
+    ap (λ (x : List ℕ). getD x 0 0) (c .before .extent-part .ensures)
+    ∙ own-type (a .unit) (readExtent h (extentPart (a .f1 .now) (a .f3 .now) (a .e))) (c .before .before .if1 .left)
 
 pub cut-type-spec : {M : Type 1} → statement M
 cut-type-spec =
