@@ -21,6 +21,11 @@ pub struct Set {
 }
 
 impl Set {
+    /// Byte 94.
+    pub fn unit(&self) -> u8 {
+        self.free_fields[14 + 94 - 60]
+    }
+
     /// The set's tracks in order.
     pub fn tracks(&self) -> Vec<u32> {
         self.extents.iter().flat_map(|&(_, first, last)| first..=last).collect()
