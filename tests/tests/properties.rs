@@ -57,6 +57,7 @@ fn random_calls() {
         let session = Session::new(seed);
         let calls = if session.shape == Shape::Large { 40 } else { 250 };
         run(session, calls, &mut coverage);
+        run(Session::elsewhere(seed), 25, &mut coverage);
     }
     println!("{coverage}");
     assert_eq!(coverage.missing(&[]), [""; 0], "not seen");
