@@ -2,8 +2,9 @@
 //! else is said: cylinders 5–9, 10–14, 15–19 and so on.
 
 use vtoc_tests::audit::{picture, table_with, Extent, Picture, Set};
-use vtoc_tests::call::{Call, NO_OPTION};
+use vtoc_tests::call::{Buffers, Call, Reference, NO_OPTION};
 use vtoc_tests::desk::{attributes, Desk};
+use vtoc_tests::faulty::{Fault, Faulty};
 use vtoc_tests::ledger::Ledger;
 use vtoc_tests::volumes::name;
 
@@ -246,4 +247,21 @@ fn the_ledger_tells_units_apart() {
     }
     let other_h = Picture { h: 6, c: 5, ..seen(&desk) };
     assert!(!ledger.agrees(&other_h));
+}
+
+/// Releases that cut a cylinder in two and answer as if they had not, or keep whole cylinders of a track
+/// file: the table is sound, and the ledger is not that of it.
+#[test]
+fn the_ledger_notices_wrong_releases() {
+    for (fault, unit) in [(Fault::CylindersCutInTwo, CYLINDERS), (Fault::TracksToCylinders, TRACKS)]
+    {
+        let desk = with(unit, &[(0x81, 10, 24)]);
+        let call = Call::Release { name: name("A").to_vec(), ttr: 0x000601 };
+        let mut ledger = Ledger::of(&seen(&desk));
+        let mut buffers = Buffers::new(desk.table, 24, 280);
+        let result = call.run(&Faulty { manager: &Reference, fault }, &mut buffers);
+        assert_eq!((result, buffers.answer[1]), (0, 5));
+        ledger.enter(&call, result, &buffers.answer);
+        assert!(!ledger.agrees(&picture(&buffers.table).expect("not taken")), "{fault:?}");
+    }
 }

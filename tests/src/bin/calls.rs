@@ -199,12 +199,11 @@ impl<'a, M: Manager> Beside<'a, M> {
                 self.life(Session::on(rng.word(), &table, shape), 300, place)?;
             }
         }
-        for turn in 1.. {
-            if self.calls >= calls {
-                break;
-            }
+        let mut volumes = 0;
+        while self.calls < calls {
+            volumes += 1;
             let seed = rng.word();
-            let from_elsewhere = turn % ELSEWHERE == 0;
+            let from_elsewhere = volumes % ELSEWHERE == 0;
             let session =
                 if from_elsewhere { Session::elsewhere(seed) } else { Session::new(seed) };
             let most = if session.shape == Shape::Large { 60 } else { 250 };

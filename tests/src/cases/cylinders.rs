@@ -53,6 +53,8 @@ fn own(desk: &mut Desk) {
     desk.extend("A").granted(&[(15, 5)]);
     // 5–10, and on to 14; 15 goes on from there, in another cylinder.
     desk.release("A", 5, 1).gave_back(5);
+    // Whole cylinders as X'01' are not made X'81'.
+    put(desk, &[(A, TYPE, 0x01)]);
     desk.release("A", 0, 0).gave_back(5);
 }
 
@@ -88,7 +90,7 @@ fn on_to_the_third(desk: &mut Desk) {
     desk.tracks("G", 2, 3).granted(&[(14, 2)]);
     desk.extend("G").granted(&[(16, 3)]);
     desk.extend("G").granted(&[(19, 3)]);
-    put(desk, &[(G, UNIT, 0xC0), (A, UNIT, 0x80), (X, TYPE, 0x81)]);
+    put(desk, &[(G, UNIT, 0xC0), (A, UNIT, 0x80), (A, TYPE, 0x81), (X, TYPE, 0x81)]);
     // 14–15, and on over 16–18 to 19: the last extent is cut.
     desk.release("G", 1, 1).gave_back(2);
     // 14 ends a cylinder.
