@@ -24,13 +24,13 @@ fn release_from(records: &mut [Record], name: &Name, ttr: u32) -> Result<Answer,
     }
 
     let by_cylinders = records[slot][UNIT] == UNIT_CYLINDERS;
-    let stays = match by_cylinders {
+    let tracks_kept = match by_cylinders {
         true => set.whole_cylinders(tt + 1, volume.geometry.heads),
         false => tt + 1,
     };
 
-    // Walk the extents: those inside the tracks that stay stay, one may be cut.
-    let mut keep = stays;
+    // Walk the extents: those inside the tracks kept stay, one may be cut.
+    let mut keep = tracks_kept;
     let mut stay = 0;
     let mut shortened = None;
     for &extent in set.extents() {
@@ -62,7 +62,7 @@ fn release_from(records: &mut [Record], name: &Name, ttr: u32) -> Result<Answer,
         volume.free_slot(records, format_3);
     }
     volume.close(records);
-    Ok(tracks(set.tracks() - stays))
+    Ok(tracks(set.tracks() - tracks_kept))
 }
 
 /// Removes a set. Refusals in order: 2, 3, 4, 5.
