@@ -16,7 +16,7 @@ use Rattle.rules.specs.Listing.{listing, printable}
 use Rattle.rules.specs.Reading.{read, readExtents, readGeometry, readLabel, readRecords}
 use Rattle.rules.specs.Slots.{settle}
 use Rattle.rules.specs.Table.{goodLabel, goodLength, goodName, limits, taken, valid}
-use Rattle.cases.specs.Check.{Row, attr, attrN, begin, beginSized, build, hurt, listed, nm, no, ok, okLabels, parts, raw, right, sized}"""
+use Rattle.cases.specs.Check.{Row, attr, attrN, begin, beginSized, build, hurt, listed, nm, no, ok, okLabels, parts, put, raw, right, sized}"""
 UNFOLDED = """held gaps free used unused format0s choose extentPart format4 format5 format1 format3 records encode
 readGeometry readExtents readLabel readRecords read goodName limits goodLabel valid taken goodLength settle grant rule
 goodLengths perform initialise printable listing""".replace("\n", " ")

@@ -1,7 +1,7 @@
 /*
  * promises.c: what include/vtoc.h tells hosts they may do, done with the library. One buffer for two that are only read; a file
- * closed in the table; the space options; the header's limits, its readers and other inline functions on tables and labels that
- * the library writes.
+ * closed in the table; the space options; cylinder files that are released; the header's limits, its readers and other inline
+ * functions on tables and labels that the library writes.
  *
  *   cc -std=c99 -Iinclude tests/promises.c target/staticlib/libvtoc.a -o target/promises && target/promises
  */
@@ -267,6 +267,27 @@ static void options_apart(void)
     CHECK(vtoc_extend(table, LENGTH, name_of("WORK"), 44, answer, 24) == VTOC_OK && vtoc_answer_pieces(answer) == 2);
 }
 
+/* ---- Cylinder files ------------------------------------------------------------------------------------------------------ */
+
+static int gives_back(const char *text, uint32_t tt, uint32_t tracks)
+{
+    return vtoc_release(table, LENGTH, name_of(text), 44, vtoc_ttr(tt, 1), answer, 24) == VTOC_OK
+           && vtoc_answer_tracks(answer) == tracks && vtoc_answer_pieces(answer) == 0;
+}
+
+/* A cylinder file keeps whole cylinders, and its extents their type; the others keep TT + 1 tracks. */
+static void whole_cylinders(void)
+{
+    const uint8_t *extent;
+    volume();
+    CHECK(gives_back("FLT.B", 7, 0) && gives_back("FLT.B", 4, 5) && gives_back("FLT.B", 1, 0));
+    CHECK(obtain("FLT.B") == VTOC_OK && labels[VTOC_LABEL_EXTENTS] == 1 && labels[VTOC_LABEL_UNIT] == 0xC0);
+    extent = vtoc_label_extent(labels, 0);
+    CHECK(extent[VTOC_EXTENT_TYPE] == 0x81 && vtoc_track(extent + VTOC_EXTENT_FIRST, H) % H == 0);
+    CHECK(vtoc_track(extent + VTOC_EXTENT_LAST, H) == vtoc_track(extent + VTOC_EXTENT_FIRST, H) + H - 1);
+    CHECK(gives_back("FLT.A", 1, 2) && gives_back("FLT.C", 2, 6));
+}
+
 /* ---- Labels of sixteen extents, geometries, limits ----------------------------------------------------------------------- */
 
 static void sixteen_extents(void)
@@ -352,6 +373,7 @@ int main(void)
     closings();
     options();
     options_apart();
+    whole_cylinders();
     sixteen_extents();
     geometries();
     limits();

@@ -3,7 +3,7 @@
 
 use crate::call::{Buffers, Call, Reference, NO_OPTION};
 use crate::reference::layout::extent_part;
-use crate::reference::listing;
+use crate::reference::{listing, taken};
 use crate::volumes::name;
 
 /// What came of a call.
@@ -19,6 +19,8 @@ pub struct Outcome {
 pub enum Row {
     /// On the desk's own table, which is given as it was left.
     Made { call: Call, outcome: Outcome, before: Vec<u8>, after: Vec<u8> },
+    /// No call: these bytes of the table are changed, and it is as sound as before.
+    Put { patches: Vec<(usize, u8)> },
     /// On a copy with these bytes changed.
     Hurt { patches: Vec<(usize, u8)>, call: Call, result: u32 },
     /// On a copy cut or zero-padded to a length, with output buffers of given lengths.
@@ -81,6 +83,14 @@ impl Desk {
         let after = self.table.clone();
         self.rows.push(Row::Made { call, outcome: outcome.clone(), before, after });
         outcome
+    }
+
+    /// Takes another system's table of the same length in place of its own.
+    #[track_caller]
+    pub fn put(&mut self, changed: &[u8]) {
+        assert!(taken(changed) && changed.len() == self.table.len(), "no table for this desk");
+        self.rows.push(Row::Put { patches: self.patches(changed) });
+        self.table = changed.to_vec();
     }
 
     /// Makes a call on a damaged copy of the table.

@@ -3,6 +3,7 @@
 use std::hint::black_box;
 
 use crate::call::{Manager, ALX, CONTIG, MXIG};
+use crate::reference::layout::{FORMAT, FORMAT_1, RECORD, UNIT, UNIT_CYLINDERS, UNIT_TRACKS};
 
 /// What goes wrong, wherever it can.
 #[derive(Clone, Copy, Debug, PartialEq, Eq)]
@@ -37,9 +38,13 @@ pub enum Fault {
     MxigAmountOnly,
     /// The answer of an ALX has its pieces the other way round.
     AlxShortestFirst,
+    /// A release of a cylinder file answers as it should, but keeps just TT + 1 tracks.
+    CylindersCutInTwo,
+    /// A release of a track file keeps whole cylinders.
+    TracksToCylinders,
 }
 
-pub const FAULTS: [Fault; 15] = [
+pub const FAULTS: [Fault; 17] = [
     Fault::RefusesAll,
     Fault::AcceptsAll,
     Fault::OtherRefusal,
@@ -55,6 +60,8 @@ pub const FAULTS: [Fault; 15] = [
     Fault::ReadTableByte,
     Fault::MxigAmountOnly,
     Fault::AlxShortestFirst,
+    Fault::CylindersCutInTwo,
+    Fault::TracksToCylinders,
 ];
 
 pub struct Faulty<'a, M> {
@@ -75,6 +82,13 @@ fn reverse_pieces(answer: &mut [u8]) {
     pieces.reverse();
 }
 
+/// The unit byte of the set with this name.
+fn unit_of<'a>(table: &'a mut [u8], name: &[u8]) -> Option<&'a mut u8> {
+    let (records, _) = table.as_chunks_mut::<RECORD>();
+    let named = |record: &&mut [u8; RECORD]| record[FORMAT] == FORMAT_1 && record[..44] == *name;
+    records.iter_mut().find(named).map(|record| &mut record[UNIT])
+}
+
 /// Writes a buffer that was lent for reading, as a library in another language could.
 fn flip_last_read(bytes: &[u8]) {
     if let Some(last) = bytes.len().checked_sub(1) {
@@ -90,6 +104,22 @@ impl<M: Manager> Faulty<'_, M> {
         if self.fault == fault {
             flip_last_read(bytes);
         }
+    }
+
+    /// A release as if the set had another unit, which it gets back; nothing where its unit is not
+    /// the one that the fault is about.
+    fn release_by_another_unit(
+        &self, table: &mut [u8], name: &[u8], ttr: u32, answer: &mut [u8],
+    ) -> Option<u32> {
+        let (unit, other) = match self.fault {
+            Fault::CylindersCutInTwo => (UNIT_CYLINDERS, UNIT_TRACKS),
+            Fault::TracksToCylinders => (UNIT_TRACKS, UNIT_CYLINDERS),
+            _ => return None,
+        };
+        *unit_of(table, name).filter(|byte| **byte == unit)? = other;
+        let result = self.manager.release(table, name, ttr, answer);
+        *unit_of(table, name)? = unit;
+        Some(result)
     }
 
     fn spoil(&self, result: u32, table: &mut [u8], answer: &mut [u8]) -> u32 {
@@ -141,7 +171,16 @@ impl<M: Manager> Manager for Faulty<'_, M> {
         self.spoil(result, table, answer)
     }
     fn release(&self, table: &mut [u8], name: &[u8], ttr: u32, answer: &mut [u8]) -> u32 {
-        let result = self.manager.release(table, name, ttr, answer);
+        let mut copy = table.to_vec();
+        let wrong = self.release_by_another_unit(table, name, ttr, answer);
+        let result = match (wrong, self.fault) {
+            // Only the table is wrong.
+            (Some(_), Fault::CylindersCutInTwo) => {
+                self.manager.release(&mut copy, name, ttr, answer)
+            }
+            (Some(result), _) => result,
+            (None, _) => self.manager.release(table, name, ttr, answer),
+        };
         self.spoil_read(Fault::NameByte, name);
         self.spoil(result, table, answer)
     }

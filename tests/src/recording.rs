@@ -41,6 +41,13 @@ impl Recording {
         &self.player.table[..self.table_len]
     }
 
+    /// A copy of the table with these bytes.
+    fn patched(&self, patches: &[(usize, u8)]) -> Vec<u8> {
+        let mut copy = self.table().to_vec();
+        patches.iter().for_each(|&(at, byte)| copy[at] = byte);
+        copy
+    }
+
     fn enter(&mut self, record: &Record) -> Vec<u8> {
         let line = self.player.play(record);
         self.records.extend(record);
@@ -92,9 +99,13 @@ impl Recording {
                     self.table_len = before.len();
                     self.plain(call.clone());
                 }
+                Row::Put { patches } => {
+                    let other = self.patched(patches);
+                    let records = puts(self.table(), &other);
+                    records.iter().for_each(|record| drop(self.enter(record)));
+                }
                 Row::Hurt { patches, call, .. } => {
-                    let mut damaged = self.table().to_vec();
-                    patches.iter().for_each(|&(at, byte)| damaged[at] = byte);
+                    let damaged = self.patched(patches);
                     let record = record(call, self.table_len, 24, 280).expect("right lengths fit");
                     self.damaged(&damaged, call, &record);
                 }

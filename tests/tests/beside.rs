@@ -48,6 +48,7 @@ fn every_fault_is_noticed() {
             Fault::ReadTableByte => "table: byte",
             Fault::MxigAmountOnly => "table: byte",
             Fault::AlxShortestFirst => "answer: byte",
+            Fault::CylindersCutInTwo | Fault::TracksToCylinders => "table: byte",
         };
         assert!(text.contains(expected), "{fault:?} {call:?}: {text}");
     }
@@ -57,8 +58,14 @@ fn every_fault_is_noticed() {
 #[test]
 fn grids_are_not_all_refused() {
     let mut rooms = Rooms::new();
-    let grids =
-        [grids::lengths(), grids::amounts(), grids::options(), grids::ttrs(), grids::geometries()];
+    let grids = [
+        grids::lengths(),
+        grids::amounts(),
+        grids::options(),
+        grids::ttrs(),
+        grids::elsewhere(),
+        grids::geometries(),
+    ];
     for rows in grids {
         let mut accepted = 0;
         for (call, buffers) in &rows {

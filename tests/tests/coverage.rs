@@ -1,7 +1,7 @@
 //! A run that sees too little says so.
 
 use vtoc_tests::call::{CALL_NAMES, RESULTS};
-use vtoc_tests::coverage::{Coverage, EACH, FEATURES, OPTIONS, VOLUMES, WHOLE, WIDE};
+use vtoc_tests::coverage::{Coverage, EACH, FEATURES, OPTIONS, RELEASES, VOLUMES, WHOLE, WIDE};
 
 /// Just enough of everything.
 fn enough() -> Coverage {
@@ -11,7 +11,8 @@ fn enough() -> Coverage {
             coverage.results.insert((call, result), EACH);
         }
     }
-    for feature in FEATURES.into_iter().chain(OPTIONS).chain(VOLUMES).chain(WIDE) {
+    let features = FEATURES.into_iter().chain(OPTIONS).chain(RELEASES).chain(VOLUMES);
+    for feature in features.chain(WIDE) {
         coverage.features.insert(feature, 1);
     }
     coverage
@@ -48,7 +49,7 @@ fn enough_is_enough() {
 #[test]
 fn nothing_seen_names_everything() {
     let due = RESULTS.iter().map(|results| results.len()).sum::<usize>();
-    let features = FEATURES.len() + OPTIONS.len() + VOLUMES.len();
+    let features = FEATURES.len() + OPTIONS.len() + RELEASES.len() + VOLUMES.len();
     assert_eq!(Coverage::default().too_few(WHOLE).len(), due + features + WIDE.len());
     assert_eq!(Coverage::default().missing(&[]).len(), due + features);
 }

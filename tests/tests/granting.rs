@@ -146,24 +146,24 @@ fn release_inside_and_at_the_end_of_an_extent() {
     at_end.release("A", 24, 1).gave_back(5);
     assert_eq!(extents(&at_end, 2)[3], (0x81, 25, 29));
     assert_eq!(picture(&at_end.table).unwrap().sets[0].format_3, Some(3));
-    // Inside extent 2: it becomes X'01', and the format 3 goes.
-    desk.release("A", 16, 9).gave_back(13);
-    assert_eq!(extents(&desk, 2), [(0x81, 5, 14), (0x81, 15, 19), (0x01, 20, 21)]);
+    // Inside extent 2, of which the cylinder is kept (document 02, [2]), and the format 3 goes.
+    desk.release("A", 16, 9).gave_back(10);
+    assert_eq!(extents(&desk, 2), [(0x81, 5, 14), (0x81, 15, 19), (0x81, 20, 24)]);
     assert_eq!(desk.slot(3), [0; 140]);
     assert_eq!(desk.slot(2)[135..], [0; 5]);
     assert_eq!(desk.slot(2)[98..101], [0, 16, 9]);
-    assert_eq!(free(&desk), [(2, 3), (22, 28)]);
-    // A cut at a cylinder's end is X'01' all the same.
-    desk.release("A", 4, 1).gave_back(12);
-    assert_eq!(extents(&desk, 2), [(0x01, 5, 9)]);
+    assert_eq!(free(&desk), [(2, 3), (25, 25)]);
+    // A cylinder file that is cut keeps the type, too.
+    desk.release("A", 4, 1).gave_back(15);
+    assert_eq!(extents(&desk, 2), [(0x81, 5, 9)]);
     assert_eq!(desk.slot(2)[115..], [0; 25]);
-    // TT 0, R 0 keeps one track.
-    desk.release("A", 0, 0).gave_back(4);
-    assert_eq!(extents(&desk, 2), [(0x01, 5, 5)]);
+    // TT 0, R 0 keeps a cylinder.
+    desk.release("A", 0, 0).gave_back(0);
+    assert_eq!(extents(&desk, 2), [(0x81, 5, 9)]);
     assert_eq!(desk.slot(2)[98..101], [0, 0, 0]);
     // The unit stays: cylinders.
     desk.extend("A").granted(&[(10, 5)]);
-    assert_eq!(extents(&desk, 2), [(0x01, 5, 5), (0x81, 10, 14)]);
+    assert_eq!(extents(&desk, 2), [(0x81, 5, 9), (0x81, 10, 14)]);
 }
 
 #[test]

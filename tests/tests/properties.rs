@@ -13,9 +13,15 @@ use vtoc_tests::reference::{listing, taken};
 /// Runs a session. After each call: refused, nothing is written; accepted, the table is
 /// taken by the check and by the audit, and says what the ledger says.
 fn run(mut session: Session, calls: usize, coverage: &mut Coverage) {
-    let mut ledger = Ledger::of(&picture(session.table()).expect("sound"));
+    let begun = |session: &Session| Ledger::of(&picture(session.table()).expect("sound"));
+    let mut ledger = begun(&session);
+    let mut left = session.table().to_vec();
     for _ in 0..calls {
         let trial = session.next_trial();
+        if left != session.table() {
+            // Another table without a call, of which the ledger cannot know: units have changed.
+            ledger = begun(&session);
+        }
         let mut buffers = trial.buffers.clone();
         let result = trial.call.run(&Reference, &mut buffers);
         let before = &trial.buffers.table;
@@ -38,6 +44,7 @@ fn run(mut session: Session, calls: usize, coverage: &mut Coverage) {
             assert!(ledger.agrees(&seen), "{:?}", trial.call);
         }
         session.keep(&trial, buffers.table);
+        left = session.table().to_vec();
     }
 }
 
@@ -50,6 +57,7 @@ fn random_calls() {
         let session = Session::new(seed);
         let calls = if session.shape == Shape::Large { 40 } else { 250 };
         run(session, calls, &mut coverage);
+        run(Session::elsewhere(seed), 25, &mut coverage);
     }
     println!("{coverage}");
     assert_eq!(coverage.missing(&[]), [""; 0], "not seen");

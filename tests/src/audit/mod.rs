@@ -20,7 +20,25 @@ pub struct Set {
     free_fields: Vec<u8>,
 }
 
+/// Where byte 94 stands in the free fields.
+const UNIT: usize = 14 + 94 - 60;
+
 impl Set {
+    /// A set whose attributes and TTR are zeros.
+    pub fn new(
+        slot: usize, format_3: Option<usize>, name: [u8; 44], unit: u8, secondary: u32,
+        extents: Vec<Extent>,
+    ) -> Set {
+        let mut free_fields = vec![0; 14 + 45];
+        free_fields[UNIT] = unit;
+        free_fields[UNIT + 1..UNIT + 4].copy_from_slice(&secondary.to_be_bytes()[1..]);
+        Set { slot, format_3, name, extents, free_fields }
+    }
+
+    pub fn unit(&self) -> u8 {
+        self.free_fields[UNIT]
+    }
+
     /// The set's tracks in order.
     pub fn tracks(&self) -> Vec<u32> {
         self.extents.iter().flat_map(|&(_, first, last)| first..=last).collect()
@@ -67,8 +85,22 @@ pub fn picture(table: &[u8]) -> Option<Picture> {
         .map(|k| picture.read_set(&slots, k))
         .collect::<Option<_>>()?;
     picture.chain = picture.read_chain(&slots)?;
-    picture.derive()?;
+    picture.derive_free()?;
+    picture.derive_roles()?;
     (picture.render() == table).then_some(picture)
+}
+
+/// The table of a volume, C, H, D, S, V, with these sets; its later format 5s are in the lowest slots
+/// left. Nothing where slots are too few or the sets are not sound.
+pub fn table_with([c, h, d, s, v]: [u32; 5], sets: Vec<Set>) -> Option<Vec<u8>> {
+    let mut picture = Picture { c, h, d, s, v, sets, chain: vec![1], free: vec![], format_0s: 0 };
+    picture.derive_free()?;
+    let is_label = |&k: &usize| picture.sets.iter().any(|s| s.slot == k || s.format_3 == Some(k));
+    let left = (2..(v * d) as usize).filter(|k| !is_label(k));
+    let more: Vec<usize> = left.take(picture.members() - 1).collect();
+    picture.chain.extend(more);
+    picture.derive_roles()?;
+    Some(picture.render())
 }
 
 fn number(bytes: &[u8]) -> u64 {
@@ -143,7 +175,7 @@ impl Picture {
     }
 
     /// The free extents are the gaps that label, VTOC and data leave; nothing may overlap.
-    fn derive(&mut self) -> Option<()> {
+    fn derive_free(&mut self) -> Option<()> {
         let mut used = vec![false; (self.c * self.h) as usize];
         let mut lie = |first: u32, last: u32| {
             (first <= last && (last as usize) < used.len()).then_some(())?;
@@ -164,7 +196,17 @@ impl Picture {
                 _ => self.free.push((track, 1)),
             }
         }
-        (self.chain.len() == self.free.len().div_ceil(26).max(1)).then_some(())?;
+        Some(())
+    }
+
+    /// The format 5s that the free extents need.
+    fn members(&self) -> usize {
+        self.free.len().div_ceil(26).max(1)
+    }
+
+    /// Each slot has one role, each name one set; the format 0s are what is left.
+    fn derive_roles(&mut self) -> Option<()> {
+        (self.chain.len() == self.members()).then_some(())?;
         let names: BTreeSet<_> = self.sets.iter().map(|set| set.name).collect();
         let format_3s = self.sets.iter().filter_map(|set| set.format_3);
         let sets = self.sets.iter().map(|set| set.slot);

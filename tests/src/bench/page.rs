@@ -25,7 +25,7 @@ struct Section<'a> {
 
 impl<'a> Section<'a> {
     fn new(volume: &'a Volume) -> Section<'a> {
-        let row = |timed: Timed| (timed.what, Row::call(&volume.table, timed.call, timed.wanted));
+        let row = |timed: Timed<'a>| (timed.what, Row::call(timed.table, timed.call, timed.wanted));
         let calls = volume.calls().into_iter().map(row).collect();
         Section { title: volume.title, calls, floor: Row::floor(&volume.table) }
     }

@@ -5,6 +5,7 @@ use crate::desk::attributes;
 use crate::generate::glance::{glance, Glance, SetGlance};
 use crate::generate::rng::Rng;
 use crate::irregular;
+use crate::reference::layout::UNIT_CYLINDERS;
 use crate::volumes::{
     many_extents, many_names, medium, name, place, set_name, small, survey_three_counters,
     survey_two_counters,
@@ -19,11 +20,14 @@ pub struct Volume {
     present: Vec<u8>,
     /// Whether the calls that need many extents are made too.
     irregular: bool,
+    /// A table with a cylinder file, and the call that releases it in the middle of a cylinder.
+    cut: Option<(Vec<u8>, Call)>,
 }
 
-/// A call to time, and the result that it must have.
-pub struct Timed {
+/// A call to time, the table to make it on, and the result that it must have.
+pub struct Timed<'a> {
     pub what: &'static str,
+    pub table: &'a [u8],
     pub call: Call,
     pub wanted: u32,
 }
@@ -53,7 +57,8 @@ pub fn volumes(short: bool) -> Vec<Volume> {
 pub fn regular(title: &'static str, mut table: Vec<u8>) -> Volume {
     place(&mut table, "BENCH.SET", 0, 0, 2, 1);
     let present = name("BENCH.SET").to_vec();
-    Volume { title, table, growing: present.clone(), present, irregular: false }
+    let cut = with_cylinder_file(&table);
+    Volume { title, table, growing: present.clone(), present, irregular: false, cut }
 }
 
 /// The volume as it is; the calls are made on sets with many extents, drawn by a fixed seed.
@@ -65,7 +70,39 @@ fn irregular(title: &'static str, table: Vec<u8>) -> Volume {
     let grows: Vec<_> = many.iter().filter(|set| can_grow(&table, set)).collect();
     let growing = rng.pick(&grows).expect("a set that can be extended").name.clone();
     let present = rng.pick(&many).expect("the one with most").name.clone();
-    Volume { title, table, growing, present, irregular: true }
+    let cut = cylinder_file(&table).map(|call| (table.clone(), call));
+    Volume { title, table, growing, present, irregular: true, cut }
+}
+
+/// The table with a cylinder file of three cylinders, or of one where there are no more. The other
+/// calls are timed without it.
+fn with_cylinder_file(table: &[u8]) -> Option<(Vec<u8>, Call)> {
+    let amount = [3, 1].into_iter().find(|&n| is_accepted(table, &Volume::allocation(1, n)))?;
+    let mut table = table.to_vec();
+    place(&mut table, "BENCH.CYL", 1, 0, amount, 0);
+    let call = cylinder_file(&table)?;
+    Some((table, call))
+}
+
+/// The release that cuts the cylinder file with most extents about its middle.
+fn cylinder_file(table: &[u8]) -> Option<Call> {
+    let Glance { geometry, sets, .. } = glance(table)?;
+    let cut = |set: &SetGlance| {
+        let ttr = mid_cylinder(set, geometry.heads)?;
+        Some((set.extents.len(), Call::Release { name: set.name.clone(), ttr }))
+    };
+    let cuts = sets.iter().filter(|set| set.unit == UNIT_CYLINDERS).filter_map(cut);
+    let cuts = cuts.filter(|(_, call)| is_accepted(table, call));
+    cuts.max_by_key(|&(extents, _)| extents).map(|(_, call)| call)
+}
+
+/// The first TTR from the middle of the set on where the next track goes on in the same cylinder.
+fn mid_cylinder(set: &SetGlance, heads: u32) -> Option<u32> {
+    let list: Vec<u32> = set.extents.iter().flat_map(|&(at, count)| at..at + count).collect();
+    let middle = list.len() / 2;
+    let goes_on = |two: &[u32]| two[1] == two[0] + 1 && !two[1].is_multiple_of(heads);
+    let tt = middle + list[middle..].windows(2).position(goes_on)?;
+    Some((tt as u32) << 8 | 1)
 }
 
 fn can_grow(table: &[u8], set: &SetGlance) -> bool {
@@ -93,13 +130,14 @@ impl Volume {
     }
 
     /// The calls to time.
-    pub fn calls(&self) -> Vec<Timed> {
+    pub fn calls(&self) -> Vec<Timed<'_>> {
         let glance = self.glance();
         let g = glance.geometry;
         let (c, h, d) = (g.cylinders, g.heads, g.per_track);
         let (s, v) = (g.vtoc_start, g.vtoc_tracks);
         let present = || self.present.clone();
-        let accepted = |what, call| Timed { what, call, wanted: 0 };
+        let table = &self.table[..];
+        let accepted = |what, call| Timed { what, table, call, wanted: 0 };
         let many = |what, call| self.irregular.then(|| accepted(what, call));
         // Where slots and whole cylinders allow it.
         let by_option = |what, option, kind, amount| {
@@ -113,6 +151,7 @@ impl Volume {
             many("allocate, five pieces", Volume::allocation(0, five_pieces(&glance))),
             Some(Timed {
                 what: "allocate, refused 9",
+                table,
                 call: Volume::allocation(0, 65_535),
                 wanted: 9,
             }),
@@ -123,6 +162,12 @@ impl Volume {
             Some(accepted("extend", Call::Extend { name: self.growing.clone() })),
             Some(accepted("release", Call::Release { name: present(), ttr: 1 })),
             many("release, half", Call::Release { name: present(), ttr: self.half(&glance) }),
+            self.cut.as_ref().map(|(table, call)| Timed {
+                what: "release, mid-cylinder",
+                table,
+                call: call.clone(),
+                wanted: 0,
+            }),
             Some(accepted("scratch", Call::Scratch { name: present() })),
             Some(accepted(
                 "rename",

@@ -20,8 +20,8 @@ fn store(directory: &str) {
         for timed in volume.calls() {
             let path = format!("{directory}/{number}");
             let record =
-                record(&timed.call, volume.table.len(), 24, 280).expect("lengths as they must be");
-            write(format!("{path}.table"), &volume.table).expect("the directory is there");
+                record(&timed.call, timed.table.len(), 24, 280).expect("lengths as they must be");
+            write(format!("{path}.table"), timed.table).expect("the directory is there");
             write(format!("{path}.call"), record).expect("the directory is there");
             let name = CALL_NAMES[timed.call.index()];
             rows += &format!("{number}\t{name}\t{}\t{}\n", volume.title, timed.what);

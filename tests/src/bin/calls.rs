@@ -24,6 +24,8 @@ use vtoc_tests::volumes::{many_extents, many_names, medium, small};
 
 /// Calls in all where no number is given.
 const CALLS: usize = 250_000;
+/// Of so many volumes, one comes from elsewhere.
+const ELSEWHERE: usize = 6;
 /// What `--plant` takes besides a fault of the library: a run that sees next to nothing.
 const IDLE: &str = "Idle";
 
@@ -101,6 +103,9 @@ impl<'a, M: Manager> Beside<'a, M> {
                         self.call(call, &buffers, Origin::Live, sequence.title)?;
                         table.clone_from(after);
                     }
+                    Row::Put { patches } => {
+                        patches.iter().for_each(|&(at, byte)| table[at] = byte);
+                    }
                     Row::Hurt { patches, call, .. } => {
                         let mut buffers = Buffers::new(table.clone(), 24, 280);
                         patches.iter().for_each(|&(at, byte)| buffers.table[at] = byte);
@@ -140,6 +145,7 @@ impl<'a, M: Manager> Beside<'a, M> {
             ("amounts", grids::amounts()),
             ("options", grids::options()),
             ("TTRs", grids::ttrs()),
+            ("elsewhere", grids::elsewhere()),
             ("geometries", grids::geometries()),
         ];
         for (place, rows) in grids {
@@ -193,9 +199,13 @@ impl<'a, M: Manager> Beside<'a, M> {
                 self.life(Session::on(rng.word(), &table, shape), 300, place)?;
             }
         }
+        let mut volumes = 0;
         while self.calls < calls {
+            volumes += 1;
             let seed = rng.word();
-            let session = Session::new(seed);
+            let from_elsewhere = volumes % ELSEWHERE == 0;
+            let session =
+                if from_elsewhere { Session::elsewhere(seed) } else { Session::new(seed) };
             let most = if session.shape == Shape::Large { 60 } else { 250 };
             let place = format!("session {seed}, {:?}", session.shape);
             self.life(session, most.min(calls - self.calls), &place)?;
@@ -215,7 +225,8 @@ impl<'a, M: Manager> Beside<'a, M> {
 fn notices(fault: vtoc_tests::faulty::Fault) -> bool {
     let library = Faulty { manager: &Library, fault };
     let mut beside = Beside::new(&library, Sides::Planted);
-    beside.life(Session::new(1), 300, "planted").is_err()
+    let sessions = [Session::new(1), Session::elsewhere(1)];
+    sessions.into_iter().any(|session| beside.life(session, 300, "planted").is_err())
 }
 
 struct Arguments {

@@ -99,7 +99,7 @@ fn whole_cylinders() -> Sequence {
         desk.extend("A").refused(9);
         desk.release("A", 19, 1).gave_back(4);
         desk.extend("A").granted(&[(16, 4)]);
-        desk.release("A", 9, 1).gave_back(14);
+        desk.release("A", 9, 1).gave_back(12);
         desk.cylinders("B", 1, 0).granted(&[(8, 4)]);
         desk.cylinders("C", 2, 0).granted(&[(16, 4), (44, 4)]);
     })
@@ -131,12 +131,12 @@ fn release() -> Sequence {
         }
         desk.obtain("A").without_numbers();
         desk.release("A", 24, 1).gave_back(5);
-        desk.release("A", 21, 255).gave_back(3);
+        desk.release("A", 21, 255).gave_back(0);
         desk.release("A", 16, 9).gave_back(5);
         desk.obtain("A").without_numbers();
-        desk.release("A", 4, 1).gave_back(12);
+        desk.release("A", 4, 1).gave_back(15);
         desk.release("A", 1, 0).refused(12);
-        desk.release("A", 0, 0).gave_back(4);
+        desk.release("A", 0, 0).gave_back(0);
         desk.extend("A").granted(&[(10, 5)]);
         desk.release("A", 5, 1).gave_back(0);
     })

@@ -1,6 +1,7 @@
 //! Scripted sequences of calls, whose outcomes are computed here and verified elsewhere.
 
 mod chains;
+mod cylinders;
 mod damages;
 mod edges;
 mod grants;
@@ -34,6 +35,7 @@ pub fn sequences() -> Vec<Sequence> {
     all.extend(edges::sequences());
     all.extend(options::stories());
     all.extend(options::edges());
+    all.extend(cylinders::sequences());
     all
 }
 
@@ -41,6 +43,7 @@ pub fn sequences() -> Vec<Sequence> {
 pub fn stories() -> Vec<Sequence> {
     let mut all = stories_of_the_base();
     all.extend(options::stories());
+    all.extend(cylinders::sequences());
     all
 }
 
@@ -69,7 +72,7 @@ pub fn coverage(sequences: &[Sequence]) -> Coverage {
             Row::Sized { call, result, .. } => {
                 coverage.count(call, Origin::Probe, *result, &[], &[], &[]);
             }
-            Row::Listed { .. } | Row::Parts { .. } => {}
+            Row::Put { .. } | Row::Listed { .. } | Row::Parts { .. } => {}
         }
     }
     coverage

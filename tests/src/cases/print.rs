@@ -38,6 +38,7 @@ fn print_row(row: &Row) -> String {
             }
         }
         Row::Made { call, outcome, .. } => format!("no {} {}", print_call(call), outcome.result),
+        Row::Put { patches } => format!("put {}", print_patches(patches)),
         Row::Hurt { patches, call, result } => {
             format!("hurt {} {} {result}", print_patches(patches), print_call(call))
         }

@@ -1,6 +1,7 @@
 //! What a run of calls has touched: results of each call, and paths worth seeing.
 
 mod options;
+mod releases;
 
 use std::collections::BTreeMap;
 use std::fmt;
@@ -10,6 +11,7 @@ use crate::generate::glance::{glance, Glance};
 use crate::generate::session::Origin;
 use options::Numbers;
 pub use options::OPTIONS;
+pub use releases::RELEASES;
 
 /// The paths that a run must see.
 pub const FEATURES: [&str; 36] = [
@@ -92,12 +94,18 @@ impl Coverage {
         }
     }
 
-    /// A refused allocate with an option.
+    /// A refused allocate with an option, or a release for which slots are short.
     fn refusal(&mut self, call: &Call, result: u32, before: &[u8]) {
-        let Some(numbers) = numbers_with_option(call) else { return };
-        if let (7 | 9 | 11, Some(table)) = (result, glance(before)) {
-            options::refused(numbers, &table, result).into_iter().for_each(|path| self.saw(path));
-        }
+        let paths = match (result, call, numbers_with_option(call)) {
+            (7 | 9 | 11, _, Some(numbers)) => {
+                glance(before).map(|table| options::refused(numbers, &table, result))
+            }
+            (11, Call::Release { name, ttr }, _) => {
+                glance(before).map(|table| release_paths(&table, name, ttr >> 8, result))
+            }
+            _ => None,
+        };
+        paths.into_iter().flatten().for_each(|path| self.saw(path));
     }
 
     /// An accepted call, by what it did to a sound table.
@@ -158,6 +166,7 @@ impl Coverage {
     }
 
     fn release(&mut self, old: &Glance, name: &[u8], tt: u32) {
+        release_paths(old, name, tt, 0).into_iter().for_each(|path| self.saw(path));
         let Some(set) = old.sets.iter().find(|set| set.name == name) else { return };
         let mut end = 0;
         let at_end = set.extents.iter().any(|&(_, length)| {
@@ -202,8 +211,7 @@ impl Coverage {
         let results = results
             .filter(|key| !self.results.contains_key(key) && !beyond.contains(key))
             .map(|(call, result)| format!("{} {result}", CALL_NAMES[call]));
-        let features = FEATURES.iter().chain(&OPTIONS).chain(&VOLUMES);
-        let features = features.filter(|&f| !self.features.contains_key(f));
+        let features = due().filter(|f| !self.features.contains_key(f));
         results.chain(features.map(|f| f.to_string())).collect()
     }
 }
@@ -229,6 +237,17 @@ impl Coverage {
         }
         few
     }
+}
+
+/// What every run must see, apart from results.
+fn due() -> impl Iterator<Item = &'static str> {
+    FEATURES.into_iter().chain(OPTIONS).chain(RELEASES).chain(VOLUMES)
+}
+
+/// The paths of a release with this result.
+fn release_paths(table: &Glance, name: &[u8], tt: u32, result: u32) -> Vec<&'static str> {
+    let set = table.sets.iter().find(|set| set.name == name);
+    set.map_or(vec![], |set| releases::shown(table, set, tt, result))
 }
 
 /// The numbers of an allocate that has an option.
@@ -264,7 +283,7 @@ impl fmt::Display for Coverage {
         write!(f, "{:<12}{:>8}", "all", sum(&|_, _| true))?;
         (0..=12).try_for_each(|result| write!(f, "{:>7}", sum(&|_, of| of == result)))?;
         writeln!(f)?;
-        for feature in FEATURES.iter().chain(&OPTIONS).chain(&VOLUMES) {
+        for feature in due() {
             writeln!(f, "{:>8}  {feature}", self.features.get(feature).unwrap_or(&0))?;
         }
         for feature in WIDE {

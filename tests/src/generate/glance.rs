@@ -10,6 +10,8 @@ pub struct SetGlance {
     pub name: Vec<u8>,
     /// First track and length of each extent.
     pub extents: Vec<(u32, u32)>,
+    /// The type of each.
+    pub kinds: Vec<u8>,
     pub unit: u8,
     pub secondary: u32,
 }
@@ -55,13 +57,14 @@ pub fn glance(table: &[u8]) -> Option<Glance> {
         let label = slots[k];
         let format_3 = geometry.slot_at(label[135..140].try_into().ok()?);
         let more = format_3.map_or(vec![], |k| fields(slots[k], 10));
-        let extents = label[105..135].chunks(10).chain(more).take(usize::from(label[59]));
-        let extents = extents
-            .map(|e| (track(&e[2..6]), (track(&e[6..10]) + 1).saturating_sub(track(&e[2..6]))))
-            .collect();
+        let parts = label[105..135].chunks(10).chain(more).take(usize::from(label[59]));
+        let (kinds, extents) = parts
+            .map(|e| (e[0], (track(&e[2..6]), track(&e[6..10]))))
+            .map(|(kind, (first, last))| (kind, (first, (last + 1).saturating_sub(first))))
+            .unzip();
         let name = label[..44].to_vec();
         let (unit, secondary) = (label[94], be(&label[95..98]));
-        Some(SetGlance { slot: k, format_3, name, extents, unit, secondary })
+        Some(SetGlance { slot: k, format_3, name, extents, kinds, unit, secondary })
     };
     let format_1s: Vec<usize> = of_format(0xF1);
     let sets = format_1s.into_iter().filter_map(set).collect();

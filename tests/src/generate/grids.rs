@@ -1,11 +1,16 @@
 //! Calls by the row: each length of each buffer, each byte in each place of a name, and
 //! numbers at and around their limits.
 
+use super::elsewhere;
 use super::glance::glance;
+use super::rng::Rng;
 use crate::call::{Buffers, Call, ALX, CONTIG, MXIG, NO_OPTION};
 use crate::desk::{attributes, attributes_of};
 use crate::reference::{extend, release, scratch};
 use crate::volumes::{fresh, name, open_slots, place, scattered, small};
+
+/// The volumes from elsewhere.
+const ELSEWHERE: usize = 60;
 
 /// A call and the buffers to make it with.
 pub type Row = (Call, Buffers);
@@ -188,14 +193,29 @@ fn with_holes(h: u32, lengths: &[u32], spare: u32) -> Vec<u8> {
 
 /// Release at every track of every set of a few volumes, and past it.
 pub fn ttrs() -> Vec<Row> {
+    let tables = [base(), scattered(100, 4, 20, 1, 2, 26), sixteen(), tight()];
+    releases(&tables, |tracks| {
+        let tts = (0..=tracks + 2).chain([65_534, 65_535]);
+        let ttrs = tts.flat_map(|tt| [0, 1, 2, 255].map(|r| tt << 8 | r));
+        let wide = [1 << 24, (1 << 24) + 1, 1 << 31, u32::MAX - 255, u32::MAX];
+        ttrs.chain(wide).collect()
+    })
+}
+
+/// The same on volumes from elsewhere, where cylinder files have extents of all kinds.
+pub fn elsewhere() -> Vec<Row> {
+    let rng = &mut Rng::new(2);
+    let tables: Vec<_> = (0..ELSEWHERE).map(|_| elsewhere::table(rng)).collect();
+    releases(&tables, |tracks| (0..=tracks).map(|tt| tt << 8 | 1).collect())
+}
+
+/// Release of every set of these tables, with the TTRs that `ttrs` has for its number of tracks.
+fn releases(tables: &[Vec<u8>], ttrs: impl Fn(u32) -> Vec<u32>) -> Vec<Row> {
     let mut rows = vec![];
-    for table in [base(), scattered(100, 4, 20, 1, 2, 26), sixteen(), tight()] {
-        for set in glance(&table).expect("sound").sets {
-            let tts = (0..=set.tracks() + 2).chain([65_534, 65_535]);
-            let ttrs = tts.flat_map(|tt| [0, 1, 2, 255].map(|r| tt << 8 | r));
-            let wide = [1 << 24, (1 << 24) + 1, 1 << 31, u32::MAX - 255, u32::MAX];
-            for ttr in ttrs.chain(wide) {
-                rows.push(row(Call::Release { name: set.name.clone(), ttr }, &table));
+    for table in tables {
+        for set in glance(table).expect("sound").sets {
+            for ttr in ttrs(set.tracks()) {
+                rows.push(row(Call::Release { name: set.name.clone(), ttr }, table));
             }
         }
     }

@@ -3,6 +3,7 @@
 mod aim;
 mod brink;
 pub mod damage;
+pub mod elsewhere;
 pub mod glance;
 pub mod grids;
 mod hostile;

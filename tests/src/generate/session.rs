@@ -3,6 +3,7 @@
 use super::aim::Aim;
 use super::brink;
 use super::damage::any_damage;
+use super::elsewhere;
 use super::glance::glance;
 use super::hostile::spoil;
 use super::rng::Rng;
@@ -38,6 +39,8 @@ enum Phase {
     Drain,
     /// Calls that make and free records, on a volume on the brink.
     Tip,
+    /// Releases, most of all.
+    Cut,
 }
 
 pub struct Session {
@@ -61,6 +64,7 @@ fn weights(phase: Phase, shape: Shape) -> [usize; 11] {
         Phase::Stretch => [6, 2 * cylinders, 4, 4, 70, 10, 4, 2, 4, 2, 0],
         Phase::Drain => [10, 3 * cylinders, 5, 5, 5, 30, 30, 3, 3, 3, 1],
         Phase::Tip => [14, 30, 4, 3, 25, 25, 20, 1, 2, 1, 0],
+        Phase::Cut => [4, 6, 3, 3, 12, 90, 4, 2, 3, 1, 0],
     }
 }
 
@@ -104,6 +108,14 @@ impl Session {
         session
     }
 
+    /// A volume that comes from elsewhere, with sets to release.
+    pub fn elsewhere(seed: u64) -> Session {
+        let mut rng = Rng::new(seed);
+        let table = elsewhere::table(&mut rng);
+        let session = Session::with(rng, table, Shape::Elsewhere);
+        Session { phase: Phase::Cut, shuffles: true, ..session }
+    }
+
     /// A life that goes on from a given sound table, by calls alone.
     pub fn on(seed: u64, table: &[u8], shape: Shape) -> Session {
         Session::with(Rng::new(seed), table.to_vec(), shape)
@@ -129,7 +141,9 @@ impl Session {
 
     /// The next call. Give its outcome to `keep`.
     pub fn next_trial(&mut self) -> Trial {
-        if self.rng.chance(4) && self.shape != Shape::Brink {
+        // A few calls end what is special about such a volume; most of them are only tried there.
+        let is_special = matches!(self.shape, Shape::Brink | Shape::Elsewhere);
+        if self.rng.chance(4) && !is_special {
             self.phase =
                 [Phase::Fill, Phase::Wear, Phase::Stretch, Phase::Drain][self.rng.below(4)];
         }
@@ -139,8 +153,7 @@ impl Session {
         }
         let mut call = self.honest_call();
         let mut buffers = Buffers::new(self.table.clone(), 24, 280);
-        // A volume leaves the brink with a few calls; most of them are only tried there.
-        let stays = self.shape == Shape::Brink && self.rng.chance(80);
+        let stays = is_special && self.rng.chance(80);
         let mut origin = if stays { Origin::Probe } else { Origin::Live };
         match self.rng.below(100) {
             0..=7 => {

@@ -1,5 +1,5 @@
 //! Tables to judge, some 79,000: as calls leave them, with each kind of damage, with every byte of a
-//! small volume or of a name changed, of every length, and noise.
+//! small volume or of a name changed, of every length, noise, and volumes from elsewhere.
 
 use super::damage::{any_damage, damage, DAMAGES};
 use super::rng::Rng;
@@ -53,6 +53,9 @@ pub fn every_table(judge: impl FnMut(Shown)) {
     ] {
         tables.show(&table, origin);
         (0..5).for_each(|_| tables.every_damage(&table, origin));
+    }
+    for seed in 0..40 {
+        tables.life_of(Session::elsewhere(seed), seed, 5);
     }
 }
 
@@ -124,9 +127,13 @@ impl<F: FnMut(Shown)> Tables<F> {
 
     /// A volume's life: each table that a call meets, and for most a damaged copy.
     fn life(&mut self, seed: u64, calls: usize) {
-        let mut session = Session::new(seed);
+        self.life_of(Session::new(seed), seed, calls);
+    }
+
+    /// The same of a given volume.
+    fn life_of(&mut self, mut session: Session, seed: u64, calls: usize) {
         let mut rng = Rng::new(!seed);
-        let origin = format!("session {seed}");
+        let origin = format!("{:?}, session {seed}", session.shape);
         for _ in 0..calls {
             let trial = session.next_trial();
             let before = &trial.buffers.table;

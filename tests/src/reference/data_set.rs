@@ -47,6 +47,36 @@ impl DataSet {
         self.extents().iter().map(|extent| extent.length).sum()
     }
 
+    /// The first `count` tracks, of which the set has as many, and those after them that go on from
+    /// one to the next up to the end of the last one's cylinder: how many they are.
+    pub fn whole_cylinders(&self, count: u32, heads: u32) -> u32 {
+        let mut before = 0;
+        let mut extents = self.extents().iter();
+        for extent in extents.by_ref() {
+            if count <= before + extent.length {
+                let kept_end = extent.start + (count - before);
+                let cylinder_end = kept_end.next_multiple_of(heads);
+                // Where the extent ends inside the cylinder, the next one may go on from there.
+                let mut end = extent.end();
+                while end < cylinder_end {
+                    match extents.next() {
+                        Some(next) if next.start == end => end = next.end(),
+                        _ => break,
+                    }
+                }
+                return count + end.min(cylinder_end) - kept_end;
+            }
+            before += extent.length;
+        }
+        before
+    }
+
+    /// The type of extent `e`.
+    pub fn kind(&self, records: &[Record], e: usize) -> u8 {
+        let (holder, at) = self.place(e);
+        records[holder][at]
+    }
+
     /// The record and the byte in it where extent `e` lies.
     fn place(&self, e: usize) -> (usize, usize) {
         match self.format_3 {

@@ -7,7 +7,8 @@ use crate::reference::layout::*;
 use crate::reference::name::Name;
 use crate::reference::{records_mut, Refusal};
 
-/// Keeps the first TT + 1 tracks of a set. Refusals in order: 2, 3, 4, 5, 12, 11.
+/// Keeps the first TT + 1 tracks of a set; a cylinder file also those that go on in the same cylinder.
+/// Refusals in order: 2, 3, 4, 5, 12, 11.
 pub fn release(table: &mut [u8], name: &[u8], ttr: u32, answer: &mut [u8]) -> u32 {
     answered(answer, || release_from(records_mut(table)?, sized(name)?, ttr))
 }
@@ -22,8 +23,14 @@ fn release_from(records: &mut [Record], name: &Name, ttr: u32) -> Result<Answer,
         return Err(Refusal::Ttr);
     }
 
-    // Walk the extents: those inside the first TT + 1 tracks stay, one may be cut.
-    let mut keep = tt + 1;
+    let by_cylinders = records[slot][UNIT] == UNIT_CYLINDERS;
+    let tracks_kept = match by_cylinders {
+        true => set.whole_cylinders(tt + 1, volume.geometry.heads),
+        false => tt + 1,
+    };
+
+    // Walk the extents: those inside the tracks kept stay, one may be cut.
+    let mut keep = tracks_kept;
     let mut stay = 0;
     let mut shortened = None;
     for &extent in set.extents() {
@@ -42,8 +49,9 @@ fn release_from(records: &mut [Record], name: &Name, ttr: u32) -> Result<Answer,
 
     volume.trim_chain(records);
     if let Some(run) = shortened {
-        // Only the last one that stays can have been cut.
-        set.put(&volume, records, stay - 1, ANY_TRACKS, run);
+        // Only the last one that stays can have been cut, in a cylinder file where a cylinder ends.
+        let kind = if by_cylinders { set.kind(records, stay - 1) } else { ANY_TRACKS };
+        set.put(&volume, records, stay - 1, kind, run);
     }
     (stay..set.extents().len()).for_each(|e| set.clear(records, e));
     let record = &mut records[slot];
@@ -54,7 +62,7 @@ fn release_from(records: &mut [Record], name: &Name, ttr: u32) -> Result<Answer,
         volume.free_slot(records, format_3);
     }
     volume.close(records);
-    Ok(tracks(set.tracks() - (tt + 1)))
+    Ok(tracks(set.tracks() - tracks_kept))
 }
 
 /// Removes a set. Refusals in order: 2, 3, 4, 5.
