@@ -176,7 +176,7 @@ int main(int count, char **arguments)
 {
     const char *path = count > 1 ? arguments[1] : "week.vtoc";
     FILE *file;
-    uint32_t freed_track, granted;
+    uint32_t freed_track, granted, kept;
 
     printf("Monday: a new volume, and the survey's files\n");
     say("initialise %d cylinders of %d tracks", CYLINDERS, HEADS);
@@ -210,18 +210,19 @@ int main(int count, char **arguments)
     obtain("SURVEY.FLT0317.STRIP01");
     release("SURVEY.FLT0317.STRIP01", 2000, 1, VTOC_E_TTR);
     release("SURVEY.FLT0317.STRIP01", 1349, 7, VTOC_OK);
+    say("its last block lies on the first track of a cylinder, and the strip, a cylinder file, keeps all of that cylinder");
     obtain("SURVEY.FLT0317.STRIP01");
     space();
-    say("a sort needs its 240 tracks in one piece: the gaps have 296 together, but the longest has 228");
+    say("a sort needs its 240 tracks in one piece: the gaps have 278 together, but the longest has 228");
     allocate("SURVEY.SORTWK01", VTOC_TRACKS, 0, 240, 0, VTOC_CONTIG, VTOC_E_NO_SPACE);
-    say("a scratch pool takes every gap of 50 tracks or more, for the night");
-    allocate("SURVEY.POOL", VTOC_TRACKS, 0, 50, 0, VTOC_ALX, VTOC_OK);
-    check(vtoc_answer_pieces(answer) == 2 && vtoc_answer_tracks(answer) == 228 + 56, "two gaps, whole");
+    say("a scratch pool takes every gap of 30 tracks or more, for the night");
+    allocate("SURVEY.POOL", VTOC_TRACKS, 0, 30, 0, VTOC_ALX, VTOC_OK);
+    check(vtoc_answer_pieces(answer) == 2 && vtoc_answer_tracks(answer) == 228 + 38, "two gaps, whole");
     scratch("SURVEY.POOL", VTOC_OK);
-    freed_track = 243 * HEADS + (1350 - 60 * HEADS); /* the first one after the strip's second extent */
-    say("56 tracks fit the gap that the release left behind the strip, and are granted there:");
-    allocate("SURVEY.INDEX", VTOC_TRACKS, 0, 56, 8, VTOC_NO_OPTION, VTOC_OK);
-    check(vtoc_answer_pieces(answer) == 1 && vtoc_answer_start(answer, 0) == freed_track && vtoc_answer_count(answer, 0) == 56,
+    freed_track = 255 * HEADS; /* the first one after the strip's second extent */
+    say("38 tracks fit the gap that the release left behind the strip, and are granted there:");
+    allocate("SURVEY.INDEX", VTOC_TRACKS, 0, 38, 8, VTOC_NO_OPTION, VTOC_OK);
+    check(vtoc_answer_pieces(answer) == 1 && vtoc_answer_start(answer, 0) == freed_track && vtoc_answer_count(answer, 0) == 38,
           "SURVEY.INDEX has the very tracks that the strip gave back");
 
     printf("Friday: room for the next week\n");
@@ -236,9 +237,15 @@ int main(int count, char **arguments)
     allocate("SURVEY.PLOT", VTOC_CYLINDERS, 0, 60, 0, VTOC_MXIG, VTOC_OK);
     granted = vtoc_answer_tracks(answer); /* MXIG and ALX: the answer has the number, not the request */
     check(vtoc_answer_pieces(answer) == 1 && granted >= 60 * HEADS && granted % HEADS == 0, "60 whole cylinders or more");
-    say("the plot has %lu tracks and fills 100 cylinders of them", (unsigned long)granted);
-    release("SURVEY.PLOT", 100 * HEADS - 1, 4, VTOC_OK);
-    check(vtoc_answer_tracks(answer) == granted - 100 * HEADS, "the rest is free again");
+    say("the plot has %lu tracks and fills 100 cylinders of them and four tracks", (unsigned long)granted);
+    release("SURVEY.PLOT", 100 * HEADS + 3, 4, VTOC_OK);
+    kept = granted - vtoc_answer_tracks(answer); /* more than TT + 1: again the answer has the number */
+    check(kept == 101 * HEADS, "the cylinder of the last block is kept to its end");
+    say("it keeps %lu tracks: the plotter draws on to the end of its cylinder, and then has nothing to give back",
+        (unsigned long)kept);
+    release("SURVEY.PLOT", kept - 1, 9, VTOC_OK);
+    check(vtoc_answer_tracks(answer) == 0, "nothing to give back is no refusal");
+    obtain("SURVEY.PLOT");
     scratch("SURVEY.SORTWK01", VTOC_OK);
     space();
 

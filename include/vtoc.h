@@ -8,12 +8,14 @@
  *   vtoc_initialise  writes a table with no data set              vtoc_scratch  removes a data set
  *   vtoc_allocate    gives a new data set its tracks              vtoc_rename   changes a name
  *   vtoc_extend      adds the secondary amount to a data set      vtoc_obtain   reads the labels of a data set
- *   vtoc_release     gives back the tracks after the last block   vtoc_lspace   says how much is free
+ *   vtoc_release     gives back tracks after the last block       vtoc_lspace   says how much is free
  * Each takes numbers of 32 bits and byte buffers, a buffer as a pointer and its length, and answers VTOC_OK (0) or the number
  * of a refusal (1 to 12, below). Any bytes, numbers and lengths may be handed over: every call ends in one of the two.
  *
  * WHAT IS NEW
- * Since version 200 vtoc_allocate has a space option after secondary (CONTIG, MXIG, ALX). A host of version 100 hands over
+ * Version 300: of a cylinder file vtoc_release keeps the cylinder of the last block to its end, so more than TT + 1 tracks. A host
+ * that works out from TT what is kept or given back must take it from the answer or the labels; any other stays as it is.
+ * Version 200: vtoc_allocate has a space option after secondary (CONTIG, MXIG, ALX). A host of version 100 hands over
  * VTOC_NO_OPTION there, and all is as before. Compile every file of it anew: no linker sees that an old one lacks the argument.
  *
  * WHAT IS PROVED
@@ -48,7 +50,7 @@
  *   uint32_t slot = vtoc_find_slot(table, table_length, name);
  *   if (slot != 0 && vtoc_label_set_last_block(table + slot * VTOC_RECORD_LENGTH, vtoc_ttr(tt, r)) == VTOC_OK)
  *       .. write record slot back to the volume ..
- * vtoc_release stores a TTR too, and gives back the tracks behind it.
+ * vtoc_release stores a TTR too, and gives back tracks behind it.
  *
  * BUILD
  *   rt staticlib vtoc && cc -Iinclude examples/host.c target/staticlib/libvtoc.a -o target/host
@@ -86,8 +88,8 @@ extern "C" {
 
 /* ---- Version ------------------------------------------------------------------------------------------------------------ */
 
-#define VTOC_VERSION 200 /* of this header, 100 x major + minor: a new major number where a host must change, else a new minor */
-#define VTOC_REQUESTS 1  /* how many of document 02's requests are in, from the first on */
+#define VTOC_VERSION 300 /* of this header, 100 x major + minor: a new major number where a host must change, else a new minor */
+#define VTOC_REQUESTS 2  /* how many of document 02's requests are in, from the first on */
 
 /* ---- Lengths, in bytes unless said otherwise ---------------------------------------------------------------------------- */
 
@@ -210,8 +212,12 @@ uint32_t vtoc_extend(uint8_t *VTOC_RESTRICT table, size_t table_length, const ui
                      uint8_t *VTOC_RESTRICT answer, size_t answer_length);
 
 /*
- * Stores ttr (TT * 256 + R) as the last block and keeps the first TT + 1 tracks of the data set; the others are free again. The
- * answer has the tracks given back, which may be 0. TT 0, R 0 (an empty data set) keeps one track.
+ * Stores ttr (TT * 256 + R) as the last block and keeps the first TT + 1 tracks of the data set; TT 0, R 0 (an empty data set)
+ * keeps one. Of a cylinder file (allocated by VTOC_CYLINDERS: unit X'C0') it also keeps the tracks after these in the data set,
+ * from extent to extent, as long as each is the next on the volume and in the same cylinder. All others are free again. No track
+ * is added: where the data set has part of a cylinder, a part is kept. An extent that is cut gets type X'01'; one of type X'81' in
+ * a cylinder file keeps its type.
+ * The answer has the tracks given back, which may be 0. Take the number from there and the extents from vtoc_obtain, not from TT.
  * Refusals: 2, 3, 4, 5, 12, 11.
  */
 VTOC_NODISCARD

@@ -1,7 +1,7 @@
 /*
  * promises.c: what include/vtoc.h tells hosts they may do, done with the library. One buffer for two that are only read; a file
- * closed in the table; the space options; cylinder files that are released; the header's limits, its readers and other inline
- * functions on tables and labels that the library writes.
+ * closed in the table; the space options; what a release keeps; the header's limits, its readers and other inline functions on
+ * tables and labels that the library writes.
  *
  *   cc -std=c99 -Iinclude tests/promises.c target/staticlib/libvtoc.a -o target/promises && target/promises
  */
@@ -51,6 +51,11 @@ static uint32_t allocate_by(uint32_t option, const char *text, uint32_t kind, ui
 static uint32_t allocate(const char *text, uint32_t kind, uint32_t start, uint32_t amount, uint32_t secondary)
 {
     return allocate_by(VTOC_NO_OPTION, text, kind, start, amount, secondary);
+}
+
+static uint32_t extend(const char *text)
+{
+    return vtoc_extend(table, LENGTH, name_of(text), 44, answer, sizeof answer);
 }
 
 static uint32_t obtain(const char *text)
@@ -264,28 +269,123 @@ static void options_apart(void)
     CHECK(vtoc_allocate(copy, LENGTH, name_of("WORK"), 44, attributes, 52, VTOC_TRACKS, 0, 30, 20, VTOC_NO_OPTION, answer, 24)
           == VTOC_OK);
     CHECK(memcmp(table, copy, LENGTH) == 0 && memcmp(answer, other_answer, sizeof answer) == 0);
-    CHECK(vtoc_extend(table, LENGTH, name_of("WORK"), 44, answer, 24) == VTOC_OK && vtoc_answer_pieces(answer) == 2);
+    CHECK(extend("WORK") == VTOC_OK && vtoc_answer_pieces(answer) == 2);
 }
 
-/* ---- Cylinder files ------------------------------------------------------------------------------------------------------ */
+/* ---- What a release keeps ------------------------------------------------------------------------------------------------ */
 
-static int gives_back(const char *text, uint32_t tt, uint32_t tracks)
+/* The label of a data set, in the table. */
+static uint8_t *label_of(const char *text)
 {
-    return vtoc_release(table, LENGTH, name_of(text), 44, vtoc_ttr(tt, 1), answer, 24) == VTOC_OK
-           && vtoc_answer_tracks(answer) == tracks && vtoc_answer_pieces(answer) == 0;
+    uint32_t slot = vtoc_find_slot(table, LENGTH, name_of(text));
+    CHECK(slot != 0);
+    return table + slot * VTOC_RECORD_LENGTH;
 }
 
-/* A cylinder file keeps whole cylinders, and its extents their type; the others keep TT + 1 tracks. */
-static void whole_cylinders(void)
+/* As a table from elsewhere may have it: a data set with another unit than it was allocated by. */
+static void set_unit(const char *text, uint8_t unit)
+{
+    label_of(text)[VTOC_LABEL_UNIT] = unit;
+    CHECK(vtoc_lspace(table, LENGTH, answer, sizeof answer) == VTOC_OK);
+}
+
+static uint32_t release(const char *text, uint32_t tt, uint32_t r)
+{
+    return vtoc_release(table, LENGTH, name_of(text), 44, vtoc_ttr(tt, r), answer, sizeof answer);
+}
+
+/* Whether a release at TT, R gives back so many tracks, stores the TTR as it is, and leaves a last extent of this number, type,
+   first and last track. */
+static int gives_back(const char *text, uint32_t tt, uint32_t r, uint32_t tracks, uint32_t e, uint8_t type, uint32_t first,
+                      uint32_t last)
 {
     const uint8_t *extent;
+    if (release(text, tt, r) != VTOC_OK || vtoc_answer_tracks(answer) != tracks || vtoc_answer_pieces(answer) != 0)
+        return 0;
+    CHECK(obtain(text) == VTOC_OK);
+    extent = vtoc_label_extent(labels, e);
+    return vtoc_label_last_block(labels) == tt * 256 + r && labels[VTOC_LABEL_EXTENTS] == e + 1
+           && extent[VTOC_EXTENT_TYPE] == type && extent[VTOC_EXTENT_NUMBER] == e
+           && vtoc_track(extent + VTOC_EXTENT_FIRST, H) == first && vtoc_track(extent + VTOC_EXTENT_LAST, H) == last;
+}
+
+/* The volume of three data sets: FLT.A has tracks 1 to 4, FLT.B cylinders 2 and 3 (10 to 19), FLT.C absolute 100 to 108. */
+static void releases(void)
+{
+    /* The cylinder of the last block is kept to its end, and X'81' with it. */
     volume();
-    CHECK(gives_back("FLT.B", 7, 0) && gives_back("FLT.B", 4, 5) && gives_back("FLT.B", 1, 0));
-    CHECK(obtain("FLT.B") == VTOC_OK && labels[VTOC_LABEL_EXTENTS] == 1 && labels[VTOC_LABEL_UNIT] == 0xC0);
-    extent = vtoc_label_extent(labels, 0);
-    CHECK(extent[VTOC_EXTENT_TYPE] == 0x81 && vtoc_track(extent + VTOC_EXTENT_FIRST, H) % H == 0);
-    CHECK(vtoc_track(extent + VTOC_EXTENT_LAST, H) == vtoc_track(extent + VTOC_EXTENT_FIRST, H) + H - 1);
-    CHECK(gives_back("FLT.A", 1, 2) && gives_back("FLT.C", 2, 6));
+    CHECK(gives_back("FLT.B", 0, 0, 5, 0, 0x81, 10, 14));
+    for (uint32_t tt = 0; tt < 10; tt++) {
+        volume();
+        CHECK(gives_back("FLT.B", tt, 1, tt < 5 ? 5 : 0, 0, 0x81, 10, tt < 5 ? 14 : 19));
+    }
+    volume();
+    CHECK(release("FLT.B", 10, 1) == VTOC_E_TTR && release("FLT.B", 1, 0) == VTOC_E_TTR);
+
+    /* Where 0 tracks are given back, the TTR is all that changes. */
+    memcpy(copy, table, LENGTH);
+    CHECK(release("FLT.B", 5, 1) == VTOC_OK && vtoc_answer_tracks(answer) == 0);
+    CHECK(memcmp(table, copy, LENGTH) != 0);
+    CHECK(vtoc_label_set_last_block(label_of("FLT.B"), 0) == VTOC_OK && memcmp(table, copy, LENGTH) == 0);
+
+    /* A last block may lie on each track that was kept, and on none that was given back. */
+    CHECK(gives_back("FLT.B", 1, 3, 5, 0, 0x81, 10, 14) && gives_back("FLT.B", 4, 255, 0, 0, 0x81, 10, 14));
+    CHECK(release("FLT.B", 5, 1) == VTOC_E_TTR);
+
+    /* Tracks and absolute: the first TT + 1 alone. */
+    volume();
+    CHECK(gives_back("FLT.A", 1, 1, 2, 0, 0x01, 1, 2));
+    CHECK(gives_back("FLT.C", 0, 1, 8, 0, 0x01, 100, 100));
+
+    /* An extent of type X'81' in such a data set gets X'01', also where the cut ends a cylinder. */
+    volume();
+    set_unit("FLT.B", 0x80);
+    CHECK(gives_back("FLT.B", 9, 1, 0, 0, 0x81, 10, 19) && gives_back("FLT.B", 4, 1, 5, 0, 0x01, 10, 14));
+    CHECK(gives_back("FLT.B", 1, 1, 3, 0, 0x01, 10, 11));
+}
+
+/* A volume where PLOT has extents 11-12, 13 and 10, in one cylinder. */
+static void in_one_cylinder(uint8_t unit)
+{
+    CHECK(initialise() == VTOC_OK && allocate("LOW", VTOC_ABSOLUTE, 1, 6, 0) == VTOC_OK);
+    CHECK(allocate("NINE", VTOC_ABSOLUTE, 9, 1, 0) == VTOC_OK && allocate("TEN", VTOC_ABSOLUTE, 10, 1, 0) == VTOC_OK);
+    CHECK(allocate("HIGH", VTOC_ABSOLUTE, 14, 186, 0) == VTOC_OK && allocate("PLOT", VTOC_TRACKS, 0, 2, 1) == VTOC_OK);
+    CHECK(extend("PLOT") == VTOC_OK && vtoc_answer_start(answer, 0) == 13);
+    CHECK(vtoc_scratch(table, LENGTH, name_of("TEN"), 44, answer, sizeof answer) == VTOC_OK);
+    CHECK(extend("PLOT") == VTOC_OK && vtoc_answer_start(answer, 0) == 10);
+    set_unit("PLOT", unit);
+}
+
+/* By the list of the data set, from extent to extent. */
+static void releases_by_list(void)
+{
+    /* FLT.B grows by 20 to 24, in an extent of its own: another cylinder, which is not kept with the one before. */
+    volume();
+    CHECK(extend("FLT.B") == VTOC_OK && vtoc_answer_start(answer, 0) == 20);
+    CHECK(gives_back("FLT.B", 11, 1, 0, 1, 0x81, 20, 24) && gives_back("FLT.B", 7, 1, 5, 0, 0x81, 10, 19));
+
+    /* 13 follows 12, and 10 does not follow 13. */
+    in_one_cylinder(0xC0);
+    CHECK(gives_back("PLOT", 0, 1, 1, 1, 0x01, 13, 13));
+    in_one_cylinder(0xC0);
+    CHECK(gives_back("PLOT", 3, 1, 0, 2, 0x01, 10, 10));
+    in_one_cylinder(0x80);
+    CHECK(gives_back("PLOT", 0, 1, 3, 0, 0x01, 11, 11));
+
+    /* Extents 11 and 12-17: the cylinder ends with track 14, in the second. */
+    CHECK(initialise() == VTOC_OK && allocate("LOW", VTOC_ABSOLUTE, 1, 6, 0) == VTOC_OK);
+    CHECK(allocate("NINE", VTOC_ABSOLUTE, 9, 2, 0) == VTOC_OK && allocate("HIGH", VTOC_ABSOLUTE, 18, 182, 0) == VTOC_OK);
+    CHECK(allocate("PLOT", VTOC_TRACKS, 0, 1, 6) == VTOC_OK && vtoc_answer_start(answer, 0) == 11);
+    CHECK(extend("PLOT") == VTOC_OK && vtoc_answer_start(answer, 0) == 12);
+    set_unit("PLOT", 0xC0);
+    CHECK(gives_back("PLOT", 0, 1, 3, 1, 0x01, 12, 14));
+
+    /* 30 to 37, part of a cylinder at the end, as a release before version 300 left it: 38 and 39 are not taken. */
+    volume();
+    CHECK(allocate("OLD", VTOC_ABSOLUTE, 30, 8, 0) == VTOC_OK);
+    set_unit("OLD", 0xC0);
+    CHECK(gives_back("OLD", 5, 1, 0, 0, 0x01, 30, 37) && allocate("NEXT", VTOC_ABSOLUTE, 38, 2, 0) == VTOC_OK);
+    CHECK(gives_back("OLD", 1, 1, 3, 0, 0x01, 30, 34));
 }
 
 /* ---- Labels of sixteen extents, geometries, limits ----------------------------------------------------------------------- */
@@ -295,13 +395,12 @@ static void sixteen_extents(void)
     uint32_t starts[16], counts[16];
     volume();
     for (uint32_t e = 0; e < 16; e++) {
-        uint32_t result = e == 0 ? allocate("LONG", VTOC_TRACKS, 0, 5, 3)
-                                 : vtoc_extend(table, LENGTH, name_of("LONG"), 44, answer, sizeof answer);
+        uint32_t result = e == 0 ? allocate("LONG", VTOC_TRACKS, 0, 5, 3) : extend("LONG");
         CHECK(result == VTOC_OK && vtoc_answer_pieces(answer) == 1 && vtoc_answer_tracks(answer) == (e == 0 ? 5 : 3));
         starts[e] = vtoc_answer_start(answer, 0);
         counts[e] = vtoc_answer_count(answer, 0);
     }
-    CHECK(vtoc_extend(table, LENGTH, name_of("LONG"), 44, answer, sizeof answer) == VTOC_E_EXTENTS);
+    CHECK(extend("LONG") == VTOC_E_EXTENTS);
     CHECK(obtain("LONG") == VTOC_OK && labels[VTOC_LABEL_EXTENTS] == 16);
     CHECK(labels[VTOC_LABEL_ID] == 0xF1 && labels[VTOC_LABEL_UNIT] == 0x80 && labels[VTOC_LABEL_SECONDARY + 2] == 3);
     for (uint32_t e = 0; e < 16; e++) {
@@ -373,7 +472,8 @@ int main(void)
     closings();
     options();
     options_apart();
-    whole_cylinders();
+    releases();
+    releases_by_list();
     sixteen_extents();
     geometries();
     limits();

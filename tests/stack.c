@@ -37,7 +37,7 @@ static uint32_t allocate(unsigned number, uint32_t kind, uint32_t start, uint32_
                          VTOC_NO_OPTION, answer, sizeof answer);
 }
 
-static uint8_t one[VTOC_NAME_LENGTH], other[VTOC_NAME_LENGTH];
+static uint8_t one[VTOC_NAME_LENGTH], other[VTOC_NAME_LENGTH], plot[VTOC_NAME_LENGTH];
 
 static void *nothing(void *unused)
 {
@@ -83,15 +83,29 @@ static void *do_alx(void *unused)
     return unused;
 }
 
+static void extend(const uint8_t *name)
+{
+    result = vtoc_extend(table, sizeof table, name, VTOC_NAME_LENGTH, answer, sizeof answer);
+}
+
 static void *do_extend(void *unused)
 {
-    result = vtoc_extend(table, sizeof table, one, sizeof one, answer, sizeof answer);
+    extend(one);
     return unused;
 }
 
 static void *do_release(void *unused)
 {
     result = vtoc_release(table, sizeof table, one, sizeof one, 0x0101, answer, sizeof answer);
+    return unused;
+}
+
+/* A cylinder file of 15 extents, a cylinder each, of which the first is kept. */
+static void *do_release_plot(void *unused)
+{
+    result = vtoc_release(table, sizeof table, plot, sizeof plot, 0x0101, answer, sizeof answer);
+    if (result == VTOC_OK && vtoc_answer_tracks(answer) != 14 * HEADS)
+        result = 99;
     return unused;
 }
 
@@ -145,21 +159,25 @@ int main(void)
         void *(*work)(void *);
     } calls[] = {{"lspace", do_lspace},   {"obtain", do_obtain},   {"rename", do_rename},     {"extend", do_extend},
                  {"release", do_release}, {"scratch", do_scratch}, {"allocate", do_allocate}, {"CONTIG", do_contig},
-                 {"MXIG", do_mxig},       {"ALX", do_alx},         {"initialise", do_initialise}};
+                 {"MXIG", do_mxig},       {"ALX", do_alx},         {"cylinders", do_release_plot},
+                 {"initialise", do_initialise}};
     static uint8_t before[sizeof table];
     size_t base = used(nothing), most = 0;
 
-    /* The largest table: 400 data sets with a free track after each, the first of 16 extents. */
+    /* The largest table: 400 data sets with a free track after each, the first of 15 extents; and a cylinder file of 15. */
     do_initialise(NULL);
-    if (result != VTOC_OK || allocate(0, VTOC_TRACKS, 0, 300, 300) != VTOC_OK)
+    if (result != VTOC_OK || allocate(0, VTOC_TRACKS, 0, 300, 300) != VTOC_OK || allocate(998, VTOC_CYLINDERS, 0, 1, 1) != VTOC_OK)
         return 2;
     for (unsigned number = 1; number < 400; number++)
         if (allocate(number, VTOC_ABSOLUTE, 10000 + 2 * number, 1, 0) != VTOC_OK)
             return 2;
     make_name(one, 0);
+    make_name(plot, 998);
     make_name(other, 999);
     for (unsigned extents = 1; extents < 15; extents++) {
-        do_extend(NULL);
+        extend(one);
+        if (result == VTOC_OK)
+            extend(plot);
         if (result != VTOC_OK)
             return 2;
     }
