@@ -1,7 +1,8 @@
 #!/usr/bin/env python3
-"""make_cases.py DIR: crates/cases/specs/Sample.antt from what `cases` printed into DIR, with imports and one theorem each.
+"""make_cases.py DIR: specs/Sample.antt of crates cases and request_cases from what `cases` printed into DIR, with imports and one
+theorem each.
 
---check compares with the file that is checked in and changes nothing.
+--check compares with the files that are checked in and changes nothing.
 """
 import re, sys
 
@@ -9,6 +10,7 @@ IMPORTS = """use mathlib.Core.List.{List, [], _∷_}
 use lib.Dec.{T}
 use Rattle.model.specs.Choice.{choose}
 use Rattle.model.specs.Model.{format0s, free, gaps, held, unused, used}
+use Rattle.model.specs.Tracks.{tracksKept}
 use Rattle.rules.specs.Calls.{allocate, extend, grant, lspace, obtain, release, rename, request, rule, scratch}
 use Rattle.rules.specs.Entries.{goodLengths, initialise, perform}
 use Rattle.rules.specs.Layout.{encode, extentPart, format1, format3, format4, format5, records}
@@ -16,12 +18,12 @@ use Rattle.rules.specs.Listing.{listing, printable}
 use Rattle.rules.specs.Reading.{read, readExtents, readGeometry, readLabel, readRecords}
 use Rattle.rules.specs.Slots.{settle}
 use Rattle.rules.specs.Table.{goodLabel, goodLength, goodName, limits, taken, valid}
-use Rattle.cases.specs.Check.{Row, attr, attrN, begin, beginSized, build, hurt, listed, nm, no, ok, okLabels, parts, put, raw, right, sized}"""
+use Rattle.case_rows.specs.Check.{Row, attr, attrN, begin, beginSized, build, hurt, listed, nm, no, ok, okLabels, parts, put, raw, right, sized}"""
 UNFOLDED = """held gaps free used unused format0s choose extentPart format4 format5 format1 format3 records encode
-readGeometry readExtents readLabel readRecords read goodName limits goodLabel valid taken goodLength settle grant rule
+readGeometry readExtents readLabel readRecords read goodName limits goodLabel valid taken goodLength settle grant tracksKept rule
 goodLengths perform initialise printable listing""".replace("\n", " ")
 LONG = 45  # rows: more would pass the checker's limit of steps, so the first calls of such a sequence become one row
-TARGET = "crates/cases/specs/Sample.antt"
+REQUESTS = 31  # the first sequence of document 02: the sequences are in two crates, so that each is computed within a minute
 
 
 def shortened(block):
@@ -42,20 +44,30 @@ def shortened(block):
     return head + "\n    ∷ ".join([first] + rows[len(calls) + 1 :]) + "\n"
 
 
+def imports(text):
+    """The imports, without names that the text does not use."""
+    used = set(re.findall(r"[^\s(){},]+", text))
+    lines = [(head, [name for name in names.split(", ") if name in used or name.startswith("_")]) for head, names in re.findall(r"(.*)\{(.*)\}", IMPORTS)]
+    return "\n".join(f"{head}{{{', '.join(names)}}}" for head, names in lines if names)
+
+
 def main():
-    text = open(sys.argv[1] + "/Sample.antt").read().replace("-- IMPORTS", IMPORTS).replace(" , ", ", ")
-    out = []
-    for block in re.split(r"(?=\n(?:-- [^\n]*\n)*abbrev pub sequence)", text):
-        out.append(shortened(block).rstrip("\n"))
-        m = re.search(r"abbrev pub (sequence(\d+))", block)
-        if m:
-            out.append(f"\npub case{m.group(2)} : T (right [] {m.group(1)})\nunfolding {UNFOLDED}\ncase{m.group(2)} = tt")
-    text = "\n".join(out) + "\n"
-    if "--check" in sys.argv:
-        if open(TARGET).read() != text:
-            sys.exit(f"{TARGET} is not what tests/src/bin/cases.rs makes: run cargo run --bin cases -- DIR and tests/make_cases.py DIR")
-    else:
-        open(TARGET, "w").write(text)
+    text = open(sys.argv[1] + "/Sample.antt").read().replace(" , ", ", ")
+    head, *blocks = re.split(r"\n\n(?=(?:-- [^\n]*\n)+abbrev pub sequence)", text)
+    samples = {"cases": "", "request_cases": ""}
+    for block in blocks:
+        name, number = re.search(r"abbrev pub (sequence(\d+))", block).groups()
+        theorem = f"\npub case{number} : T (right [] {name})\nunfolding {UNFOLDED}\ncase{number} = tt"
+        block = shortened(block).replace("\nabbrev pub", "\n\nabbrev pub").rstrip("\n")
+        samples["cases" if int(number) < REQUESTS else "request_cases"] += f"\n{block}\n{theorem}\n"
+    for crate, sample in samples.items():
+        target = f"crates/{crate}/specs/Sample.antt"
+        text = head.replace("-- IMPORTS", imports(sample)) + "\n" + sample
+        if "--check" in sys.argv:
+            if open(target).read() != text:
+                sys.exit(f"{target} is not what tests/src/bin/cases.rs makes: run cargo run --bin cases -- DIR and tests/make_cases.py DIR")
+        else:
+            open(target, "w").write(text)
 
 
 main()

@@ -3,6 +3,7 @@ use mathlib.Core.List.{List, [], _∷_}
 use lib.Dec.{T}
 use Rattle.model.specs.Choice.{choose}
 use Rattle.model.specs.Model.{format0s, free, gaps, held, unused, used}
+use Rattle.model.specs.Tracks.{tracksKept}
 use Rattle.rules.specs.Calls.{allocate, extend, grant, lspace, obtain, release, rename, request, rule, scratch}
 use Rattle.rules.specs.Entries.{goodLengths, initialise, perform}
 use Rattle.rules.specs.Layout.{encode, extentPart, format1, format3, format4, format5, records}
@@ -10,7 +11,7 @@ use Rattle.rules.specs.Listing.{listing, printable}
 use Rattle.rules.specs.Reading.{read, readExtents, readGeometry, readLabel, readRecords}
 use Rattle.rules.specs.Slots.{settle}
 use Rattle.rules.specs.Table.{goodLabel, goodLength, goodName, limits, taken, valid}
-use Rattle.cases.specs.Check.{Row, attr, attrN, begin, beginSized, build, hurt, listed, nm, no, ok, okLabels, parts, raw, right, sized}
+use Rattle.case_rows.specs.Check.{Row, attr, attrN, begin, beginSized, build, hurt, listed, nm, no, ok, okLabels, parts, raw, right, sized}
 
 -- Volume A, step by step; after step 3, damaged copies of it
 
@@ -73,7 +74,7 @@ sequence1 =
     ∷ []
 
 pub case1 : T (right [] sequence1)
-unfolding held gaps free used unused format0s choose extentPart format4 format5 format1 format3 records encode readGeometry readExtents readLabel readRecords read goodName limits goodLabel valid taken goodLength settle grant rule goodLengths perform initialise printable listing
+unfolding held gaps free used unused format0s choose extentPart format4 format5 format1 format3 records encode readGeometry readExtents readLabel readRecords read goodName limits goodLabel valid taken goodLength settle grant tracksKept rule goodLengths perform initialise printable listing
 case1 = tt
 
 -- Geometries refused, and a table that is not there
@@ -96,7 +97,7 @@ sequence2 =
     ∷ []
 
 pub case2 : T (right [] sequence2)
-unfolding held gaps free used unused format0s choose extentPart format4 format5 format1 format3 records encode readGeometry readExtents readLabel readRecords read goodName limits goodLabel valid taken goodLength settle grant rule goodLengths perform initialise printable listing
+unfolding held gaps free used unused format0s choose extentPart format4 format5 format1 format3 records encode readGeometry readExtents readLabel readRecords read goodName limits goodLabel valid taken goodLength settle grant tracksKept rule goodLengths perform initialise printable listing
 case2 = tt
 
 -- H = 1, D = 1, the VTOC from track 2
@@ -110,16 +111,16 @@ sequence3 =
     ∷ ok lspace 0x1000000000000000000000000 0x10252DF0E2A22661
     ∷ no (extend (nm (0xC1 ∷ []))) 9
     ∷ no (allocate (request (nm (0xC3 ∷ [])) (attr 6) 0 0 1 0 0)) 9
-    ∷ ok (release (nm (0xC2 ∷ [])) 0x101) 0x200000000000000000000000000000000000000000000 0xC493139870401B
-    ∷ ok (extend (nm (0xC2 ∷ []))) 0x101000100010000000000000000000000000000000000 0xCD0A30A45DDFC9A
-    ∷ ok (extend (nm (0xC1 ∷ []))) 0x101000B00010000000000000000000000000000000000 0xA5050682FC298EF
+    ∷ ok (release (nm (0xC2 ∷ [])) 0x101) 0x200000000000000000000000000000000000000000000 0xF381483CC3428C1
+    ∷ ok (extend (nm (0xC2 ∷ []))) 0x101000100010000000000000000000000000000000000 0x1B44247A79A1E540
+    ∷ ok (extend (nm (0xC1 ∷ []))) 0x101000B00010000000000000000000000000000000000 0x18C3D1D863868195
     ∷ ok (scratch (nm (0xC2 ∷ []))) 0x300000000000000000000000000000000000000000000 0x9EAB03AF702EF1C
     ∷ okLabels (obtain (nm (0xC1 ∷ []))) 0x0 0x9EAB03AF702EF1C 0xAE6476E55C8EAE3
     ∷ ok (allocate (request (nm (0xE9 ∷ [])) (attr 12) 0 0 3 0 0)) 0x302000900020001000100000000000000000000000000 0xD30EF36DA8A5B9F
     ∷ []
 
 pub case3 : T (right [] sequence3)
-unfolding held gaps free used unused format0s choose extentPart format4 format5 format1 format3 records encode readGeometry readExtents readLabel readRecords read goodName limits goodLabel valid taken goodLength settle grant rule goodLengths perform initialise printable listing
+unfolding held gaps free used unused format0s choose extentPart format4 format5 format1 format3 records encode readGeometry readExtents readLabel readRecords read goodName limits goodLabel valid taken goodLength settle grant tracksKept rule goodLengths perform initialise printable listing
 case3 = tt
 
 -- The VTOC in the middle of the volume, from inside a cylinder
@@ -141,7 +142,7 @@ sequence4 =
     ∷ []
 
 pub case4 : T (right [] sequence4)
-unfolding held gaps free used unused format0s choose extentPart format4 format5 format1 format3 records encode readGeometry readExtents readLabel readRecords read goodName limits goodLabel valid taken goodLength settle grant rule goodLengths perform initialise printable listing
+unfolding held gaps free used unused format0s choose extentPart format4 format5 format1 format3 records encode readGeometry readExtents readLabel readRecords read goodName limits goodLabel valid taken goodLength settle grant tracksKept rule goodLengths perform initialise printable listing
 case4 = tt
 
 -- Nothing free at all
@@ -160,7 +161,7 @@ sequence5 =
     ∷ []
 
 pub case5 : T (right [] sequence5)
-unfolding held gaps free used unused format0s choose extentPart format4 format5 format1 format3 records encode readGeometry readExtents readLabel readRecords read goodName limits goodLabel valid taken goodLength settle grant rule goodLengths perform initialise printable listing
+unfolding held gaps free used unused format0s choose extentPart format4 format5 format1 format3 records encode readGeometry readExtents readLabel readRecords read goodName limits goodLabel valid taken goodLength settle grant tracksKept rule goodLengths perform initialise printable listing
 case5 = tt
 
 -- Three records: one set, and the VTOC is full
@@ -181,7 +182,7 @@ sequence6 =
     ∷ []
 
 pub case6 : T (right [] sequence6)
-unfolding held gaps free used unused format0s choose extentPart format4 format5 format1 format3 records encode readGeometry readExtents readLabel readRecords read goodName limits goodLabel valid taken goodLength settle grant rule goodLengths perform initialise printable listing
+unfolding held gaps free used unused format0s choose extentPart format4 format5 format1 format3 records encode readGeometry readExtents readLabel readRecords read goodName limits goodLabel valid taken goodLength settle grant tracksKept rule goodLengths perform initialise printable listing
 case6 = tt
 
 -- Slots on several tracks; the lowest free one is taken
@@ -201,7 +202,7 @@ sequence7 =
     ∷ []
 
 pub case7 : T (right [] sequence7)
-unfolding held gaps free used unused format0s choose extentPart format4 format5 format1 format3 records encode readGeometry readExtents readLabel readRecords read goodName limits goodLabel valid taken goodLength settle grant rule goodLengths perform initialise printable listing
+unfolding held gaps free used unused format0s choose extentPart format4 format5 format1 format3 records encode readGeometry readExtents readLabel readRecords read goodName limits goodLabel valid taken goodLength settle grant tracksKept rule goodLengths perform initialise printable listing
 case7 = tt
 
 -- The shortest that fits, the lowest on ties, its first part
@@ -223,7 +224,7 @@ sequence8 =
     ∷ []
 
 pub case8 : T (right [] sequence8)
-unfolding held gaps free used unused format0s choose extentPart format4 format5 format1 format3 records encode readGeometry readExtents readLabel readRecords read goodName limits goodLabel valid taken goodLength settle grant rule goodLengths perform initialise printable listing
+unfolding held gaps free used unused format0s choose extentPart format4 format5 format1 format3 records encode readGeometry readExtents readLabel readRecords read goodName limits goodLabel valid taken goodLength settle grant tracksKept rule goodLengths perform initialise printable listing
 case8 = tt
 
 -- Two to five pieces, the longest first; six holes are too many
@@ -248,7 +249,7 @@ sequence9 =
     ∷ []
 
 pub case9 : T (right [] sequence9)
-unfolding held gaps free used unused format0s choose extentPart format4 format5 format1 format3 records encode readGeometry readExtents readLabel readRecords read goodName limits goodLabel valid taken goodLength settle grant rule goodLengths perform initialise printable listing
+unfolding held gaps free used unused format0s choose extentPart format4 format5 format1 format3 records encode readGeometry readExtents readLabel readRecords read goodName limits goodLabel valid taken goodLength settle grant tracksKept rule goodLengths perform initialise printable listing
 case9 = tt
 
 -- Extend in two to five pieces
@@ -278,7 +279,7 @@ sequence10 =
     ∷ []
 
 pub case10 : T (right [] sequence10)
-unfolding held gaps free used unused format0s choose extentPart format4 format5 format1 format3 records encode readGeometry readExtents readLabel readRecords read goodName limits goodLabel valid taken goodLength settle grant rule goodLengths perform initialise printable listing
+unfolding held gaps free used unused format0s choose extentPart format4 format5 format1 format3 records encode readGeometry readExtents readLabel readRecords read goodName limits goodLabel valid taken goodLength settle grant tracksKept rule goodLengths perform initialise printable listing
 case10 = tt
 
 -- Sixteen extents and no more
@@ -308,7 +309,7 @@ sequence11 =
     ∷ []
 
 pub case11 : T (right [] sequence11)
-unfolding held gaps free used unused format0s choose extentPart format4 format5 format1 format3 records encode readGeometry readExtents readLabel readRecords read goodName limits goodLabel valid taken goodLength settle grant rule goodLengths perform initialise printable listing
+unfolding held gaps free used unused format0s choose extentPart format4 format5 format1 format3 records encode readGeometry readExtents readLabel readRecords read goodName limits goodLabel valid taken goodLength settle grant tracksKept rule goodLengths perform initialise printable listing
 case11 = tt
 
 -- Cylinders are whole ones, compared in cylinders
@@ -327,13 +328,13 @@ sequence12 =
     ∷ no (extend (nm (0xC1 ∷ []))) 9
     ∷ ok (release (nm (0xC1 ∷ [])) 0x1301) 0x400000000000000000000000000000000000000000000 0x73C4F2BB80E5B72
     ∷ ok (extend (nm (0xC1 ∷ []))) 0x401001000040000000000000000000000000000000000 0x1EBB427AA992C495
-    ∷ ok (release (nm (0xC1 ∷ [])) 0x901) 0xE00000000000000000000000000000000000000000000 0x16C041A02215235C
-    ∷ ok (allocate (request (nm (0xC2 ∷ [])) (attr 13) 1 0 1 0 0)) 0x401000800040000000000000000000000000000000000 0x17DEA606DC1AC140
-    ∷ ok (allocate (request (nm (0xC3 ∷ [])) (attr 14) 1 0 2 0 0)) 0x80200100004002C000400000000000000000000000000 0x1914D57B2151FE89
+    ∷ ok (release (nm (0xC1 ∷ [])) 0x901) 0xC00000000000000000000000000000000000000000000 0x4562D250016FA95
+    ∷ ok (allocate (request (nm (0xC2 ∷ [])) (attr 13) 1 0 1 0 0)) 0x401000800040000000000000000000000000000000000 0x574918BBA1C9879
+    ∷ ok (allocate (request (nm (0xC3 ∷ [])) (attr 14) 1 0 2 0 0)) 0x80200100004002C000400000000000000000000000000 0x1D2E5F2CCBC8F989
     ∷ []
 
 pub case12 : T (right [] sequence12)
-unfolding held gaps free used unused format0s choose extentPart format4 format5 format1 format3 records encode readGeometry readExtents readLabel readRecords read goodName limits goodLabel valid taken goodLength settle grant rule goodLengths perform initialise printable listing
+unfolding held gaps free used unused format0s choose extentPart format4 format5 format1 format3 records encode readGeometry readExtents readLabel readRecords read goodName limits goodLabel valid taken goodLength settle grant tracksKept rule goodLengths perform initialise printable listing
 case12 = tt
 
 -- Absolute tracks in every place of a free extent
@@ -355,7 +356,7 @@ sequence13 =
     ∷ []
 
 pub case13 : T (right [] sequence13)
-unfolding held gaps free used unused format0s choose extentPart format4 format5 format1 format3 records encode readGeometry readExtents readLabel readRecords read goodName limits goodLabel valid taken goodLength settle grant rule goodLengths perform initialise printable listing
+unfolding held gaps free used unused format0s choose extentPart format4 format5 format1 format3 records encode readGeometry readExtents readLabel readRecords read goodName limits goodLabel valid taken goodLength settle grant tracksKept rule goodLengths perform initialise printable listing
 case13 = tt
 
 -- Release inside and at the end of an extent, with and without its format 3
@@ -370,18 +371,18 @@ sequence14 =
     ∷ ok (extend (nm (0xC1 ∷ []))) 0x501001E00050000000000000000000000000000000000 0x45363AE422423B7
     ∷ okLabels (obtain (nm (0xC1 ∷ []))) 0x0 0x45363AE422423B7 0x186AED5F53C0849A
     ∷ ok (release (nm (0xC1 ∷ [])) 0x1801) 0x500000000000000000000000000000000000000000000 0x18BC37C03B9D753B
-    ∷ ok (release (nm (0xC1 ∷ [])) 0x15FF) 0x300000000000000000000000000000000000000000000 0x33716FE48821D2D
-    ∷ ok (release (nm (0xC1 ∷ [])) 0x1009) 0x500000000000000000000000000000000000000000000 0x19A710EA608DFAAB
-    ∷ okLabels (obtain (nm (0xC1 ∷ []))) 0x0 0x19A710EA608DFAAB 0x1F91A499593FD82C
-    ∷ ok (release (nm (0xC1 ∷ [])) 0x401) 0xC00000000000000000000000000000000000000000000 0x1BA4DCF15AD3A6C0
+    ∷ ok (release (nm (0xC1 ∷ [])) 0x15FF) 0x0 0x9828A130A36005A
+    ∷ ok (release (nm (0xC1 ∷ [])) 0x1009) 0x500000000000000000000000000000000000000000000 0x6FF6A596B4089F7
+    ∷ okLabels (obtain (nm (0xC1 ∷ []))) 0x0 0x6FF6A596B4089F7 0x1C1125C554227D05
+    ∷ ok (release (nm (0xC1 ∷ [])) 0x401) 0xF00000000000000000000000000000000000000000000 0xE312EB78CC798E6
     ∷ no (release (nm (0xC1 ∷ [])) 0x100) 12
-    ∷ ok (release (nm (0xC1 ∷ [])) 0x0) 0x400000000000000000000000000000000000000000000 0xB56314B4C198CEE
-    ∷ ok (extend (nm (0xC1 ∷ []))) 0x501000A00050000000000000000000000000000000000 0xB7FDD242539FEA6
-    ∷ ok (release (nm (0xC1 ∷ [])) 0x501) 0x0 0xA9FEC38758815FE
+    ∷ ok (release (nm (0xC1 ∷ [])) 0x0) 0x0 0x8C550D5ADAAF41B
+    ∷ ok (extend (nm (0xC1 ∷ []))) 0x501000A00050000000000000000000000000000000000 0xC51D590F6B9BABC
+    ∷ ok (release (nm (0xC1 ∷ [])) 0x501) 0x0 0xB71E4A54707D214
     ∷ []
 
 pub case14 : T (right [] sequence14)
-unfolding held gaps free used unused format0s choose extentPart format4 format5 format1 format3 records encode readGeometry readExtents readLabel readRecords read goodName limits goodLabel valid taken goodLength settle grant rule goodLengths perform initialise printable listing
+unfolding held gaps free used unused format0s choose extentPart format4 format5 format1 format3 records encode readGeometry readExtents readLabel readRecords read goodName limits goodLabel valid taken goodLength settle grant tracksKept rule goodLengths perform initialise printable listing
 case14 = tt
 
 -- Lengths of every buffer
@@ -415,7 +416,7 @@ sequence15 =
     ∷ []
 
 pub case15 : T (right [] sequence15)
-unfolding held gaps free used unused format0s choose extentPart format4 format5 format1 format3 records encode readGeometry readExtents readLabel readRecords read goodName limits goodLabel valid taken goodLength settle grant rule goodLengths perform initialise printable listing
+unfolding held gaps free used unused format0s choose extentPart format4 format5 format1 format3 records encode readGeometry readExtents readLabel readRecords read goodName limits goodLabel valid taken goodLength settle grant tracksKept rule goodLengths perform initialise printable listing
 case15 = tt
 
 -- Names against the rule
@@ -446,7 +447,7 @@ sequence16 =
     ∷ []
 
 pub case16 : T (right [] sequence16)
-unfolding held gaps free used unused format0s choose extentPart format4 format5 format1 format3 records encode readGeometry readExtents readLabel readRecords read goodName limits goodLabel valid taken goodLength settle grant rule goodLengths perform initialise printable listing
+unfolding held gaps free used unused format0s choose extentPart format4 format5 format1 format3 records encode readGeometry readExtents readLabel readRecords read goodName limits goodLabel valid taken goodLength settle grant tracksKept rule goodLengths perform initialise printable listing
 case16 = tt
 
 -- Kinds, amounts and TTRs out of their ranges
@@ -483,7 +484,7 @@ sequence17 =
     ∷ []
 
 pub case17 : T (right [] sequence17)
-unfolding held gaps free used unused format0s choose extentPart format4 format5 format1 format3 records encode readGeometry readExtents readLabel readRecords read goodName limits goodLabel valid taken goodLength settle grant rule goodLengths perform initialise printable listing
+unfolding held gaps free used unused format0s choose extentPart format4 format5 format1 format3 records encode readGeometry readExtents readLabel readRecords read goodName limits goodLabel valid taken goodLength settle grant tracksKept rule goodLengths perform initialise printable listing
 case17 = tt
 
 -- Where several refusals apply, the first of them
@@ -519,7 +520,7 @@ sequence18 =
     ∷ []
 
 pub case18 : T (right [] sequence18)
-unfolding held gaps free used unused format0s choose extentPart format4 format5 format1 format3 records encode readGeometry readExtents readLabel readRecords read goodName limits goodLabel valid taken goodLength settle grant rule goodLengths perform initialise printable listing
+unfolding held gaps free used unused format0s choose extentPart format4 format5 format1 format3 records encode readGeometry readExtents readLabel readRecords read goodName limits goodLabel valid taken goodLength settle grant tracksKept rule goodLengths perform initialise printable listing
 case18 = tt
 
 -- Damaged tables with a format 3
@@ -556,7 +557,7 @@ sequence19 =
     ∷ []
 
 pub case19 : T (right [] sequence19)
-unfolding held gaps free used unused format0s choose extentPart format4 format5 format1 format3 records encode readGeometry readExtents readLabel readRecords read goodName limits goodLabel valid taken goodLength settle grant rule goodLengths perform initialise printable listing
+unfolding held gaps free used unused format0s choose extentPart format4 format5 format1 format3 records encode readGeometry readExtents readLabel readRecords read goodName limits goodLabel valid taken goodLength settle grant tracksKept rule goodLengths perform initialise printable listing
 case19 = tt
 
 -- 26 free extents and more, and a full VTOC
@@ -628,7 +629,7 @@ sequence20 =
     ∷ []
 
 pub case20 : T (right [] sequence20)
-unfolding held gaps free used unused format0s choose extentPart format4 format5 format1 format3 records encode readGeometry readExtents readLabel readRecords read goodName limits goodLabel valid taken goodLength settle grant rule goodLengths perform initialise printable listing
+unfolding held gaps free used unused format0s choose extentPart format4 format5 format1 format3 records encode readGeometry readExtents readLabel readRecords read goodName limits goodLabel valid taken goodLength settle grant tracksKept rule goodLengths perform initialise printable listing
 case20 = tt
 
 -- Random calls, H = 3
@@ -651,7 +652,7 @@ sequence21 =
     ∷ []
 
 pub case21 : T (right [] sequence21)
-unfolding held gaps free used unused format0s choose extentPart format4 format5 format1 format3 records encode readGeometry readExtents readLabel readRecords read goodName limits goodLabel valid taken goodLength settle grant rule goodLengths perform initialise printable listing
+unfolding held gaps free used unused format0s choose extentPart format4 format5 format1 format3 records encode readGeometry readExtents readLabel readRecords read goodName limits goodLabel valid taken goodLength settle grant tracksKept rule goodLengths perform initialise printable listing
 case21 = tt
 
 -- Random calls, H = 5
@@ -664,17 +665,17 @@ sequence22 =
     ∷ ok (allocate (request (nm (0xC9 ∷ 0xC1 ∷ 0xF5 ∷ 0x4B ∷ 0xD9 ∷ 0xD9 ∷ 0xD1 ∷ 0xE2 ∷ [])) (attr 233) 1 0 3 0 0)) 0xF010005000F0000000000000000000000000000000000 0x1FD3CA4A18C765F4
     ∷ no (extend (nm (0xC9 ∷ 0xC1 ∷ 0xF5 ∷ 0x4B ∷ 0xD9 ∷ 0xD9 ∷ 0xD1 ∷ 0xE2 ∷ []))) 8
     ∷ no (extend (nm (0xC9 ∷ 0xC1 ∷ 0xF5 ∷ 0x4B ∷ 0xD9 ∷ 0xD9 ∷ 0xD1 ∷ 0xE2 ∷ []))) 8
-    ∷ ok (release (nm (0xC9 ∷ 0xC1 ∷ 0xF5 ∷ 0x4B ∷ 0xD9 ∷ 0xD9 ∷ 0xD1 ∷ 0xE2 ∷ [])) 0x501) 0x900000000000000000000000000000000000000000000 0xDDBF978BB8D408A
+    ∷ ok (release (nm (0xC9 ∷ 0xC1 ∷ 0xF5 ∷ 0x4B ∷ 0xD9 ∷ 0xD9 ∷ 0xD1 ∷ 0xE2 ∷ [])) 0x501) 0x500000000000000000000000000000000000000000000 0xE7A839A3DEBC40B
     ∷ no (extend (nm (0xC9 ∷ 0xC1 ∷ 0xF5 ∷ 0x4B ∷ 0xD9 ∷ 0xD9 ∷ 0xD1 ∷ 0xE2 ∷ []))) 8
     ∷ no (extend (nm (0xC9 ∷ 0xC1 ∷ 0xF5 ∷ 0x4B ∷ 0xD9 ∷ 0xD9 ∷ 0xD1 ∷ 0xE2 ∷ []))) 8
     ∷ hurt ((276, 0x04) ∷ (279, 0x02) ∷ []) (allocate (request (nm (0xE9 ∷ 0xE9 ∷ 0xF0 ∷ [])) (attr 26) 1 0 1 0 0)) 3
-    ∷ okLabels (obtain (nm (0xC9 ∷ 0xF0 ∷ 0x60 ∷ 0x60 ∷ 0x4B ∷ 0xC9 ∷ 0xC1 ∷ 0xF0 ∷ 0x4B ∷ 0x7C ∷ 0x7C ∷ []))) 0x0 0xDDBF978BB8D408A 0x14577367AAD94A08
-    ∷ okLabels (obtain (nm (0xC9 ∷ 0xF0 ∷ 0x60 ∷ 0x60 ∷ 0x4B ∷ 0xC9 ∷ 0xC1 ∷ 0xF0 ∷ 0x4B ∷ 0x7C ∷ 0x7C ∷ []))) 0x0 0xDDBF978BB8D408A 0x14577367AAD94A08
+    ∷ okLabels (obtain (nm (0xC9 ∷ 0xF0 ∷ 0x60 ∷ 0x60 ∷ 0x4B ∷ 0xC9 ∷ 0xC1 ∷ 0xF0 ∷ 0x4B ∷ 0x7C ∷ 0x7C ∷ []))) 0x0 0xE7A839A3DEBC40B 0x14577367AAD94A08
+    ∷ okLabels (obtain (nm (0xC9 ∷ 0xF0 ∷ 0x60 ∷ 0x60 ∷ 0x4B ∷ 0xC9 ∷ 0xC1 ∷ 0xF0 ∷ 0x4B ∷ 0x7C ∷ 0x7C ∷ []))) 0x0 0xE7A839A3DEBC40B 0x14577367AAD94A08
     ∷ no (extend (nm (0xC9 ∷ 0xC1 ∷ 0xF5 ∷ 0x4B ∷ 0xD9 ∷ 0xD9 ∷ 0xD1 ∷ 0xE2 ∷ []))) 8
     ∷ []
 
 pub case22 : T (right [] sequence22)
-unfolding held gaps free used unused format0s choose extentPart format4 format5 format1 format3 records encode readGeometry readExtents readLabel readRecords read goodName limits goodLabel valid taken goodLength settle grant rule goodLengths perform initialise printable listing
+unfolding held gaps free used unused format0s choose extentPart format4 format5 format1 format3 records encode readGeometry readExtents readLabel readRecords read goodName limits goodLabel valid taken goodLength settle grant tracksKept rule goodLengths perform initialise printable listing
 case22 = tt
 
 -- X'81' starts a cylinder and ends one
@@ -693,7 +694,7 @@ sequence23 =
     ∷ []
 
 pub case23 : T (right [] sequence23)
-unfolding held gaps free used unused format0s choose extentPart format4 format5 format1 format3 records encode readGeometry readExtents readLabel readRecords read goodName limits goodLabel valid taken goodLength settle grant rule goodLengths perform initialise printable listing
+unfolding held gaps free used unused format0s choose extentPart format4 format5 format1 format3 records encode readGeometry readExtents readLabel readRecords read goodName limits goodLabel valid taken goodLength settle grant tracksKept rule goodLengths perform initialise printable listing
 case23 = tt
 
 -- First characters, and those beside them
@@ -730,7 +731,7 @@ sequence24 =
     ∷ []
 
 pub case24 : T (right [] sequence24)
-unfolding held gaps free used unused format0s choose extentPart format4 format5 format1 format3 records encode readGeometry readExtents readLabel readRecords read goodName limits goodLabel valid taken goodLength settle grant rule goodLengths perform initialise printable listing
+unfolding held gaps free used unused format0s choose extentPart format4 format5 format1 format3 records encode readGeometry readExtents readLabel readRecords read goodName limits goodLabel valid taken goodLength settle grant tracksKept rule goodLengths perform initialise printable listing
 case24 = tt
 
 -- Later characters, and those beside them; a period that ends 44 bytes
@@ -763,7 +764,7 @@ sequence25 =
     ∷ []
 
 pub case25 : T (right [] sequence25)
-unfolding held gaps free used unused format0s choose extentPart format4 format5 format1 format3 records encode readGeometry readExtents readLabel readRecords read goodName limits goodLabel valid taken goodLength settle grant rule goodLengths perform initialise printable listing
+unfolding held gaps free used unused format0s choose extentPart format4 format5 format1 format3 records encode readGeometry readExtents readLabel readRecords read goodName limits goodLabel valid taken goodLength settle grant tracksKept rule goodLengths perform initialise printable listing
 case25 = tt
 
 -- Amounts and secondary amounts at their limits
@@ -787,7 +788,7 @@ sequence26 =
     ∷ []
 
 pub case26 : T (right [] sequence26)
-unfolding held gaps free used unused format0s choose extentPart format4 format5 format1 format3 records encode readGeometry readExtents readLabel readRecords read goodName limits goodLabel valid taken goodLength settle grant rule goodLengths perform initialise printable listing
+unfolding held gaps free used unused format0s choose extentPart format4 format5 format1 format3 records encode readGeometry readExtents readLabel readRecords read goodName limits goodLabel valid taken goodLength settle grant tracksKept rule goodLengths perform initialise printable listing
 case26 = tt
 
 -- Initialise with buffers of other lengths; tables of 2, 468 and 469 records
@@ -808,7 +809,7 @@ sequence27 =
     ∷ []
 
 pub case27 : T (right [] sequence27)
-unfolding held gaps free used unused format0s choose extentPart format4 format5 format1 format3 records encode readGeometry readExtents readLabel readRecords read goodName limits goodLabel valid taken goodLength settle grant rule goodLengths perform initialise printable listing
+unfolding held gaps free used unused format0s choose extentPart format4 format5 format1 format3 records encode readGeometry readExtents readLabel readRecords read goodName limits goodLabel valid taken goodLength settle grant tracksKept rule goodLengths perform initialise printable listing
 case27 = tt
 
 -- Listings: all 41 characters of names; tables that are refused
@@ -828,7 +829,7 @@ sequence28 =
     ∷ []
 
 pub case28 : T (right [] sequence28)
-unfolding held gaps free used unused format0s choose extentPart format4 format5 format1 format3 records encode readGeometry readExtents readLabel readRecords read goodName limits goodLabel valid taken goodLength settle grant rule goodLengths perform initialise printable listing
+unfolding held gaps free used unused format0s choose extentPart format4 format5 format1 format3 records encode readGeometry readExtents readLabel readRecords read goodName limits goodLabel valid taken goodLength settle grant tracksKept rule goodLengths perform initialise printable listing
 case28 = tt
 
 -- A listing with numbers of four and of five digits
@@ -840,7 +841,7 @@ sequence29 =
     ∷ []
 
 pub case29 : T (right [] sequence29)
-unfolding held gaps free used unused format0s choose extentPart format4 format5 format1 format3 records encode readGeometry readExtents readLabel readRecords read goodName limits goodLabel valid taken goodLength settle grant rule goodLengths perform initialise printable listing
+unfolding held gaps free used unused format0s choose extentPart format4 format5 format1 format3 records encode readGeometry readExtents readLabel readRecords read goodName limits goodLabel valid taken goodLength settle grant tracksKept rule goodLengths perform initialise printable listing
 case29 = tt
 
 -- The ten bytes of an extent, or none
@@ -858,150 +859,5 @@ sequence30 =
     ∷ []
 
 pub case30 : T (right [] sequence30)
-unfolding held gaps free used unused format0s choose extentPart format4 format5 format1 format3 records encode readGeometry readExtents readLabel readRecords read goodName limits goodLabel valid taken goodLength settle grant rule goodLengths perform initialise printable listing
+unfolding held gaps free used unused format0s choose extentPart format4 format5 format1 format3 records encode readGeometry readExtents readLabel readRecords read goodName limits goodLabel valid taken goodLength settle grant tracksKept rule goodLengths perform initialise printable listing
 case30 = tt
-
--- CONTIG, MXIG and ALX of tracks
-
-abbrev pub sequence31 : List Row
-sequence31 =
-    begin 31 1 6 1 2 0 0x1F24C8886BE88DF4
-    ∷ ok (allocate (request (nm (0xE6 ∷ 0xF0 ∷ [])) (attr 1) 2 6 1 0 0)) 0x101000600010000000000000000000000000000000000 0x82E7402E0EE8DFF
-    ∷ ok (allocate (request (nm (0xE6 ∷ 0xF1 ∷ [])) (attr 2) 2 12 1 0 0)) 0x101000C00010000000000000000000000000000000000 0xD85A08315B08EEE
-    ∷ ok (allocate (request (nm (0xE6 ∷ 0xF2 ∷ [])) (attr 3) 2 16 1 0 0)) 0x101001000010000000000000000000000000000000000 0x1920F9D2E9829D8D
-    ∷ ok (allocate (request (nm (0xE6 ∷ 0xF3 ∷ [])) (attr 4) 2 22 1 0 0)) 0x101001600010000000000000000000000000000000000 0x1C2BF6803DC0AD15
-    ∷ ok (allocate (request (nm (0xE6 ∷ 0xF4 ∷ [])) (attr 5) 2 26 1 0 0)) 0x101001A00010000000000000000000000000000000000 0x175A309E5518C310
-    ∷ ok (allocate (request (nm (0xE6 ∷ 0xF5 ∷ [])) (attr 6) 2 30 1 0 0)) 0x101001E00010000000000000000000000000000000000 0x224C9BBAB9FEF7D
-    ∷ no (allocate (request (nm (0xC1 ∷ [])) (attr 7) 0 0 6 0 1)) 9
-    ∷ no (allocate (request (nm (0xC1 ∷ [])) (attr 8) 0 0 6 0 2)) 9
-    ∷ no (allocate (request (nm (0xC1 ∷ [])) (attr 9) 0 0 6 0 3)) 9
-    ∷ ok (allocate (request (nm (0xC1 ∷ [])) (attr 10) 0 0 3 0 3)) 0x1305000700050011000500030003000D00030017000300 0x93B3F5634B6B083
-    ∷ okLabels (obtain (nm (0xC1 ∷ []))) 0x0 0x93B3F5634B6B083 0x19EEB0206B1B525E
-    ∷ ok (scratch (nm (0xC1 ∷ []))) 0x1300000000000000000000000000000000000000000000 0x224C9BBAB9FEF7D
-    ∷ ok (allocate (request (nm (0xC1 ∷ [])) (attr 13) 0 0 2 4 2)) 0x501000700050000000000000000000000000000000000 0x197AE6D7F37915C5
-    ∷ ok (allocate (request (nm (0xC2 ∷ [])) (attr 14) 0 0 5 0 2)) 0x501001100050000000000000000000000000000000000 0x18F27DBF5C1A5B5
-    ∷ ok (allocate (request (nm (0xC3 ∷ [])) (attr 15) 0 0 1 0 3)) 0xC0400030003000D000300170003001B00030000000000 0x185A8A08D86B213E
-    ∷ ok (scratch (nm (0xC3 ∷ []))) 0xC00000000000000000000000000000000000000000000 0x18F27DBF5C1A5B5
-    ∷ ok (allocate (request (nm (0xC3 ∷ [])) (attr 17) 0 0 2 0 1)) 0x201000300020000000000000000000000000000000000 0x2A521AB0688AC65
-    ∷ no (allocate (request (nm (0xC4 ∷ [])) (attr 18) 0 0 1 0 3)) 11
-    ∷ ok (allocate (request (nm (0xC4 ∷ [])) (attr 19) 0 0 2 0 3)) 0x903000D000300170003001B0003000000000000000000 0xC6B0840FC17A430
-    ∷ no (allocate (request (nm (0xC5 ∷ [])) (attr 20) 0 0 1 0 3)) 11
-    ∷ ok (scratch (nm (0xC4 ∷ []))) 0x900000000000000000000000000000000000000000000 0x2A521AB0688AC65
-    ∷ ok (allocate (request (nm (0xC4 ∷ [])) (attr 22) 0 0 3 0 1)) 0x301000D00030000000000000000000000000000000000 0x8538CF3FFFC4329
-    ∷ ok (extend (nm (0xC1 ∷ []))) 0x40200170003001B000100000000000000000000000000 0x90A3647A81303EF
-    ∷ ok (scratch (nm (0xC2 ∷ []))) 0x500000000000000000000000000000000000000000000 0x10147D9247A2C3F0
-    ∷ ok (allocate (request (nm (0xC2 ∷ [])) (attr 25) 0 0 3 0 3)) 0x501001100050000000000000000000000000000000000 0xF887B56B5CF7799
-    ∷ ok (scratch (nm (0xC2 ∷ []))) 0x500000000000000000000000000000000000000000000 0x10147D9247A2C3F0
-    ∷ ok (allocate (request (nm (0xC2 ∷ [])) (attr 27) 0 0 2 0 3)) 0x70200110005001C000200000000000000000000000000 0xECDB49B4082A1F
-    ∷ []
-
-pub case31 : T (right [] sequence31)
-unfolding held gaps free used unused format0s choose extentPart format4 format5 format1 format3 records encode readGeometry readExtents readLabel readRecords read goodName limits goodLabel valid taken goodLength settle grant rule goodLengths perform initialise printable listing
-case31 = tt
-
--- CONTIG, MXIG and ALX of cylinders, never the rest of a free extent
-
-abbrev pub sequence32 : List Row
-sequence32 =
-    begin 16 3 7 1 2 0 0x14AF8B63850CAB34
-    ∷ ok (allocate (request (nm (0xE6 ∷ 0xF0 ∷ [])) (attr 1) 2 3 1 0 0)) 0x101000300010000000000000000000000000000000000 0xBB2F0E30FE1985
-    ∷ ok (allocate (request (nm (0xE6 ∷ 0xF1 ∷ [])) (attr 2) 2 11 1 0 0)) 0x101000B00010000000000000000000000000000000000 0x12A6F2C352CE47F4
-    ∷ ok (allocate (request (nm (0xE6 ∷ 0xF2 ∷ [])) (attr 3) 2 18 1 0 0)) 0x101001200010000000000000000000000000000000000 0xCB9D16AD7756776
-    ∷ ok (allocate (request (nm (0xE6 ∷ 0xF3 ∷ [])) (attr 4) 2 27 3 0 0)) 0x301001B00030000000000000000000000000000000000 0xC496D4C02B647B5
-    ∷ ok (allocate (request (nm (0xE6 ∷ 0xF4 ∷ [])) (attr 5) 2 33 2 0 0)) 0x201002100020000000000000000000000000000000000 0x1C403511912D2AA6
-    ∷ ok (allocate (request (nm (0xE6 ∷ 0xF5 ∷ [])) (attr 6) 2 41 1 0 0)) 0x101002900010000000000000000000000000000000000 0x10312413AB33257F
-    ∷ ok (allocate (request (nm (0xE6 ∷ 0xF6 ∷ [])) (attr 7) 2 46 2 0 0)) 0x201002E00020000000000000000000000000000000000 0x11C7760549BF6682
-    ∷ ok (allocate (request (nm (0xC1 ∷ [])) (attr 8) 1 0 1 0 3)) 0x1505000C00060015000600060003001E00030024000300 0xCCCBA62AC860375
-    ∷ ok (scratch (nm (0xC1 ∷ []))) 0x1500000000000000000000000000000000000000000000 0x11C7760549BF6682
-    ∷ ok (allocate (request (nm (0xC1 ∷ [])) (attr 10) 1 0 1 0 2)) 0x601000C00060000000000000000000000000000000000 0x83C320F01782FF3
-    ∷ ok (allocate (request (nm (0xC2 ∷ [])) (attr 11) 1 0 2 1 2)) 0x601001500060000000000000000000000000000000000 0x1E246975C11B46FF
-    ∷ no (allocate (request (nm (0xC3 ∷ [])) (attr 12) 1 0 2 0 1)) 9
-    ∷ no (allocate (request (nm (0xC3 ∷ [])) (attr 13) 1 0 2 0 2)) 9
-    ∷ no (allocate (request (nm (0xC3 ∷ [])) (attr 14) 1 0 2 0 3)) 9
-    ∷ ok (allocate (request (nm (0xC3 ∷ [])) (attr 15) 1 0 1 0 3)) 0xC0400060003001E000300240003002A00030000000000 0x15C1496CBF57B31C
-    ∷ ok (scratch (nm (0xC3 ∷ []))) 0xC00000000000000000000000000000000000000000000 0x1E246975C11B46FF
-    ∷ ok (allocate (request (nm (0xC3 ∷ [])) (attr 17) 1 0 1 0 1)) 0x301000600030000000000000000000000000000000000 0x75C735E123CE8E7
-    ∷ ok (allocate (request (nm (0xC4 ∷ [])) (attr 18) 1 0 1 0 3)) 0x903001E000300240003002A0003000000000000000000 0x15303F545655E01D
-    ∷ ok (release (nm (0xC2 ∷ [])) 0x201) 0x300000000000000000000000000000000000000000000 0x119982D488DA9D36
-    ∷ ok (extend (nm (0xC2 ∷ []))) 0x301001800030000000000000000000000000000000000 0xBF73D1DE0925667
-    ∷ ok (scratch (nm (0xC2 ∷ []))) 0x600000000000000000000000000000000000000000000 0x129CACF82B35EBEA
-    ∷ ok (allocate (request (nm (0xC2 ∷ [])) (attr 22) 1 0 1 0 1)) 0x301001500030000000000000000000000000000000000 0x4EE83E6D7D8FA1A
-    ∷ ok (allocate (request (nm (0xC5 ∷ [])) (attr 23) 1 0 1 0 3)) 0x301001800030000000000000000000000000000000000 0x820E0D150CC584F
-    ∷ ok (scratch (nm (0xC1 ∷ []))) 0x600000000000000000000000000000000000000000000 0xE107DB26B929512
-    ∷ ok (scratch (nm (0xC5 ∷ []))) 0x300000000000000000000000000000000000000000000 0x11D33AC2A6DFF5D5
-    ∷ ok (allocate (request (nm (0xC1 ∷ [])) (attr 26) 1 0 1 0 3)) 0x902000C00060018000300000000000000000000000000 0x1D128197F0315D
-    ∷ []
-
-pub case32 : T (right [] sequence32)
-unfolding held gaps free used unused format0s choose extentPart format4 format5 format1 format3 records encode readGeometry readExtents readLabel readRecords read goodName limits goodLabel valid taken goodLength settle grant rule goodLengths perform initialise printable listing
-case32 = tt
-
--- Options at a candidate's length; longer in tracks, shorter in cylinders
-
-abbrev pub sequence33 : List Row
-sequence33 =
-    begin 8 3 4 1 2 0 0x13382A71A9E4AD4A
-    ∷ ok (allocate (request (nm (0xE6 ∷ 0xF0 ∷ [])) (attr 1) 2 3 1 0 0)) 0x101000300010000000000000000000000000000000000 0x12377E64189EE0C1
-    ∷ ok (allocate (request (nm (0xE6 ∷ 0xF1 ∷ [])) (attr 2) 2 11 1 0 0)) 0x101000B00010000000000000000000000000000000000 0xDE3A5248D79D25F
-    ∷ ok (allocate (request (nm (0xE6 ∷ 0xF2 ∷ [])) (attr 3) 2 18 6 0 0)) 0x601001200060000000000000000000000000000000000 0x175F37C53435E9E8
-    ∷ no (allocate (request (nm (0xC1 ∷ [])) (attr 4) 0 0 8 0 1)) 9
-    ∷ no (allocate (request (nm (0xC1 ∷ [])) (attr 5) 1 0 3 0 1)) 9
-    ∷ no (allocate (request (nm (0xC1 ∷ [])) (attr 6) 0 0 8 0 2)) 9
-    ∷ no (allocate (request (nm (0xC1 ∷ [])) (attr 7) 1 0 3 0 2)) 9
-    ∷ no (allocate (request (nm (0xC1 ∷ [])) (attr 8) 0 0 8 0 3)) 9
-    ∷ no (allocate (request (nm (0xC1 ∷ [])) (attr 9) 1 0 3 0 3)) 9
-    ∷ ok (allocate (request (nm (0xC1 ∷ [])) (attr 10) 0 4 6 0 1)) 0x601000C00060000000000000000000000000000000000 0x18143E36B4282355
-    ∷ ok (scratch (nm (0xC1 ∷ []))) 0x600000000000000000000000000000000000000000000 0x175F37C53435E9E8
-    ∷ ok (allocate (request (nm (0xC1 ∷ [])) (attr 12) 0 4 7 0 1)) 0x701000400070000000000000000000000000000000000 0x1681FB099817AA4C
-    ∷ ok (scratch (nm (0xC1 ∷ []))) 0x700000000000000000000000000000000000000000000 0x175F37C53435E9E8
-    ∷ ok (allocate (request (nm (0xC1 ∷ [])) (attr 14) 0 4 7 0 2)) 0x701000400070000000000000000000000000000000000 0xDE997BE72BE336D
-    ∷ ok (scratch (nm (0xC1 ∷ []))) 0x700000000000000000000000000000000000000000000 0x175F37C53435E9E8
-    ∷ ok (allocate (request (nm (0xC1 ∷ [])) (attr 16) 0 4 6 0 3)) 0xD0200040007000C000600000000000000000000000000 0x59D62E7D815F91F
-    ∷ ok (scratch (nm (0xC1 ∷ []))) 0xD00000000000000000000000000000000000000000000 0x175F37C53435E9E8
-    ∷ ok (allocate (request (nm (0xC1 ∷ [])) (attr 18) 0 4 7 0 3)) 0x701000400070000000000000000000000000000000000 0x195046AA80D03662
-    ∷ ok (scratch (nm (0xC1 ∷ []))) 0x700000000000000000000000000000000000000000000 0x175F37C53435E9E8
-    ∷ ok (allocate (request (nm (0xC1 ∷ [])) (attr 20) 1 4 2 0 1)) 0x601000C00060000000000000000000000000000000000 0xF5977B580B285A6
-    ∷ ok (scratch (nm (0xC1 ∷ []))) 0x600000000000000000000000000000000000000000000 0x175F37C53435E9E8
-    ∷ ok (allocate (request (nm (0xC1 ∷ [])) (attr 22) 1 4 1 0 2)) 0x601000C00060000000000000000000000000000000000 0x12066E3A26A7F49E
-    ∷ ok (scratch (nm (0xC1 ∷ []))) 0x600000000000000000000000000000000000000000000 0x175F37C53435E9E8
-    ∷ ok (allocate (request (nm (0xC1 ∷ [])) (attr 24) 1 4 1 0 3)) 0x902000C00060006000300000000000000000000000000 0x374F8394088AA84
-    ∷ ok (scratch (nm (0xC1 ∷ []))) 0x900000000000000000000000000000000000000000000 0x175F37C53435E9E8
-    ∷ ok (allocate (request (nm (0xC1 ∷ [])) (attr 26) 1 4 2 0 3)) 0x601000C00060000000000000000000000000000000000 0x174655F1F018FD8D
-    ∷ ok (scratch (nm (0xC1 ∷ []))) 0x600000000000000000000000000000000000000000000 0x175F37C53435E9E8
-    ∷ []
-
-pub case33 : T (right [] sequence33)
-unfolding held gaps free used unused format0s choose extentPart format4 format5 format1 format3 records encode readGeometry readExtents readLabel readRecords read goodName limits goodLabel valid taken goodLength settle grant rule goodLengths perform initialise printable listing
-case33 = tt
-
--- Options that are unknown, or on absolute tracks
-
-abbrev pub sequence34 : List Row
-sequence34 =
-    begin 8 3 4 1 2 0 0x13382A71A9E4AD4A
-    ∷ ok (allocate (request (nm (0xE6 ∷ 0xF0 ∷ [])) (attr 1) 2 3 1 0 0)) 0x101000300010000000000000000000000000000000000 0x12377E64189EE0C1
-    ∷ ok (allocate (request (nm (0xE6 ∷ 0xF1 ∷ [])) (attr 2) 2 11 1 0 0)) 0x101000B00010000000000000000000000000000000000 0xDE3A5248D79D25F
-    ∷ ok (allocate (request (nm (0xE6 ∷ 0xF2 ∷ [])) (attr 3) 2 18 6 0 0)) 0x601001200060000000000000000000000000000000000 0x175F37C53435E9E8
-    ∷ no (allocate (request (nm (0xC1 ∷ [])) (attr 4) 0 0 1 0 256)) 7
-    ∷ no (allocate (request (nm (0xC1 ∷ [])) (attr 5) 1 0 1 0 256)) 7
-    ∷ no (allocate (request (nm (0xC1 ∷ [])) (attr 6) 2 4 1 0 256)) 7
-    ∷ no (allocate (request (nm (0xC1 ∷ [])) (attr 7) 0 0 1 0 65537)) 7
-    ∷ no (allocate (request (nm (0xC1 ∷ [])) (attr 8) 1 0 1 0 65537)) 7
-    ∷ no (allocate (request (nm (0xC1 ∷ [])) (attr 9) 2 4 1 0 65537)) 7
-    ∷ no (allocate (request (nm (0xC1 ∷ [])) (attr 10) 0 0 0 0 1)) 7
-    ∷ no (allocate (request (nm (0xC1 ∷ [])) (attr 11) 1 0 65536 0 2)) 7
-    ∷ no (allocate (request (nm (0xC1 ∷ [])) (attr 12) 0 0 1 16777216 3)) 7
-    ∷ no (allocate (request (nm (0xC1 ∷ [])) (attr 13) 3 4 1 0 2)) 7
-    ∷ no (allocate (request (nm (0xC1 ∷ [])) (attr 14) 1 0 65535 16777215 1)) 9
-    ∷ no (allocate (request (nm (0xC1 ∷ [])) (attr 15) 1 0 65535 16777215 2)) 9
-    ∷ no (allocate (request (nm (0xC1 ∷ [])) (attr 16) 1 0 65535 16777215 3)) 9
-    ∷ no (allocate (request (nm []) (attr 17) 0 0 1 0 4)) 4
-    ∷ no (allocate (request (nm (0xE6 ∷ 0xF0 ∷ [])) (attr 18) 2 4 1 0 3)) 7
-    ∷ no (allocate (request (nm (0xC1 ∷ [])) (attr 19) 0 0 14 0 4)) 7
-    ∷ no (allocate (request (nm (0xC1 ∷ [])) (attr 20) 2 3 1 0 1)) 7
-    ∷ ok (allocate (request (nm (0xC1 ∷ [])) (attr 21) 2 4 1 0 0)) 0x101000400010000000000000000000000000000000000 0x1EA7E153900E4621
-    ∷ []
-
-pub case34 : T (right [] sequence34)
-unfolding held gaps free used unused format0s choose extentPart format4 format5 format1 format3 records encode readGeometry readExtents readLabel readRecords read goodName limits goodLabel valid taken goodLength settle grant rule goodLengths perform initialise printable listing
-case34 = tt

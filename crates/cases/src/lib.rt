@@ -1,1 +1,1 @@
-// Computed cases for the definitions of `rules` (specs/); this crate has no code.
+// Computed cases for the definitions of `rules`, document 01 (specs/); this crate has no code.

@@ -2,3 +2,4 @@ pub mod Steps
 pub mod VolumeA
 pub mod Blunders
 pub mod Options
+pub mod Cylinders

@@ -16,7 +16,8 @@ use Rattle.rules.specs.Listing.{listing}
 -- only the table at the end is compared; a call that is accepted, with its answer and the digest of the table after it; obtain, with
 -- the digest of its labels besides; a refused call, which changes nothing; a call on a damaged copy of the table; a call on a copy of
 -- another length, with buffers of these lengths; the digest of the listing of a copy that is damaged and has this length; the digest
--- of all that `extentPart` gives for records of these lengths. The copies are thrown away.
+-- of all that `extentPart` gives for records of these lengths. The copies are thrown away. Bytes put into the table itself, as it may
+-- come from elsewhere.
 pub data Row : Type 0 where
   begin : (c h d s v number digest : ℕ) → Row
   beginSized : (c h d s v tableLength answerLength number : ℕ) → Row
@@ -28,6 +29,7 @@ pub data Row : Type 0 where
   sized : (tableLength answerLength labelsLength : ℕ) → Call → (number : ℕ) → Row
   listed : List (ℕ × ℕ) → (tableLength digest : ℕ) → Row
   parts : (length1 length3 digest : ℕ) → Row
+  put : List (ℕ × ℕ) → Row
 
 -- ---- names, attributes, bytes as numbers
 
@@ -132,3 +134,4 @@ right t (hurt ps c n ∷ rows) = eqb (perform (lent (damaged ps t) (buffer 24) (
 right t (sized tl al ll c n ∷ rows) = eqb (perform (lent (fill tl t) (buffer al) (buffer ll)) c .number) n && right t rows
 right t (listed ps tl text ∷ rows) = eqb (digest (listing (fill tl (damaged ps t)))) text && right t rows
 right t (parts l1 l3 text ∷ rows) = eqb (digest (partsOf (attrN l1 1) (attrN l3 3))) text && right t rows
+right t (put ps ∷ rows) = right (damaged ps t) rows
