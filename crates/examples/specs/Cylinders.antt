@@ -53,11 +53,13 @@ plotSteps =
     ∷ gives 0xC4 3 0 (run 3 7 ∷ run 14 1 ∷ [])
     -- 12 looks at TT + 1 alone
     ∷ aside (release (flt 0xC4) (5 * 256 + 1)) 12 nothing (run 3 7 ∷ run 14 1 ∷ []) 2
-    -- X'81' stays in a cylinder file that is cut, the TTR is stored as it was given; X'01' in a tracks file
+    -- X'81' stays in a cylinder file that is cut, and the TTR is stored as it was given; a tracks file has X'01' then, and what is not
+    -- cut stays as it is
     ∷ step (release (flt 0xC2) (7 * 256 + 9)) 0 (givenBack 5) (run 3 7 ∷ run 14 1 ∷ run 25 5 ∷ []) 2
     (shown 3 98 (0x00 ∷ 0x07 ∷ 0x09 ∷ [])
     ∷ shown 3 115 (0x81 ∷ 0x01 ∷ 0x00 ∷ 0x04 ∷ 0x00 ∷ 0x00 ∷ 0x00 ∷ 0x04 ∷ 0x00 ∷ 0x04 ∷ [])
     ∷ [])
+    ∷ step (release (flt 0xC3) (14 * 256 + 1)) 0 (givenBack 0) (run 3 7 ∷ run 14 1 ∷ run 25 5 ∷ []) 2 (shown 4 105 (0x81 ∷ []) ∷ [])
     ∷ step (release (flt 0xC3) (9 * 256 + 1)) 0 (givenBack 5) (run 3 7 ∷ run 14 1 ∷ run 25 5 ∷ run 40 5 ∷ []) 2
     (shown 4 105 (0x01 ∷ 0x00 ∷ 0x00 ∷ 0x06 ∷ 0x00 ∷ 0x00 ∷ 0x00 ∷ 0x07 ∷ 0x00 ∷ 0x04 ∷ []) ∷ [])
     ∷ []

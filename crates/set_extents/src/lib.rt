@@ -236,11 +236,11 @@ fn cut_type<'a>(f1: &'a [u8], f3: &'a [u8], e: usize, unit: u8) -> u8
     requires { ⌜ (length (now f1) ≡ 140) × (length (now f3) ≡ 140) × (e < 16) ⌝ }
     ensures { λ r. ⌜ ((h : ℕ) → r ≡ cutType unit (readExtent h (extentPart (now (f1 .entry)) (now (f3 .entry)) e))) ⌝ }
 {
-    if unit != 0xC0 {
-        return 0x01;
+    if unit == 0xC0 {
+        let x = dscb::extent_part(f1, f3, e);
+        return x[0];
     }
-    let x = dscb::extent_part(f1, f3, e);
-    x[0]
+    0x01
 }
 
 // Where the first `keep` tracks of a data set with this unit and n extents end.
