@@ -1,6 +1,6 @@
 -- The tracks that a cylinder file keeps, extent by extent. Assumes nothing.
 use mathlib.Core.Path.{_≡_, refl, sym, ap, ap₂, _∙_, subst}
-use mathlib.Core.Bool.{Bool, true, false, cond, _&&_}
+use mathlib.Core.Bool.{Bool, true, false, cond}
 use mathlib.Core.List.{List, [], _∷_, _++_}
 use Prim.Native.Nat.{ℕ, zero, suc, _+_, _-_, _*_, _/_, _%_, _≤_, _<_, min}
 use native.Mathlib.Nat.{mod-lt, mod-add-div', mul-mod-left, suc-mul, zero-add}
@@ -14,7 +14,7 @@ use lib.Seq.{drop-cons, getD-drop}
 use Rattle.model.specs.Basics.{upFrom}
 use Rattle.model.specs.Model.{Run, total}
 use Rattle.model.specs.Predicates.{StaysOf, keptFrom, room}
-use Rattle.model.specs.Tracks.{goesOn, tracksKept, tracksOf}
+use Rattle.model.specs.Tracks.{follows, goesOn, tracksKept, tracksOf}
 use Rattle.model.proofs.Lists.{and-l, and-r, by, clash, length-upFrom, true-is}
 
 pub tracks-length : (rs : List Run) → length (tracksOf rs) ≡ total rs
@@ -27,11 +27,13 @@ tracks-length (r ∷ rs) =
 
 -- ---- bounds
 
+more-or-none : (b : Bool) (m n : ℕ) → m ≤ n → cond b (suc m) 0 ≤ suc n
+more-or-none true m n u = omega arith
+more-or-none false m n u = omega arith
+
 goes-most : (h t : ℕ) (ts : List ℕ) → goesOn h t ts ≤ length ts
 goes-most h t [] = omega arith
-goes-most h t (s ∷ ts) =
-    let i = goes-most h s ts in
-    by (eqb s (suc t) && eqb (s / h) (t / h)) (λ e. rw e (omega arith)) (λ e. rw e (omega arith))
+goes-most h t (s ∷ ts) = more-or-none (follows h t s) (goesOn h s ts) (length ts) (goes-most h s ts)
 
 kept-most : (h k t : ℕ) (ts : List ℕ) → keptFrom h k t ts ≤ length ts
 kept-most h k t [] = omega arith
@@ -289,16 +291,16 @@ kept-within h unit ttr ts pos u =
 abbrev pub Next : (h t s : ℕ) → Type 0
 Next h t s = (s ≡ suc t) × (s / h ≡ t / h)
 
-is-next : (h t s : ℕ) → (eqb s (suc t) && eqb (s / h) (t / h)) ≡ true → Next h t s
+is-next : (h t s : ℕ) → (follows h t s) ≡ true → Next h t s
 is-next h t s e =
     let b = true-is e in
     (eqb→eq s (suc t) (and-l (eqb s (suc t)) (eqb (s / h) (t / h)) b), eqb→eq (s / h) (t / h) (and-r (eqb s (suc t)) (eqb (s / h) (t / h)) b))
 
 goes-next : (h t : ℕ) (ts : List ℕ) (i : ℕ) → i < goesOn h t ts → Next h (getD (t ∷ ts) i 0) (getD ts i 0)
 goes-next h t [] i u = absurd (omega arith)
-goes-next h t (s ∷ ts) i u = go i (eqb s (suc t) && eqb (s / h) (t / h)) refl u (goes-next h s ts)
+goes-next h t (s ∷ ts) i u = go i (follows h t s) refl u (goes-next h s ts)
   where
-    go : (i : ℕ) (b : Bool) → (eqb s (suc t) && eqb (s / h) (t / h)) ≡ b → i < cond b (suc (goesOn h s ts)) 0
+    go : (i : ℕ) (b : Bool) → (follows h t s) ≡ b → i < cond b (suc (goesOn h s ts)) 0
         → ((j : ℕ) → j < goesOn h s ts → Next h (getD (s ∷ ts) j 0) (getD ts j 0)) → Next h (getD (t ∷ s ∷ ts) i 0) (getD (s ∷ ts) i 0)
     go zero true e v more = is-next h t s e
     go (suc i) true e v more = more i (omega arith)
@@ -306,9 +308,9 @@ goes-next h t (s ∷ ts) i u = go i (eqb s (suc t) && eqb (s / h) (t / h)) refl 
 
 goes-ends : (h t : ℕ) (ts : List ℕ) (n : ℕ) → n ≡ goesOn h t ts → n < length ts → Next h (getD (t ∷ ts) n 0) (getD ts n 0) → ⊥
 goes-ends h t [] n q u x = absurd (omega arith)
-goes-ends h t (s ∷ ts) n q u x = go n (eqb s (suc t) && eqb (s / h) (t / h)) refl q u x (goes-ends h s ts)
+goes-ends h t (s ∷ ts) n q u x = go n (follows h t s) refl q u x (goes-ends h s ts)
   where
-    go : (n : ℕ) (b : Bool) → (eqb s (suc t) && eqb (s / h) (t / h)) ≡ b → n ≡ cond b (suc (goesOn h s ts)) 0 → n < length (s ∷ ts)
+    go : (n : ℕ) (b : Bool) → (follows h t s) ≡ b → n ≡ cond b (suc (goesOn h s ts)) 0 → n < length (s ∷ ts)
         → Next h (getD (t ∷ s ∷ ts) n 0) (getD (s ∷ ts) n 0)
         → ((m : ℕ) → m ≡ goesOn h s ts → m < length ts → Next h (getD (s ∷ ts) m 0) (getD ts m 0) → ⊥) → ⊥
     go zero true e q u x more = absurd (omega arith)

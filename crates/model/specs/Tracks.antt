@@ -12,11 +12,14 @@ use Rattle.model.specs.Model.{Run}
 abbrev pub tracksOf : List Run → List ℕ
 tracksOf rs = flat (λ r. upFrom (r .start) (r .count)) rs
 
--- document 02, [2]: "as long as each is the next on the volume and in the same cylinder": how many tracks of a list go on so
--- from track t, with h tracks in a cylinder
+-- document 02, [2]: after track t track s is "the next on the volume and in the same cylinder", with h tracks in a cylinder
+abbrev pub follows : (h t s : ℕ) → Bool
+follows h t s = eqb s (suc t) && eqb (s / h) (t / h)
+
+-- how many tracks of a list go on from track t, "as long as each is" so
 abbrev pub goesOn : (h t : ℕ) → List ℕ → ℕ
 goesOn h t [] = 0
-goesOn h t (s ∷ ts) = cond (eqb s (suc t) && eqb (s / h) (t / h)) (suc (goesOn h s ts)) 0
+goesOn h t (s ∷ ts) = cond (follows h t s) (suc (goesOn h s ts)) 0
 
 -- "a set with unit X'C0'"
 abbrev pub cylinderFile : (unit : ℕ) → Bool

@@ -13,7 +13,7 @@ use Rattle.model.specs.Basics.{bit, flat, sumOf}
 use Rattle.model.specs.Model.{Extent, Geometry, Label, Run, Volume, fivesFor, format0s, free, held, oneSlot, overs, runsOf, slots, slotsOf, tally, times, total, unused, used}
 use Rattle.model.proofs.Lists.{by, sum-take}
 use Rattle.model.specs.Predicates.{All}
-use Rattle.rules.specs.Calls.{Amount, Reply, Request, allocatePieces, extendPieces, givenBack, goodTtr, granted, newSet, releaseSet, settled, shorter, tracksKeptOf}
+use Rattle.rules.specs.Calls.{Amount, Reply, Request, allocatePieces, extendPieces, goodTtr, granted, newSet, releaseSet, settled, shorter, tracksKeptOf}
 use Rattle.rules.specs.Full.{NoneExactly, RefusedExactly, fivesNeeded, format1s, format3s, freed, full, members, needed}
 use Rattle.rules.specs.Slots.{added, askedBy, asks, changed, found, insertLabel, kept3, keptFives, placed, removed, settle, settleWith, stillUsed, withExtents, without}
 use Rattle.rules.specs.Table.{fewExtents}
@@ -262,4 +262,4 @@ module _ (v : Volume) (h : Valid v) (n : List ℕ) (l : Label) (f : found v n �
   release-11 ttr e =
       let k : ℕ = tracksKeptOf (v .geometry) ttr l in
       rw e
-      (settled-exactly (givenBack (total (runsOf l) - k)) (changed v n (shorter k ttr l)) _ (changed-full v h n l f (shorter k ttr l .extents) ttr))
+      (settled-exactly _ (changed v n (shorter k ttr l)) _ (changed-full v h n l f (shorter k ttr l .extents) ttr))

@@ -78,7 +78,7 @@ rule-listed v h (release n ttr) =
     listed-named v (release n ttr) n (releaseSet v n ttr) refl refl
     (λ l e.
     listed-unless (goodTtr ttr (total (runsOf l))) _ _ refl
-    (listed-settled (givenBack (total (runsOf l) - tracksKeptOf (v .geometry) ttr l)) (changed v n (shorter (tracksKeptOf (v .geometry) ttr l) ttr l)) (λ _. refl)))
+    (listed-settled _ (changed v n (shorter (tracksKeptOf (v .geometry) ttr l) ttr l)) (λ _. refl)))
 rule-listed v h (scratch n) =
     listed-named v (scratch n) n (removeSet v n) refl refl
     (λ l e. listed-settled (givenBack (total (runsOf l))) (removed v n) (λ full. absurd (scratch-fits v h n l e full)))

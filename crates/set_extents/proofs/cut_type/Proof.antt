@@ -22,14 +22,16 @@ shared-slice-read-result c =
 
 returns : tie.Need-returns
 returns c =
-    let a = c .before .before .before .before .before .args in
+    let top = c .before .before .before .before .before in
+    let a = top .args in
     λ h.
     ap (λ (x : List ℕ). getD x 0 0) (c .before .extent-part .ensures)
     ∙ own-type (a .unit) (readExtent h (extentPart (a .f1 .now) (a .f3 .now) (a .e))) (c .before .before .if1 .taken)
 
 returns-2 : tie.Need-returns-2
 returns-2 c =
-    let a = c .before .before .before .args in
+    let top = c .before .before .before in
+    let a = top .args in
     λ h. plain-type (a .unit) (readExtent h (extentPart (a .f1 .now) (a .f3 .now) (a .e))) (c .if1 .left)
 
 pub cut-type-spec : {M : Type 1} → statement M
