@@ -2,10 +2,9 @@
 //! reference: every set of many volumes, at every TT.
 
 use vtoc_tests::audit::{picture, Extent, Picture, Set};
-use vtoc_tests::call::{Call, Reference};
+use vtoc_tests::call::Call;
 use vtoc_tests::desk::Desk;
-use vtoc_tests::generate::session::Session;
-use vtoc_tests::generate::shapes::SHAPES;
+use vtoc_tests::generate::session::{lives, Session};
 use vtoc_tests::ledger::Ledger;
 
 /// "the first TT + 1 in the set's list", and of a set with unit X'C0' those after them, "as long as each
@@ -101,18 +100,7 @@ fn on_volumes_from_elsewhere() {
 #[test]
 fn on_our_own_volumes() {
     let mut counts = [0; 3];
-    for (seed, &shape) in (0..20).zip(SHAPES[..5].iter().cycle()) {
-        let mut session = Session::of_shape(seed, shape);
-        for turn in 0..72 {
-            let trial = session.next_trial();
-            let mut buffers = trial.buffers.clone();
-            trial.call.run(&Reference, &mut buffers);
-            session.keep(&trial, buffers.table);
-            if turn % 24 == 23 {
-                compare(session.table(), &mut counts);
-            }
-        }
-    }
+    lives(20, 24, |table| compare(table, &mut counts));
     let [more, just, _] = counts;
     assert!(more > 1_000 && just > 10_000, "{more}, {just}");
 }

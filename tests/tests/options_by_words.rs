@@ -4,10 +4,9 @@
 use std::cmp::Reverse;
 
 use vtoc_tests::audit::{picture, Picture};
-use vtoc_tests::call::{Reference, ALX, CONTIG, MXIG};
+use vtoc_tests::call::{ALX, CONTIG, MXIG};
 use vtoc_tests::desk::Desk;
-use vtoc_tests::generate::session::Session;
-use vtoc_tests::generate::shapes::SHAPES;
+use vtoc_tests::generate::session::lives;
 
 /// Runs of neighbouring units (tracks or whole cylinders) that are free, start and count in units:
 /// a free extent's whole cylinders are such a run, since free extents do not touch.
@@ -84,18 +83,7 @@ fn compare(table: &[u8], counts: &mut [usize; 2]) {
 #[test]
 fn as_the_words_say() {
     let mut counts = [0; 2];
-    for (seed, &shape) in (0..40).zip(SHAPES[..5].iter().cycle()) {
-        let mut session = Session::of_shape(seed, shape);
-        for turn in 0..72 {
-            let trial = session.next_trial();
-            let mut buffers = trial.buffers.clone();
-            trial.call.run(&Reference, &mut buffers);
-            session.keep(&trial, buffers.table);
-            if turn % 12 == 11 {
-                compare(session.table(), &mut counts);
-            }
-        }
-    }
+    lives(40, 12, |table| compare(table, &mut counts));
     let [granted, refused] = counts;
     assert!(granted > 1_000 && refused > 300, "{granted} granted, {refused} refused");
 }

@@ -231,7 +231,7 @@ pub struct Kept {
     pub count: u32,
 }
 
-// The type of extent e of a data set with this unit, where it is cut: a cylinder file is cut between cylinders.
+// The type of extent e of a data set with this unit, where it is cut: its own in a cylinder file, which is cut between cylinders.
 fn cut_type<'a>(f1: &'a [u8], f3: &'a [u8], e: usize, unit: u8) -> u8
     requires { ⌜ (length (now f1) ≡ 140) × (length (now f3) ≡ 140) × (e < 16) ⌝ }
     ensures { λ r. ⌜ ((h : ℕ) → r ≡ cutType unit (readExtent h (extentPart (now (f1 .entry)) (now (f3 .entry)) e))) ⌝ }

@@ -228,3 +228,19 @@ impl Session {
         }
     }
 }
+
+/// So many volumes, of all shapes but the largest, each looked at after every few of its 72 turns.
+pub fn lives(volumes: u64, turns: usize, mut look: impl FnMut(&[u8])) {
+    for (seed, &shape) in (0..volumes).zip(SHAPES[..5].iter().cycle()) {
+        let mut session = Session::of_shape(seed, shape);
+        for turn in 1..=72 {
+            let trial = session.next_trial();
+            let mut buffers = trial.buffers.clone();
+            trial.call.run(&Reference, &mut buffers);
+            session.keep(&trial, buffers.table);
+            if turn % turns == 0 {
+                look(session.table());
+            }
+        }
+    }
+}
