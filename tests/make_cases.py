@@ -1,6 +1,6 @@
 #!/usr/bin/env python3
-"""make_cases.py DIR: specs/Sample.antt of crates cases and request_cases from what `cases` printed into DIR, with imports and one
-theorem each.
+"""make_cases.py DIR: specs/Sample.antt of crates cases, chain_cases and request_cases from what `cases` printed into DIR, with imports
+and one theorem for each sequence.
 
 --check compares with the files that are checked in and changes nothing.
 """
@@ -23,7 +23,8 @@ UNFOLDED = """held gaps free used unused format0s choose extentPart format4 form
 readGeometry readExtents readLabel readRecords read goodName limits goodLabel valid taken goodLength settle grant tracksKept rule
 goodLengths perform initialise printable listing""".replace("\n", " ")
 LONG = 45  # rows: more would pass the checker's limit of steps, so the first calls of such a sequence become one row
-REQUESTS = 31  # the first sequence of document 02: the sequences are in two crates, so that each is computed within a minute
+CHAINS = [20]  # the sequences are in three crates, so that each is computed within a minute
+REQUESTS = 31  # the first one of document 02
 
 
 def shortened(block):
@@ -44,6 +45,12 @@ def shortened(block):
     return head + "\n    ∷ ".join([first] + rows[len(calls) + 1 :]) + "\n"
 
 
+def crate_of(number):
+    if number in CHAINS:
+        return "chain_cases"
+    return "cases" if number < REQUESTS else "request_cases"
+
+
 def imports(text):
     """The imports, without names that the text does not use."""
     used = set(re.findall(r"[^\s(){},]+", text))
@@ -54,12 +61,12 @@ def imports(text):
 def main():
     text = open(sys.argv[1] + "/Sample.antt").read().replace(" , ", ", ")
     head, *blocks = re.split(r"\n\n(?=(?:-- [^\n]*\n)+abbrev pub sequence)", text)
-    samples = {"cases": "", "request_cases": ""}
+    samples = {"cases": "", "chain_cases": "", "request_cases": ""}
     for block in blocks:
         name, number = re.search(r"abbrev pub (sequence(\d+))", block).groups()
         theorem = f"\npub case{number} : T (right [] {name})\nunfolding {UNFOLDED}\ncase{number} = tt"
         block = shortened(block).replace("\nabbrev pub", "\n\nabbrev pub").rstrip("\n")
-        samples["cases" if int(number) < REQUESTS else "request_cases"] += f"\n{block}\n{theorem}\n"
+        samples[crate_of(int(number))] += f"\n{block}\n{theorem}\n"
     for crate, sample in samples.items():
         target = f"crates/{crate}/specs/Sample.antt"
         text = head.replace("-- IMPORTS", imports(sample)) + "\n" + sample
