@@ -1,4 +1,4 @@
--- The tracks that a cylinder file keeps, extent by extent. Assumes nothing.
+-- How many tracks of a data set stay after a release: extent by extent, as the code goes, and in the paper's words. Assumes nothing.
 use mathlib.Core.Path.{_≡_, refl, sym, ap, ap₂, _∙_, subst}
 use mathlib.Core.Bool.{Bool, true, false, cond}
 use mathlib.Core.List.{List, [], _∷_, _++_}
@@ -291,7 +291,7 @@ kept-within h unit ttr ts pos u =
 abbrev pub Next : (h t s : ℕ) → Type 0
 Next h t s = (s ≡ suc t) × (s / h ≡ t / h)
 
-is-next : (h t s : ℕ) → (follows h t s) ≡ true → Next h t s
+is-next : (h t s : ℕ) → follows h t s ≡ true → Next h t s
 is-next h t s e =
     let b = true-is e in
     (eqb→eq s (suc t) (and-l (eqb s (suc t)) (eqb (s / h) (t / h)) b), eqb→eq (s / h) (t / h) (and-r (eqb s (suc t)) (eqb (s / h) (t / h)) b))
@@ -300,7 +300,7 @@ goes-next : (h t : ℕ) (ts : List ℕ) (i : ℕ) → i < goesOn h t ts → Next
 goes-next h t [] i u = absurd (omega arith)
 goes-next h t (s ∷ ts) i u = go i (follows h t s) refl u (goes-next h s ts)
   where
-    go : (i : ℕ) (b : Bool) → (follows h t s) ≡ b → i < cond b (suc (goesOn h s ts)) 0
+    go : (i : ℕ) (b : Bool) → follows h t s ≡ b → i < cond b (suc (goesOn h s ts)) 0
         → ((j : ℕ) → j < goesOn h s ts → Next h (getD (s ∷ ts) j 0) (getD ts j 0)) → Next h (getD (t ∷ s ∷ ts) i 0) (getD (s ∷ ts) i 0)
     go zero true e v more = is-next h t s e
     go (suc i) true e v more = more i (omega arith)
@@ -310,7 +310,7 @@ goes-ends : (h t : ℕ) (ts : List ℕ) (n : ℕ) → n ≡ goesOn h t ts → n 
 goes-ends h t [] n q u x = absurd (omega arith)
 goes-ends h t (s ∷ ts) n q u x = go n (follows h t s) refl q u x (goes-ends h s ts)
   where
-    go : (n : ℕ) (b : Bool) → (follows h t s) ≡ b → n ≡ cond b (suc (goesOn h s ts)) 0 → n < length (s ∷ ts)
+    go : (n : ℕ) (b : Bool) → follows h t s ≡ b → n ≡ cond b (suc (goesOn h s ts)) 0 → n < length (s ∷ ts)
         → Next h (getD (t ∷ s ∷ ts) n 0) (getD (s ∷ ts) n 0)
         → ((m : ℕ) → m ≡ goesOn h s ts → m < length ts → Next h (getD (s ∷ ts) m 0) (getD ts m 0) → ⊥) → ⊥
     go zero true e q u x more = absurd (omega arith)
