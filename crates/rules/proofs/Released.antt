@@ -5,7 +5,7 @@ use mathlib.Core.Bool.{Bool, true, false}
 use mathlib.Core.Option.{Option, none, some}
 use mathlib.Core.List.{List}
 use Prim.Native.Nat.{ℕ, suc, _-_, _%_, _≤_, _<_}
-use borrow.Author.Tests.{eq-eqb}
+use borrow.Author.Tests.{eq-eqb, ne-eqb}
 use lib.Dec.{T}
 use lib.ListN.{getD, length, take}
 use Rattle.model.specs.Basics.{find, orElse, same}
@@ -14,11 +14,11 @@ use Rattle.model.specs.Tracks.{tracksOf}
 use Rattle.model.proofs.Cylinders.{KeptCount}
 use Rattle.model.proofs.Lists.{All-map, All-both, is-true, same-refl}
 use Rattle.model.specs.Predicates.{All}
-use Rattle.rules.specs.Calls.{Outcome, Reply, accept, given, givenBack, goodTtr, refuse, release, releaseTracks, releaseSet, rule, shorter, tracksKeptOf, unless}
+use Rattle.rules.specs.Calls.{Outcome, Reply, accept, cutType, given, givenBack, goodTtr, refuse, release, releaseTracks, releaseSet, rule, shorter, tracksKeptOf, unless}
 use Rattle.rules.specs.Predicates.{GoodExtent, Unlike, Valid}
 use Rattle.rules.specs.Slots.{changed, found, without}
 use Rattle.rules.specs.Table.{goodName, named, unitIn}
-use Rattle.rules.proofs.Cut.{keep-same, keep-tracks, keep-typed, whole-extent}
+use Rattle.rules.proofs.Cut.{keep-cut, keep-same, keep-tracks, keep-typed, whole-extent}
 use Rattle.rules.proofs.FoundSet.{found-good}
 use Rattle.rules.proofs.Grants.{put-released, release-count}
 use Rattle.rules.proofs.Labels.{find-insert, found-name, unlike-without}
@@ -37,8 +37,16 @@ after-given : {A : Type 0} (P : Reply → Volume → Type 0) (o : Option A) (n :
 after-given P none n k p = tt
 after-given P (some a) n k p = p a refl
 
+-- extent e was d and is shorter now: in a cylinder file it has its type still, elsewhere X'01'
+pub record Shortened (unit : ℕ) (e d : Extent) : Type 0 where
+  pub typeKept : unit ≡ 0xC0 → e .typeByte ≡ d .typeByte
+  pub typeLost : (unit ≡ 0xC0 → ⊥) → e .typeByte ≡ 0x01
+
+shortened : (unit : ℕ) (e d : Extent) → e .typeByte ≡ cutType unit d → Shortened unit e d
+shortened unit e d q = record { typeKept = λ c. q ∙ rw (eq-eqb unit 0xC0 c); typeLost = λ c. q ∙ rw (ne-eqb unit 0xC0 c) }
+
 -- the data set n, which was l: so many tracks stay as the paper says, the first of its list; the others are given back; an extent
--- all of whose tracks stay is as it was; the TTR is stored
+-- all of whose tracks stay is as it was, one that is cut has the paper's type; the TTR is stored
 pub record Released (h : ℕ) (n : List ℕ) (l : Label) (ttr : ℕ) (r : Reply) (w : Volume) : Type 0 where
   pub kept : ℕ
   pub count : KeptCount h (unitIn (l .unit)) ttr (tracksOf (runsOf l)) kept
@@ -47,6 +55,8 @@ pub record Released (h : ℕ) (n : List ℕ) (l : Label) (ttr : ℕ) (r : Reply)
   pub there : found w n ≡ some label
   pub list : tracksOf (runsOf label) ≡ take kept (tracksOf (runsOf l))
   pub same : (i : ℕ) (d : Extent) → i < length (l .extents) → total (overs (take (suc i) (l .extents))) ≤ kept → getD (label .extents) i d ≡ getD (l .extents) i d
+  pub typed : (i : ℕ) (d : Extent) → i < length (label .extents) → getD (label .extents) i d .over .count < getD (l .extents) i d .over .count
+      → Shortened (unitIn (l .unit)) (getD (label .extents) i d) (getD (l .extents) i d)
   pub unitIs : label .unit ≡ l .unit
   pub ttrIs : label .ttr ≡ ttr
 
@@ -91,6 +101,11 @@ module _ (v : Volume) (h : Valid v) (n : List ℕ) (l : Label) (f : found v n �
           there = there;
           list = ap (λ (es : List Extent). tracksOf (overs es)) (p .extents) ∙ keep-tracks (unitIn (l .unit)) k (l .extents);
           same = λ i d u fits. ap (λ (es : List Extent). getD es i d) (p .extents) ∙ keep-same (unitIn (l .unit)) k (l .extents) i d u fits;
+          typed = λ i d.
+              subst
+              (λ (es : List Extent). i < length es → getD es i d .over .count < getD (l .extents) i d .over .count → Shortened (unitIn (l .unit)) (getD es i d) (getD (l .extents) i d))
+              (sym (p .extents))
+              (λ u less. shortened (unitIn (l .unit)) (getD (l₀ .extents) i d) (getD (l .extents) i d) (keep-cut (unitIn (l .unit)) k (l .extents) i d u less));
           unitIs = p .unit;
           ttrIs = p .ttr;
         }
