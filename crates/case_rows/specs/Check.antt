@@ -6,7 +6,7 @@ use lib.ListN.{length, take, set, replicate}
 use lib.Dec.{eqb}
 use Rattle.model.specs.Basics.{fill, flat, same, upFrom}
 use Rattle.model.specs.Model.{Volume, slots}
-use Rattle.rules.specs.Calls.{Call, Outcome, accept, allocate, extend, lspace, obtain, refuse, release, rename, rule, scratch}
+use Rattle.rules.specs.Calls.{Call, Outcome, accept, allocate, extend, lspace, obtain, preview, refuse, release, rename, rule, scratch}
 use Rattle.rules.specs.Contracts.{geometry}
 use Rattle.rules.specs.Entries.{Lent, Result, fresh, initialise, lent, perform}
 use Rattle.rules.specs.Layout.{encode, extentPart}
@@ -69,6 +69,7 @@ labelsFor (scratch n) = []
 labelsFor (rename old new) = []
 labelsFor (obtain n) = buffer 280
 labelsFor lspace = []
+labelsFor (preview c) = labelsFor c
 
 abbrev pub damaged : List (ℕ × ℕ) → List ℕ → List ℕ
 damaged [] t = t

@@ -9,7 +9,7 @@ use lib.Dec.{eqb, leb}
 use Rattle.model.specs.Choice.{noOption}
 use Rattle.model.specs.Model.{Geometry, Label, Volume, overs, runsOf, slots, total}
 use Rattle.model.proofs.Lists.{by, clash, true-is}
-use Rattle.rules.specs.Calls.{Call, Outcome, Reply, accept, allocate, allocateAmount, allocateBy, allocatePieces, amountOf, extend, extendPieces, extendSet, given, givenBack, goodTtr, grant, granted, inRange, lspace, newSet, obtain, obtainSet, optionFor, refuse, release, releaseSet, removeSet, rename, renameSet, rule, scratch, secondaryOf, settled, shorter, tracksKeptOf, unless}
+use Rattle.rules.specs.Calls.{Call, Outcome, Reply, accept, allocate, allocateAmount, allocateBy, allocatePieces, amountOf, extend, extendPieces, extendSet, given, givenBack, goodTtr, grant, granted, inRange, lspace, newSet, obtain, obtainSet, onCopy, optionFor, preview, refuse, release, releaseSet, removeSet, rename, renameSet, rule, scratch, secondaryOf, settled, shorter, tracksKeptOf, unless}
 use Rattle.rules.specs.Entries.{Lent, goodLengths, initialise, perform, written}
 use Rattle.rules.specs.Reading.{read}
 use Rattle.rules.specs.Refusals.{OneOf, ZeroOr, refusals, refusalsOfInitialise}
@@ -46,6 +46,11 @@ module _ {c : Call} where
 
   listed-settled : (r : Reply) (o : Option Volume) → (o ≡ none → OneOf (refusals c) 11) → Listed c (settled r o)
   listed-settled r o m = listed-given o 11 (accept r) m (λ w e. accepted)
+
+-- a preview is refused with what refuses its call
+listed-copy : (v : Volume) (c : Call) (o : Outcome) → Listed c o → Listed (preview c) (onCopy v o)
+listed-copy v c (refuse n) h = refused (h .within)
+listed-copy v c (accept r w) h = accepted
 
 -- ---- the rules, step by step as Calls has them: `refl` says that the refusal there is one of the call's
 
@@ -87,6 +92,7 @@ rule-listed v h (rename old new) =
     (listed-given (found v old) _ (renameSet v old new) (λ _. refl) (λ l e. listed-unless (isNew v new) _ _ refl accepted))
 rule-listed v h (obtain n) = listed-named v (obtain n) n (obtainSet v) refl refl (λ l e. accepted)
 rule-listed v h lspace = accepted
+rule-listed v h (preview c) = listed-copy v c (rule v c) (rule-listed v h c)
 
 -- ---- the entry points
 
@@ -99,6 +105,7 @@ begins (scratch n) = (_, refl)
 begins (rename old new) = (_, refl)
 begins (obtain n) = (_, refl)
 begins lspace = (_, refl)
+begins (preview c) = begins c
 
 written-listed : (c : Call) (b : Lent) (o : Outcome) → Listed c o → ZeroOr (refusals c) (written b o .number)
 written-listed c b (refuse n) h = by (eqb n 0) (λ e. rw e) (λ e. rw e (h .within))

@@ -6,14 +6,14 @@ use mathlib.Core.Bool.{true}
 use mathlib.Core.List.{List, [], _∷_}
 use lib.Dec.{eqb}
 use Rattle.model.specs.Basics.{any}
-use Rattle.rules.specs.Calls.{Call, allocate, extend, lspace, obtain, release, rename, scratch}
+use Rattle.rules.specs.Calls.{Call, allocate, extend, lspace, obtain, preview, release, rename, scratch}
 
 -- "Checked in order: initialise 1, 2"
 abbrev pub refusalsOfInitialise : List ℕ
 refusalsOfInitialise = 1 ∷ 2 ∷ []
 
 -- "allocate 2, 3, 4, 7, 6, 9, 11; extend 2, 3, 4, 5, 8, 9, 10, 11; release 2, 3, 4, 5, 12, 11; scratch and obtain 2, 3, 4, 5;
--- rename 2, 3, 4 (either name), 5, 6; LSPACE 2, 3"
+-- rename 2, 3, 4 (either name), 5, 6; LSPACE 2, 3"; a preview as its call
 abbrev pub refusals : Call → List ℕ
 refusals (allocate q) = 2 ∷ 3 ∷ 4 ∷ 7 ∷ 6 ∷ 9 ∷ 11 ∷ []
 refusals (extend n) = 2 ∷ 3 ∷ 4 ∷ 5 ∷ 8 ∷ 9 ∷ 10 ∷ 11 ∷ []
@@ -22,6 +22,7 @@ refusals (scratch n) = 2 ∷ 3 ∷ 4 ∷ 5 ∷ []
 refusals (rename old new) = 2 ∷ 3 ∷ 4 ∷ 5 ∷ 6 ∷ []
 refusals (obtain n) = 2 ∷ 3 ∷ 4 ∷ 5 ∷ []
 refusals lspace = 2 ∷ 3 ∷ []
+refusals (preview c) = refusals c
 
 abbrev pub OneOf : List ℕ → ℕ → Type 0
 OneOf ns n = any (eqb n) ns ≡ true
