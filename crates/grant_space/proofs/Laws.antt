@@ -1,7 +1,7 @@
 -- A grant, planned and ready to be written. Assumes nothing.
 use mathlib.Core.Path.{_≡_, refl, sym, ap, _∙_, subst}
 use mathlib.Core.Bool.{Bool, true, false, cond}
-use mathlib.Core.Option.{none}
+use mathlib.Core.Option.{none, some}
 use mathlib.Core.List.{List, [], _∷_, _++_, map}
 use Prim.Native.Nat.{ℕ, _+_, _≤_}
 use native.Mathlib.Omega.{arith}
@@ -25,7 +25,7 @@ use Rattle.set_extents.proofs.Laws.{pieces-good}
 use Rattle.update.specs.declared.Home.{Home}
 use Rattle.update.specs.declared.Plan.{Plan}
 use Rattle.update.specs.Commit.{Draft, Leaves, Puts, drafted}
-use Rattle.update.proofs.Put.{put-full}
+use Rattle.update.proofs.Put.{is-w, put-full}
 use Rattle.update.proofs.Sets.{slots-shown}
 use Rattle.grant_space.specs.Granting.{GrantPlans, GrantWrites, Grants, grown}
 
@@ -161,6 +161,11 @@ module _ {g : Geometry} {t m s : List ℕ} {h : Holder} {rows : List (List ℕ)}
     pub grant-full : p .fits ≡ false → grown d ≡ none
     unfolding draft
     grant-full e = put-full (draft (leb (n + count) 3) refl) (x .askedIs) (x .plan) e
+
+    -- it is not: there is a volume that the grant leaves
+    pub grant-there : p .fits ≡ true → (w : Volume) × (grown d ≡ some w)
+    unfolding draft
+    grant-there e = (_, is-w (draft (leb (n + count) 3) refl) (x .askedIs) (x .plan) e)
 
 -- ---- written
 

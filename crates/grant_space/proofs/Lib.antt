@@ -1,3 +1,4 @@
 pub mod NewSet
 pub mod MoreSpace
+pub mod Decided
 pub mod Laws

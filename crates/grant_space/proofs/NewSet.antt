@@ -1,16 +1,17 @@
 -- A new data set gets its pieces: what is refused, and what is put. Assumes nothing.
 use mathlib.Core.Path.{_≡_, refl, sym, ap, ap₂, _∙_, subst}
 use mathlib.Core.Bool.{true, false}
-use mathlib.Core.Option.{Option, some}
-use mathlib.Core.List.{List, [], _∷_, map}
-use Prim.Native.Nat.{ℕ, _*_, _≤_, _<_}
+use mathlib.Core.Option.{Option, none, some}
+use mathlib.Core.List.{List, [], _∷_}
+use Prim.Native.Nat.{ℕ, _*_, _+_, _≤_, _<_}
 use native.Mathlib.Omega.{arith}
+use borrow.Author.Tests.{le-leb}
 use lib.Dec.{T, eqb, eqb→eq, leb, leb→le}
-use lib.ListN.{length, take}
+use lib.ListN.{length, length-map, take}
 use Rattle.model.specs.Choice.{SpaceOption}
-use Rattle.model.specs.Model.{Extent, Geometry, Label, Run, Volume, extent, free, held, overs, slots, total, tracks}
+use Rattle.model.specs.Model.{Extent, Geometry, Label, Volume, free, held, overs, slots, tracks}
 use Rattle.model.proofs.Lists.{and-l, and-r, is-true}
-use Rattle.rules.specs.Calls.{Amount, absolute, allocateBy, allocatePieces, answer, given, granted, inCylinders, inRange, inTracks, newSet, settled, unitOf, grant as granting}
+use Rattle.rules.specs.Calls.{Amount, Outcome, absolute, allocateBy, allocatePieces, given, granted, inCylinders, inRange, inTracks, newSet, onCopy, settled, unitOf, grant as granting}
 use Rattle.rules.specs.Entries.{lent, written}
 use Rattle.rules.specs.Ledger.{adds}
 use Rattle.rules.specs.Reading.{read}
@@ -21,23 +22,23 @@ use Rattle.rules.proofs.Grants.{allocate-by-keeps}
 use Rattle.rules.proofs.Kept.{Keeps}
 use Rattle.rules.proofs.Settle.{used-tally}
 use Rattle.bitmap.specs.Map.{Shows}
-use Rattle.choose_pieces.specs.Grant.{grantOf, rowsIn, row}
+use Rattle.choose_pieces.specs.Grant.{grantOf}
 use Rattle.dscb_write.specs.Labels.{Format1, Format3, newLabel}
 use Rattle.request.specs.Request.{piecesOf, typeOf}
-use Rattle.request.proofs.Laws.{Fulfilled, accepted, refused}
-use Rattle.set_extents.specs.Change.{granted as more}
+use Rattle.request.proofs.Laws.{fulfilled-good}
+use Rattle.set_extents.specs.Change.{InRecords}
 use Rattle.open_table.specs.Opening.{Ready}
 use Rattle.open_table.proofs.Laws.{ready}
 use Rattle.free_extents.specs.FreeList.{Listed}
 use Rattle.free_extents.proofs.Chain.{runs-listed}
 use Rattle.open_table.proofs.Lookup.{limits-of, table-long}
-use Rattle.update.specs.declared.Plan.{Plan}
 use Rattle.update.specs.Commit.{Leaves}
-use Rattle.update.proofs.Replies.{is-granted, not-fitting}
+use Rattle.grant_space.specs.declared.Decision.{Decision}
 use Rattle.grant_space.specs.declared.Holder.{Holder}
-use Rattle.grant_space.specs.Granting.{GrantPlans, GrantWrites, Grants, grown}
-use Rattle.grant_space.proofs.Laws.{grant-full}
-use Rattle.grant_space.specs.Asking.{Asking, Chooses, asking}
+use Rattle.grant_space.specs.Granting.{GrantWrites, grown}
+use Rattle.grant_space.specs.Deciding.{Decides, Planned, Seeks, sought, withPieces}
+use Rattle.grant_space.specs.Asking.{Asking, Chooses, Foresees, asking, choice}
+use Rattle.grant_space.proofs.Decided.{declined, put, writes}
 
 range-secondary : (g : Geometry) (sec : ℕ) (a : Amount) → T (inRange g sec a) → sec < 16777216
 range-secondary g sec (inTracks n) r = let p : T (leb sec 16777215) = search (and-l, and-r) depth 9 in let q = leb→le sec 16777215 p in omega arith
@@ -96,95 +97,85 @@ module _ {t m s name at a : List ℕ} {g : Geometry} {o : SpaceOption} {amount :
       (rule-is ∙ ap (λ (x : Option (List Extent)). given x 9 (allocatePieces v (asking name at sec) amount)) c ∙ ap (settled (granted (overs es))) e)
       (allocate-by-keeps v (is-ready .valid) (asking name at sec) (d .longName) (d .nameGood) (d .longAttributes) amount o) .valid
 
-  -- ---- the choice
+  -- ---- the data set that seeks the pieces
 
-  module _ (p : List (List ℕ)) (f : (ls : List Label) → Shows m (tracks g) (held g ls) → Listed g t (free g ls) → p ≡ grantOf (piecesOf g ls o amount))
-      (count sum : ℕ) (c : (count ≡ length (rowsIn p)) × (sum ≡ total (rowsIn p))) where
-    pieces-are : p ≡ grantOf (piecesOf (v .geometry) ls o amount)
-    pieces-are = f ls shows lists ∙ ap (λ (y : Geometry). grantOf (piecesOf y ls o amount)) (d .geometryIs)
+  abbrev bare : Label
+  bare = newLabel name at (unitOf amount) sec
 
-    asks-there : Asks (v .geometry) amount
-    asks-there = subst (λ (y : Geometry). Asks y amount) (d .geometryIs) asks
+  abbrev there : Volume → List Extent → Outcome
+  there u es = allocatePieces u (asking name at sec) amount es
 
-    pub no-space : count ≡ 0 → Chooses t name at a o amount sec 9 t a
-    no-space z = sym (ap (λ (x : Option (List Extent)). written (lent t a []) (given x 9 (allocatePieces v (asking name at sec) amount))) (refused v (is-ready .valid) o amount asks-there p pieces-are count sum c z))
+  asks-there : Asks (v .geometry) amount
+  asks-there = subst (λ (y : Geometry). Asks y amount) (d .geometryIs) asks
 
-    module _ (nz : count ≡ 0 → ⊥) where
-      it : Fulfilled v o amount count sum p
-      it = accepted v (is-ready .valid) o amount asks-there p pieces-are count sum c nz
+  -- a new data set never has more than 16 extents
+  few-pieces : (es : List Extent) → chosen ≡ some es → length es ≤ 5
+  few-pieces es c = let a = fulfilled-good v (is-ready .valid) o amount es asks-there c .most in let b = length-map es (λ e. e .over) in omega arith
 
-      pub count-most : count ≤ 5
-      count-most = let a = it .number in let b = it .good .most in omega arith
+  choice-is : (x : Option (List Extent)) → chosen ≡ x → given x 9 (withPieces v ls bare) ≡ given x 9 (there v)
+  choice-is none c = refl
+  choice-is (some es) c = let e : leb (length (bare .extents) + length es) 16 ≡ true = le-leb (length (bare .extents) + length es) 16 (let a = few-pieces es c in omega arith) in rw e
 
-      pub sum-most : sum ≤ 65535
-      sum-most = let a = it .adds in let b = it .good .sum in let c = is-ready .limits .tracksMost in omega arith
+  module _ {p : List (List ℕ)} (f : (ls : List Label) → Shows m (tracks g) (held g ls) → Listed g t (free g ls) → p ≡ grantOf (piecesOf g ls o amount))
+      (h : Holder) (e : (h .slot ≡ 0) × (h .slot3 ≡ 0) × (h .extents ≡ 0) × (h .«type_byte» ≡ typeOf amount)) where
+    pub seeks : Seeks g t m s h p
+    seeks =
+        record {
+          volume = v;
+          others = ls;
+          label = bare;
+          option = o;
+          amount = amount;
+          ready = is-ready;
+          geometryIs = sym (d .geometryIs);
+          shown = d .shown;
+          slotIs = e .0;
+          slot3Is = e .1;
+          extentsAre = sym (e .2);
+          few = λ _. refl;
+          asks = asks-there;
+          typeIs = e .3;
+          chosen = f ls shows lists ∙ ap (λ (y : Geometry). grantOf (piecesOf y ls o amount)) (d .geometryIs);
+          heldApart = λ k. refl;
+          usedSame = λ k. let x = used-tally ls (v .chain) k in let y = used-tally (bare ∷ ls) (v .chain) k in omega arith;
+          stays = λ k u z. record { first = refl; third = refl };
+          valid = λ es c u w q. new-valid es c w q;
+        }
 
-      abbrev es : List Extent
-      es = map (extent (typeOf amount)) (it .ps)
+    volume-is : seeks .volume ≡ v
+    unfolding seeks
+    volume-is = refl
 
-      module _ (kind : ℕ) (ek : kind ≡ typeOf amount) where
-        abbrev bare : Label
-        bare = newLabel name at (unitOf amount) sec
+    sought-is : sought seeks ≡ choice t name at o amount sec
+    unfolding seeks
+    sought-is = choice-is chosen refl
 
-        abbrev holder : Holder
-        holder = record { slot = 0; slot3 = 0; extents = 0; count = count; «type_byte» = kind }
+    -- ---- what is decided, and what is written
 
-        label-is : more kind (it .ps) bare ≡ new es
-        label-is = ap (λ (y : ℕ). more y (it .ps) bare) ek
+    module _ {m′ c a′ : List ℕ} {r : Decision} (x : (y : Seeks g t m s h p) → Decides y a m′ c a′ r) where
+      pub foreseen : Foresees t name at a o amount sec (r .refusal) a′
+      foreseen = x seeks .replied ∙ ap₂ (λ (w : Volume) (q : Outcome). written (lent t a []) (onCopy w q)) volume-is sought-is
 
-        pub grants : Grants g t m s holder (take count p)
-        grants =
-            record {
-              volume = v;
-              others = ls;
-              label = bare;
-              pieces = it .ps;
-              ready = is-ready;
-              geometryIs = sym (d .geometryIs);
-              shown = d .shown;
-              slotIs = refl;
-              slot3Is = refl;
-              extentsAre = refl;
-              few = λ _. refl;
-              good = it .good;
-              rowsAre = it .first;
-              countIs = it .number;
-              heldApart = λ k. refl;
-              usedSame = λ k. let x = used-tally ls (v .chain) k in let y = used-tally (bare ∷ ls) (v .chain) k in omega arith;
-              stays = λ k u z. record { first = refl; third = refl };
-              valid = λ w e. new-valid es (it .granted) w (sym (ap (settleWith v ls) label-is) ∙ e);
-            }
+      pub declines : (r .refusal ≡ 0 → ⊥) → Chooses t name at a o amount sec (r .refusal) t a′
+      declines nz = declined seeks (x seeks) nz ∙ ap (written (lent t a [])) sought-is
 
-        chosen-is : written (lent t a []) (settled (granted (it .ps)) (settleWith v ls (more kind (it .ps) bare))) ≡ written (lent t a []) (given chosen 9 (allocatePieces v (asking name at sec) amount))
-        chosen-is =
-            ap₂ (λ (ps : List Run) (l : Label). written (lent t a []) (settled (granted ps) (settleWith v ls l))) (sym (it .runs)) label-is
-            ∙ sym (ap (λ (x : Option (List Extent)). written (lent t a []) (given x 9 (allocatePieces v (asking name at sec) amount))) (it .granted))
+      module _ (z : r .refusal ≡ 0) where
+        pub planned : Planned seeks m′ c a′ r
+        planned = x seeks .planned z
 
-        module _ {m′ s′ chain : List ℕ} {plan : Plan} (x : GrantPlans g t m m′ s s′ chain holder (take count p) plan) where
-          pub full : plan .fits ≡ false → Chooses t name at a o amount sec 11 t a
-          unfolding grants
-          full e = not-fitting t a _ (granted (it .ps)) (grant-full grants x e) ∙ chosen-is
+        module _ (unit : ℕ) (eu : unit ≡ unitOf amount) (f1 f3 : List ℕ)
+            (written1 : (g : Geometry) → Format1 g (newLabel name at unit sec) f1) (written3 : (g : Geometry) (l : Label) → length (l .extents) ≤ 3 → Format3 g l f3) where
+          records : InRecords g (seeks .label) f1 f3
+          unfolding seeks
+          records =
+              record {
+                one = subst (λ (u : ℕ). Format1 g (newLabel name at u sec) f1) eu (written1 g);
+                three = written3 g bare (omega arith);
+              }
 
-          module _ (ok : plan .fits ≡ true) (unit : ℕ) (eu : unit ≡ unitOf amount) (f1 f3 : List ℕ)
-              (written1 : (g : Geometry) → Format1 g (newLabel name at unit sec) f1) (written3 : (g : Geometry) (l : Label) → length (l .extents) ≤ 3 → Format3 g l f3) where
-            -- what `write_grant` asks
-            pub writes : GrantWrites g t m′ chain plan holder (take count p) f1 f3
-            unfolding grants
-            writes =
-                record {
-                  mapBefore = m;
-                  emptyBefore = s;
-                  emptyAfter = s′;
-                  grants = grants;
-                  plans = x;
-                  fits = ok;
-                  records = record {
-                    one = subst (λ (u : ℕ). Format1 g (newLabel name at u sec) f1) eu (written1 g);
-                    three = written3 g bare (omega arith);
-                  };
-                }
+          -- what `write_grant` asks
+          pub grant-writes : GrantWrites g t m′ c (r .plan) (r .set) (take (r .set .count) p) f1 f3
+          grant-writes = writes seeks (x seeks) z records
 
-            pub put : (t′ a′ : List ℕ) → ((y : GrantWrites g t m′ chain plan holder (take count p) f1 f3) → Leaves (grown (y .grants)) t′)
-                → ((ps : List Run) → length ps ≡ count → total ps ≡ sum → take count p ≡ map row ps → a′ ≡ answer (granted ps)) → Chooses t name at a o amount sec 0 t′ a′
-            unfolding grants writes
-            put t′ a′ y z = is-granted t a _ (it .ps) t′ a′ (y writes) (z (it .ps) (it .number) (it .adds) (it .first)) ∙ chosen-is
+          pub placed : (t′ : List ℕ) → ((w : GrantWrites g t m′ c (r .plan) (r .set) (take (r .set .count) p) f1 f3) → Leaves (grown (w .grants)) t′) → Chooses t name at a o amount sec 0 t′ a′
+          placed t′ w = put seeks (x seeks) z records t′ w ∙ ap (written (lent t a [])) sought-is

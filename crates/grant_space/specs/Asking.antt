@@ -8,7 +8,7 @@ use lib.ListN.{length}
 use Rattle.model.specs.Basics.{any}
 use Rattle.model.specs.Choice.{SpaceOption}
 use Rattle.model.specs.Model.{Geometry, tracks}
-use Rattle.rules.specs.Calls.{Amount, Request, allocatePieces, given, grant, inRange, request}
+use Rattle.rules.specs.Calls.{Amount, Outcome, Request, allocatePieces, given, grant, inRange, onCopy, request}
 use Rattle.rules.specs.Entries.{lent, result, written}
 use Rattle.rules.specs.Reading.{read}
 use Rattle.rules.specs.Table.{goodName, named, taken}
@@ -32,9 +32,17 @@ pub record Asking (t m s name at a : List ℕ) (g : Geometry) (option : SpaceOpt
 abbrev pub asking : (name at : List ℕ) (secondary : ℕ) → Request
 asking name at secondary = request name at 0 0 0 secondary 0
 
--- the result, the table and the answer are those of the choice of pieces
+-- what the rule says of it: the choice of pieces, and the data set with them
+abbrev pub choice : (t name at : List ℕ) (option : SpaceOption) (amount : Amount) (secondary : ℕ) → Outcome
+choice t name at option amount secondary =
+    given (grant (read t .geometry) (read t .labels) option amount) 9 (allocatePieces (read t) (asking name at secondary) amount)
+
+-- the result, the table and the answer are those of the rule
 abbrev pub Chooses : (t name at a : List ℕ) (option : SpaceOption) (amount : Amount) (secondary r : ℕ) (t′ a′ : List ℕ) → Type 0
 Chooses t name at a option amount secondary r t′ a′ =
-    result r (lent t′ a′ [])
-    ≡ written (lent t a [])
-    (given (grant (read t .geometry) (read t .labels) option amount) 9 (allocatePieces (read t) (asking name at secondary) amount))
+    result r (lent t′ a′ []) ≡ written (lent t a []) (choice t name at option amount secondary)
+
+-- the same on a copy
+abbrev pub Foresees : (t name at a : List ℕ) (option : SpaceOption) (amount : Amount) (secondary r : ℕ) (a′ : List ℕ) → Type 0
+Foresees t name at a option amount secondary r a′ =
+    result r (lent t a′ []) ≡ written (lent t a []) (onCopy (read t) (choice t name at option amount secondary))

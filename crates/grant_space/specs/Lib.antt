@@ -1,3 +1,4 @@
 pub mod Asking
 pub mod Longer
 pub mod Granting
+pub mod Deciding

@@ -5,7 +5,7 @@ use mathlib.Core.List.{List, []}
 use lib.Dec.{T}
 use lib.ListN.{length}
 use Rattle.model.specs.Model.{Geometry, tracks}
-use Rattle.rules.specs.Calls.{extendSet}
+use Rattle.rules.specs.Calls.{extendSet, onCopy}
 use Rattle.rules.specs.Entries.{lent, result, written}
 use Rattle.rules.specs.Reading.{read}
 use Rattle.rules.specs.Table.{taken}
@@ -27,3 +27,8 @@ pub record Longer (t m s a : List ℕ) (g : Geometry) (k : ℕ) : Type 0 where
 abbrev pub Extended : {t m s a : List ℕ} {g : Geometry} {k : ℕ} → Longer t m s a g k → (r : ℕ) (t′ a′ : List ℕ) → Type 0
 Extended {t = t} {a = a} d r t′ a′ =
     result r (lent t′ a′ []) ≡ written (lent t a []) (extendSet (read t) (d .name) (d .there .label))
+
+-- the same on a copy
+abbrev pub ExtendForeseen : {t m s a : List ℕ} {g : Geometry} {k : ℕ} → Longer t m s a g k → (r : ℕ) (a′ : List ℕ) → Type 0
+ExtendForeseen {t = t} {a = a} d r a′ =
+    result r (lent t a′ []) ≡ written (lent t a []) (onCopy (read t) (extendSet (read t) (d .name) (d .there .label)))

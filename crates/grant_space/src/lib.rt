@@ -4,6 +4,7 @@ use choose_pieces::SpaceOption;
 use dscb::Geometry;
 use dscb::places::*;
 use refusals::*;
+use request::Amount;
 use request::Request;
 use update::Home;
 use update::Plan;
@@ -17,9 +18,10 @@ ghost use Rattle.dscb.specs.Forms.{geometryOf};
 ghost use Rattle.update.specs.Commit.{Leaves};
 ghost use Rattle.grant_space.specs.Granting.{GrantPlans, GrantWrites, Grants, grown};
 ghost use Rattle.choose_pieces.specs.Options.{toOption};
-ghost use Rattle.request.specs.Request.{toAmount};
-ghost use Rattle.grant_space.specs.Asking.{Asking, Chooses};
-ghost use Rattle.grant_space.specs.Longer.{Extended, Longer};
+ghost use Rattle.request.specs.Request.{toAmount, typeOf};
+ghost use Rattle.grant_space.specs.Asking.{Asking, Chooses, Foresees};
+ghost use Rattle.grant_space.specs.Longer.{ExtendForeseen, Extended, Longer};
+ghost use Rattle.grant_space.specs.Deciding.{Decides, Seeks};
 
 // A data set that is granted pieces: the slots of its format 1 and its format 3, 0 for none, how many extents it has, how many
 // pieces it gets, and of which type.
@@ -85,6 +87,78 @@ pub fn write_grant(
     update::write_set(table, g, free_tracks, chain, plan, home, f1, f3);
 }
 
+// What is decided of a grant: the refusal, 0 for none; where it is 0, the data set with its pieces and a plan that fits. Where it is
+// not, these are any numbers.
+pub struct Decision {
+    pub refusal: u32,
+    pub set: Holder,
+    pub plan: Plan,
+}
+
+// A grant that is refused.
+fn refused(refusal: u32, set: Holder) -> Decision
+    ensures { λ r. ⌜ r .refusal ≡ refusal ⌝ }
+{
+    Decision {
+        refusal,
+        set,
+        plan: update::no_plan(),
+    }
+}
+
+// Decides what a data set gets that seeks space, once the pieces are chosen: 9, 10, 11, or 0 with the answer. The table is only read:
+// a preview ends here, and its call has only to write.
+pub fn decide(
+    table: &[u8],
+    g: Geometry,
+    free_tracks: &mut [u64],
+    free_slots: &mut [u64],
+    chain: &mut [u16],
+    seeker: Holder,
+    pieces: [[u16; 2]; 5],
+    answer: &mut [u8],
+) -> Decision
+    requires { ⌜ Limits (geometryOf g) × (length (now table) ≡ 140 * slots (geometryOf g)) × (tracks (geometryOf g) ≤ 64 * length (now «free_tracks»)) × (length (now «free_slots») ≡ 8) × (length (now chain) ≡ 468) × (seeker .extents ≤ 16) × (length (now answer) ≡ 24) ⌝ }
+    requires { ⌜ Seeks (geometryOf g) (now table) (now «free_tracks») (now «free_slots») seeker pieces ⌝ }
+    ensures { λ r. ⌜ ((d : Seeks (geometryOf g) (now (table .entry)) (now («free_tracks» .entry)) (now («free_slots» .entry)) seeker pieces) → Decides d (now (answer .entry)) (now («free_tracks» .exit)) (now (chain .exit)) (now (answer .exit)) r) ⌝ }
+{
+    let got = choose_pieces::count_pieces(pieces);
+    if got.count == 0 {
+        return refused(E_NO_SPACE, seeker);
+    }
+    if seeker.extents + got.count > 16 {
+        return refused(E_EXTENTS, seeker);
+    }
+    let set = Holder {
+        slot: seeker.slot,
+        slot3: seeker.slot3,
+        extents: seeker.extents,
+        count: got.count,
+        type_byte: seeker.type_byte,
+    };
+    let plan = plan_grant(table, g, free_tracks, free_slots, chain, set, pieces);
+    if plan.fits {} else {
+        return refused(E_VTOC_FULL, set);
+    }
+    answers::put_granted(answer, pieces, got.count, got.tracks);
+    Decision { refusal: 0, set, plan }
+}
+
+// A data set that seeks an amount: the slots of its format 1 and its format 3, 0 for none, and how many extents it has.
+fn seeker_of(slot: usize, slot3: usize, extents: usize, amount: Amount) -> Holder
+    ensures { λ r. ⌜ (r .slot ≡ slot) × (r .slot3 ≡ slot3) × (r .extents ≡ extents) × (r .«type_byte» ≡ typeOf (toAmount amount)) ⌝ }
+{
+    Holder {
+        slot,
+        slot3,
+        extents,
+        count: 0,
+        type_byte: request::type_byte(amount),
+    }
+}
+
+// ---- allocate
+
 // Chooses the pieces of a request that is not refused so far, and grants them to a new data set: 0, 9 or 11.
 pub fn place(
     table: &mut [u8],
@@ -102,29 +176,43 @@ pub fn place(
     let amount = request.amount;
     let option = request.option;
     let pieces = request::fulfil(table, free_tracks, g, option, amount);
-    let got = choose_pieces::count_pieces(pieces);
-    if got.count == 0 {
-        return E_NO_SPACE;
-    }
-    let set = Holder {
-        slot: 0,
-        slot3: 0,
-        extents: 0,
-        count: got.count,
-        type_byte: request::type_byte(amount),
-    };
+    let seeker = seeker_of(0, 0, 0, amount);
     let mut chain = [0u16; 468];
-    let plan = plan_grant(table, g, free_tracks, free_slots, &mut chain, set, pieces);
-    if plan.fits {} else {
-        return E_VTOC_FULL;
+    let decision = decide(table, g, free_tracks, free_slots, &mut chain, seeker, pieces, answer);
+    if decision.refusal != 0 {
+        return decision.refusal;
     }
     let unit = request::unit_byte(amount);
     let f1 = &mut dscb_write::new_label(name, attributes, unit, request.secondary);
     let f3 = &mut dscb_write::empty_three();
-    write_grant(table, g, free_tracks, &chain, plan, set, pieces, f1, f3);
-    answers::put_granted(answer, pieces, got.count, got.tracks);
+    write_grant(table, g, free_tracks, &chain, decision.plan, decision.set, pieces, f1, f3);
     0
 }
+
+// The same without writing the table.
+pub fn preview_place(
+    table: &[u8],
+    g: Geometry,
+    free_tracks: &mut [u64],
+    free_slots: &mut [u64],
+    name: &[u8],
+    attributes: &[u8],
+    request: Request,
+    answer: &mut [u8],
+) -> u32
+    requires { ⌜ Asking (now table) (now «free_tracks») (now «free_slots») (now name) (now attributes) (now answer) (geometryOf g) (toOption (request .option)) (toAmount (request .amount)) (request .secondary) ⌝ }
+    ensures { λ r. ⌜ Foresees (now (table .entry)) (now (name .entry)) (now (attributes .entry)) (now (answer .entry)) (toOption (request .option)) (toAmount (request .amount)) (request .secondary) r (now (answer .exit)) ⌝ }
+{
+    let amount = request.amount;
+    let option = request.option;
+    let pieces = request::fulfil(table, free_tracks, g, option, amount);
+    let seeker = seeker_of(0, 0, 0, amount);
+    let mut chain = [0u16; 468];
+    let decision = decide(table, g, free_tracks, free_slots, &mut chain, seeker, pieces, answer);
+    decision.refusal
+}
+
+// ---- extend
 
 // Grants the data set whose format 1 is in slot k its secondary amount: 0, 8, 9, 10 or 11.
 pub fn lengthen(
@@ -147,28 +235,40 @@ pub fn lengthen(
     }
     let amount = request::secondary_of(f1[DS1SCALO], secondary);
     let pieces = request::fulfil(table, free_tracks, g, SpaceOption::NoOption, amount);
-    let got = choose_pieces::count_pieces(pieces);
-    if got.count == 0 {
-        return E_NO_SPACE;
-    }
-    if held.count + got.count > 16 {
-        return E_EXTENTS;
-    }
-    let set = Holder {
-        slot: k,
-        slot3: held.slot3,
-        extents: held.count,
-        count: got.count,
-        type_byte: request::type_byte(amount),
-    };
+    let seeker = seeker_of(k, held.slot3, held.count, amount);
     let mut chain = [0u16; 468];
-    let plan = plan_grant(table, g, free_tracks, free_slots, &mut chain, set, pieces);
-    if plan.fits {} else {
-        return E_VTOC_FULL;
+    let decision = decide(table, g, free_tracks, free_slots, &mut chain, seeker, pieces, answer);
+    if decision.refusal != 0 {
+        return decision.refusal;
     }
     let f1 = &mut f1;
     let f3 = &mut f3;
-    write_grant(table, g, free_tracks, &chain, plan, set, pieces, f1, f3);
-    answers::put_granted(answer, pieces, got.count, got.tracks);
+    write_grant(table, g, free_tracks, &chain, decision.plan, decision.set, pieces, f1, f3);
     0
+}
+
+// The same without writing the table.
+pub fn preview_longer(
+    table: &[u8],
+    g: Geometry,
+    free_tracks: &mut [u64],
+    free_slots: &mut [u64],
+    k: usize,
+    answer: &mut [u8],
+) -> u32
+    requires { ⌜ Longer (now table) (now «free_tracks») (now «free_slots») (now answer) (geometryOf g) k ⌝ }
+    ensures { λ r. ⌜ ((d : Longer (now (table .entry)) (now («free_tracks» .entry)) (now («free_slots» .entry)) (now (answer .entry)) (geometryOf g) k) → ExtendForeseen d r (now (answer .exit))) ⌝ }
+{
+    let held = data_set::set_at(table, g, k);
+    let f1 = held.f1;
+    let secondary = rows::three(&f1, SECONDARY);
+    if secondary == 0 {
+        return E_NO_SECONDARY;
+    }
+    let amount = request::secondary_of(f1[DS1SCALO], secondary);
+    let pieces = request::fulfil(table, free_tracks, g, SpaceOption::NoOption, amount);
+    let seeker = seeker_of(k, held.slot3, held.count, amount);
+    let mut chain = [0u16; 468];
+    let decision = decide(table, g, free_tracks, free_slots, &mut chain, seeker, pieces, answer);
+    decision.refusal
 }

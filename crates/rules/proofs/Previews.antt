@@ -2,7 +2,7 @@
 use mathlib.Core.Path.{_≡_, refl, sym, ap, ap₂, _∙_, subst}
 use mathlib.Core.Bool.{Bool, _&&_}
 use mathlib.Core.Option.{Option, none, some}
-use mathlib.Core.List.{List, [], _∷_}
+use mathlib.Core.List.{List, [], _∷_, _++_}
 use mathlib.Core.Logic.{_⊎_, inl, inr}
 use Prim.Native.Nat.{ℕ, zero, suc}
 use native.Mathlib.Omega.{arith}
@@ -11,11 +11,12 @@ use Rattle.model.specs.Basics.{mapOption}
 use Rattle.model.specs.Model.{Volume}
 use Rattle.model.proofs.Lists.{by, true-is}
 use Rattle.rules.specs.Calls.{Call, Outcome, accept, onCopy, preview, refuse, rule, unless}
+use Rattle.rules.specs.Contracts.{Performs}
 use Rattle.rules.specs.Demand3.{Deed, Did, Event, Ran, booked, booksAfter, performs, tableAfter, tableThen}
-use Rattle.rules.specs.Entries.{Lent, Result, goodLengths, lent, otherLengths, perform, ruled, written}
+use Rattle.rules.specs.Entries.{Lent, Result, goodLengths, lent, otherLengths, perform, result, ruled, written}
 use Rattle.rules.specs.Layout.{encode}
 use Rattle.rules.specs.Ledger.{Books, Effect, book, effect, stays}
-use Rattle.rules.specs.Previews.{AsOnCopy, Foretells, NoneNoticed, TakenOut, Unnoticed, besides}
+use Rattle.rules.specs.Previews.{AnyPlace, AsOnCopy, EachForetold, Foretells, NoneNoticed, SameReply, TakenOut, Unnoticed, withTable}
 use Rattle.rules.specs.Reading.{read}
 use Rattle.rules.specs.Table.{goodLength, taken}
 use Rattle.rules.proofs.Kept.{Keeps, unless-keeps}
@@ -24,9 +25,9 @@ use Rattle.rules.proofs.Taken.{taken-is}
 
 -- ---- as on a copy
 
-copy-besides : (b : Lent) (v : Volume) (o : Outcome) → encode v ≡ b .table → written b (onCopy v o) ≡ besides b (written b o)
-copy-besides b v (refuse n) e = refl
-copy-besides b v (accept r w) e = ap (λ (t : List ℕ). besides (lent t (b .answer) (b .extra)) (written b (accept r w))) e
+copy-with : (b : Lent) (v : Volume) (o : Outcome) → encode v ≡ b .table → written b (onCopy v o) ≡ withTable (b .table) (written b o)
+copy-with b v (refuse n) e = refl
+copy-with b v (accept r w) e = ap (λ (t : List ℕ). withTable t (written b (accept r w))) e
 
 pub as-on-copy : AsOnCopy
 unfolding perform goodLengths rule
@@ -34,23 +35,36 @@ as-on-copy b c =
     by (goodLengths b c)
     (λ l.
     by (taken (b .table))
-    (λ k. rw (l, k) (copy-besides b (read (b .table)) (rule (read (b .table)) c) (taken-is (b .table) (true-is k) .1)))
+    (λ k. rw (l, k) (copy-with b (read (b .table)) (rule (read (b .table)) c) (taken-is (b .table) (true-is k) .1)))
     (λ k. rw (l, k)))
     (λ l. rw l)
 
+-- ---- a refusal is the same on a copy
+
+module _ (v : Volume) (b b′ : Lent) (n : ℕ) (nz : n ≡ 0 → ⊥) where
+  pub copied : (o : Outcome) → result n b′ ≡ written b o → result n b′ ≡ written b (onCopy v o)
+  copied (refuse k) e = e
+  copied (accept r w) e = absurd (nz (ap (λ (z : Result). z .number) e))
+
+  pub uncopied : (o : Outcome) → result n b′ ≡ written b (onCopy v o) → result n b′ ≡ written b o
+  uncopied (refuse k) e = e
+  uncopied (accept r w) e = absurd (nz (ap (λ (z : Result). z .number) e))
+
 -- ---- preview, then call
 
--- the same result, and where it is 0 the same answer
-abbrev Alike : (r s : Result) → Type 0
-Alike r s = (s .number ≡ r .number) × (r .number ≡ 0 → s .after .answer ≡ r .after .answer)
+-- the same result; where it is 0 the same answer, where it is not both buffers as they were
+abbrev Alike : (b d : Lent) (p q : Result) → Type 0
+Alike b d p q =
+    (q .number ≡ p .number) × (p .number ≡ 0 → q .after .answer ≡ p .after .answer)
+    × ((n : ℕ) → p .number ≡ suc n → (p .after .answer ≡ b .answer) × (q .after .answer ≡ d .answer))
 
-written-alike : (v : Volume) (f : Effect) (b d : Lent) (o : Outcome) → Keeps v f o → Alike (written b o) (written d o)
-written-alike v f b d (refuse n) k = (refl, λ e. absurd (omega arith))
-written-alike v f b d (accept r w) k = (refl, λ e. refl)
+written-alike : (v : Volume) (f : Effect) (b d : Lent) (o : Outcome) → Keeps v f o → Alike b d (written b o) (written d o)
+written-alike v f b d (refuse n) k = (refl, λ e. absurd (omega arith), λ n e. (refl, refl))
+written-alike v f b d (accept r w) k = (refl, λ e. refl, λ n e. absurd (omega arith))
 
 -- what comes of a call goes by the table and by the lengths of the other buffers, not by their bytes
 perform-alike : (t : List ℕ) (c : Call) (a x b y : List ℕ) → length b ≡ length a → length y ≡ length x
-    → Alike (perform (lent t a x) c) (perform (lent t b y) c)
+    → Alike (lent t a x) (lent t b y) (perform (lent t a x) c) (perform (lent t b y) c)
 perform-alike t c a x b y la lx =
     by (taken t)
     (λ k.
@@ -64,16 +78,38 @@ perform-alike t c a x b y la lx =
     (written-alike (read t) (effect c) (lent t a x) (lent t b y) (unless long 2 (refuse 3))
     (unless-keeps (read t) (effect c) long 2 (refuse 3) (omega arith) (λ _. omega arith))))
 
-pub foretells : Foretells
-foretells c t a x r a′ x′ p b y s t′ b′ y′ q la lx =
+-- the call on the table as it was
+foretold : (c : Call) (t a x : List ℕ) (r : ℕ) (t₁ a′ x′ : List ℕ) → Performs (preview c) t a x r t₁ a′ x′
+    → (a₂ x₂ : List ℕ) (r₂ : ℕ) (t₂ a₂′ x₂′ : List ℕ) → Performs c t a₂ x₂ r₂ t₂ a₂′ x₂′ → length a₂ ≡ length a → length x₂ ≡ length x
+    → SameReply a a₂ r r₂ a′ a₂′
+foretold c t a x r t₁ a′ x′ p a₂ x₂ r₂ t₂ a₂′ x₂′ q la lx =
     let e = p ∙ as-on-copy (lent t a x) c in
-    let k = perform-alike t c a x b y la lx in
-    let n : r ≡ perform (lent t a x) c .number = ap (λ (z : Result). z .number) e in (
+    let k = perform-alike t c a x a₂ x₂ la lx in
+    let n : r ≡ perform (lent t a x) c .number = ap (λ (z : Result). z .number) e in
+    let one : a′ ≡ perform (lent t a x) c .after .answer = ap (λ (z : Result). z .after .answer) e in
+    let two : a₂′ ≡ perform (lent t a₂ x₂) c .after .answer = ap (λ (z : Result). z .after .answer) q in (
       ap (λ (z : Result). z .number) q ∙ k .0 ∙ sym n,
-      λ u. ap (λ (z : Result). z .after .answer) q ∙ k .1 (sym n ∙ u) ∙ sym (ap (λ (z : Result). z .after .answer) e),
+      λ u. two ∙ k .1 (sym n ∙ u) ∙ sym one,
+      λ i u. let f = k .2 i (sym n ∙ u) in (one ∙ f .0, two ∙ f .1),
     )
 
--- ---- taken out of a list
+pub foretells : Foretells
+foretells c t a x r t₁ a′ x′ p a₂ x₂ r₂ t₂ a₂′ x₂′ q la lx =
+    let same : t₁ ≡ t = ap (λ (z : Result). z .after .table) (p ∙ as-on-copy (lent t a x) c) in
+    (same, foretold c t a x r t₁ a′ x′ p a₂ x₂ r₂ t₂ a₂′ x₂′ (subst (λ (z : List ℕ). Performs c z a₂ x₂ r₂ t₂ a₂′ x₂′) same q) la lx)
+
+pub each-foretold : EachForetold
+each-foretold t a a₂ r r₂ t₂ a′ a₂′ l =
+    let told : (c : Call) → Performs (preview c) t a [] r t a′ [] → Performs c t a₂ [] r₂ t₂ a₂′ [] → SameReply a a₂ r r₂ a′ a₂′
+    = λ c p q. foretold c t a [] r t a′ [] p a₂ [] r₂ t₂ a₂′ [] q l refl in
+    record {
+      allocates = λ name attributes kind start amount secondary option. told _;
+      extends = λ name. told _;
+      releases = λ name ttr. told _;
+      scratches = λ name. told _;
+    }
+
+-- ---- in a list
 
 -- the books are the same after an entry that changes nothing
 book-stays : (a : List ℕ) (b : Books) → book stays a b ≡ b
@@ -90,6 +126,16 @@ preview-books c (suc n) a b = refl
 
 preview-table : (c : Call) (t : List ℕ) (e : Event) → Did (performs (preview c)) t e → e .table′ ≡ t
 preview-table c t e d = ap (λ (z : Result). z .after .table) (d ∙ as-on-copy (lent t (e .answer) (e .extra)) c)
+
+pub any-place : AnyPlace
+any-place t [] after r c a x =
+    let b : Lent = lent t a x in
+    let p : Result = perform b (preview c) in
+    let e : Event = record { deed = performs (preview c); answer = a; extra = x; number = p .number; table′ = p .after .table; answer′ = p .after .answer; extra′ = p .after .extra } in
+    (e, refl, refl, refl, (refl, subst (λ (z : List ℕ). Ran z after) (sym (ap (λ (z : Result). z .after .table) (as-on-copy b c))) r))
+any-place t (d ∷ before) after r c a x =
+    let y = any-place (tableThen (d .deed) (d .number) t (d .table′)) before after (r .1) c a x in
+    (y .0, y .1, y .2, y .3, (r .0, y .4))
 
 pub none-noticed : NoneNoticed
 none-noticed t [] rest r o = rw o (record { ran = tt; table = refl; books = λ b. refl })

@@ -187,7 +187,8 @@ module _ {g : Geometry} {t m s : List ℕ} {lo slot third : ℕ} {few : Bool} (d
   put-full e = outcome ∙ rw e
 
   module _ (ok : p .fits ≡ true) where
-    is-w : settleWith v (d .others) l₀ ≡ some w
+    -- the volume that is left: there is one
+    pub is-w : settleWith v (d .others) l₀ ≡ some w
     is-w = outcome ∙ rw ok
 
     hw : Valid w

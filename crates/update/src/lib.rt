@@ -15,7 +15,7 @@ ghost use Rattle.bitmap.specs.Map.{freeFrom};
 ghost use Rattle.dscb.specs.Forms.{geometryOf};
 ghost use Rattle.dscb_write.specs.Labels.{Format1};
 ghost use Rattle.update.specs.Writing.{Reached, chainEntry, cleared, fivesPut, fourPut, labelPut};
-ghost use mathlib.Core.Bool.{cond};
+ghost use mathlib.Core.Bool.{cond, false};
 ghost use Rattle.rules.specs.Slots.{asks, slotOr};
 ghost use Rattle.update.specs.Commit.{Drops, Leaves, Plans, Puts, drafted, remains};
 
@@ -211,6 +211,21 @@ pub struct Plan {
     pub from: usize,
     pub at: usize,
     pub given: [u16; 2],
+}
+
+// What stands for a plan where a call is refused before there is one.
+pub fn no_plan() -> Plan
+    ensures { λ r. ⌜ r .fits ≡ false ⌝ }
+{
+    Plan {
+        fits: false,
+        was: 0,
+        need: 0,
+        left: 0,
+        from: 0,
+        at: 0,
+        given: [0u16; 2],
+    }
 }
 
 // Plans a change. `free_tracks` shows the tracks that are free then, those below `lo` as before, and `free_slots` the slots that are
