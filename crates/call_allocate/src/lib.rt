@@ -1,7 +1,45 @@
 // Allocate: space for a new data set.
+use dscb::Geometry;
 use refusals::*;
-ghost use Rattle.rules.specs.Contracts.{Allocates};
+ghost use mathlib.Core.Path.{_≡_};
+ghost use Prim.Native.Nat.{_*_};
+ghost use lib.Dec.{T};
+ghost use lib.ListN.{length};
+ghost use Rattle.model.specs.Model.{slots};
+ghost use Rattle.rules.specs.Reading.{read};
+ghost use Rattle.rules.specs.Table.{taken};
+ghost use Rattle.rules.specs.Predicates.{Limits};
+ghost use Rattle.dscb.specs.Forms.{geometryOf};
+ghost use Rattle.rules.specs.Contracts.{Allocates, PreviewsAllocate};
 ghost use Rattle.check_table.specs.Check.{Roomy};
+ghost use Rattle.call_allocate.specs.Vetting.{Vets};
+
+// Refuses a request for an unknown kind or option, a number out of its range or a name that is on the volume: 7, 7, 6, or 0.
+fn vet(
+    table: &[u8],
+    g: Geometry,
+    name: &[u8],
+    kind: u32,
+    start: u32,
+    amount: u32,
+    secondary: u32,
+    option: u32,
+) -> u32
+    requires { ⌜ Limits (geometryOf g) × (length (now table) ≡ 140 * slots (geometryOf g)) × T (taken (now table)) × (geometryOf g ≡ read (now table) .geometry) ⌝ }
+    ensures { λ r. ⌜ Vets (now (table .entry)) (now (name .entry)) kind start amount secondary option r ⌝ }
+{
+    if request::is_known(kind, option) {} else {
+        return E_AMOUNT;
+    }
+    let request = request::read_request(kind, start, amount, secondary, option);
+    if request::in_range(request, g) {} else {
+        return E_AMOUNT;
+    }
+    if open_table::on_volume(table, g, name) {
+        return E_DUPLICATE;
+    }
+    0
+}
 
 // The call with a map to work in.
 fn allocate_in(
@@ -25,17 +63,12 @@ fn allocate_in(
     if opened.refusal != 0 {
         return opened.refusal;
     }
-    if request::is_known(kind, option) {} else {
-        return E_AMOUNT;
+    let g = opened.geometry;
+    let refusal = vet(table, g, name, kind, start, amount, secondary, option);
+    if refusal != 0 {
+        return refusal;
     }
     let request = request::read_request(kind, start, amount, secondary, option);
-    let g = opened.geometry;
-    if request::in_range(request, g) {} else {
-        return E_AMOUNT;
-    }
-    if open_table::on_volume(table, g, name) {
-        return E_DUPLICATE;
-    }
     grant_space::place(
         table,
         g,
@@ -79,6 +112,92 @@ pub fn allocate(
     }
     let mut free_tracks = [u64::MAX; 1024];
     allocate_in(
+        table,
+        name,
+        attributes,
+        kind,
+        start,
+        amount,
+        secondary,
+        option,
+        answer,
+        &mut free_tracks,
+    )
+}
+
+// ---- the preview: the call without the writing
+
+// The preview with a map to work in.
+fn preview_in(
+    table: &[u8],
+    name: &[u8],
+    attributes: &[u8],
+    kind: u32,
+    start: u32,
+    amount: u32,
+    secondary: u32,
+    option: u32,
+    answer: &mut [u8],
+    free_tracks: &mut [u64],
+) -> u32
+    requires { ⌜ Roomy (now table) (now «free_tracks») ⌝ }
+    ensures { λ r. ⌜ PreviewsAllocate (now (table .entry)) (now (name .entry)) (now (attributes .entry)) kind start amount secondary option (now (answer .entry)) r (now (answer .exit)) ⌝ }
+{
+    let mut free_slots = [0u64; 8];
+    let lengths = open_table::and_another(answer.len(), name.len(), attributes.len(), 52);
+    let opened = open_table::open_named(table, name, lengths, free_tracks, &mut free_slots);
+    if opened.refusal != 0 {
+        return opened.refusal;
+    }
+    let g = opened.geometry;
+    let refusal = vet(table, g, name, kind, start, amount, secondary, option);
+    if refusal != 0 {
+        return refusal;
+    }
+    let request = request::read_request(kind, start, amount, secondary, option);
+    grant_space::preview_place(
+        table,
+        g,
+        free_tracks,
+        &mut free_slots,
+        name,
+        attributes,
+        request,
+        answer,
+    )
+}
+
+// The preview.
+pub fn preview(
+    table: &[u8],
+    name: &[u8],
+    attributes: &[u8],
+    kind: u32,
+    start: u32,
+    amount: u32,
+    secondary: u32,
+    option: u32,
+    answer: &mut [u8],
+) -> u32
+    ensures { λ r. ⌜ PreviewsAllocate (now (table .entry)) (now (name .entry)) (now (attributes .entry)) kind start amount secondary option (now (answer .entry)) r (now (answer .exit)) ⌝ }
+{
+    if open_table::is_small(table) {
+        let mut free_tracks = [u64::MAX; 64];
+        return preview_in(
+            table,
+            name,
+            attributes,
+            kind,
+            start,
+            amount,
+            secondary,
+            option,
+            answer,
+            &mut free_tracks,
+        );
+    }
+    let mut free_tracks = [u64::MAX; 1024];
+    preview_in(
         table,
         name,
         attributes,

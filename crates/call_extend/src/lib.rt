@@ -1,7 +1,7 @@
 // Extend: the secondary amount for a data set.
 use names::Found;
 use refusals::*;
-ghost use Rattle.rules.specs.Contracts.{Extends};
+ghost use Rattle.rules.specs.Contracts.{Extends, PreviewsExtend};
 ghost use Rattle.check_table.specs.Check.{Roomy};
 
 // The call with a map to work in.
@@ -32,4 +32,41 @@ pub fn extend(table: &mut [u8], name: &[u8], answer: &mut [u8]) -> u32
     }
     let mut free_tracks = [u64::MAX; 1024];
     extend_in(table, name, answer, &mut free_tracks)
+}
+
+// ---- the preview: the call without the writing
+
+// The preview with a map to work in.
+fn preview_in(
+    table: &[u8],
+    name: &[u8],
+    answer: &mut [u8],
+    free_tracks: &mut [u64],
+) -> u32
+    requires { ⌜ Roomy (now table) (now «free_tracks») ⌝ }
+    ensures { λ r. ⌜ PreviewsExtend (now (table .entry)) (now (name .entry)) (now (answer .entry)) r (now (answer .exit)) ⌝ }
+{
+    let mut free_slots = [0u64; 8];
+    let lengths = open_table::answer_and_name(answer.len(), name.len());
+    let opened = open_table::open_named(table, name, lengths, free_tracks, &mut free_slots);
+    if opened.refusal != 0 {
+        return opened.refusal;
+    }
+    let g = opened.geometry;
+    let Found::Slot(k) = open_table::look_up(table, g, name) else {
+        return E_NOT_FOUND;
+    };
+    grant_space::preview_longer(table, g, free_tracks, &mut free_slots, k, answer)
+}
+
+// The preview.
+pub fn preview(table: &[u8], name: &[u8], answer: &mut [u8]) -> u32
+    ensures { λ r. ⌜ PreviewsExtend (now (table .entry)) (now (name .entry)) (now (answer .entry)) r (now (answer .exit)) ⌝ }
+{
+    if open_table::is_small(table) {
+        let mut free_tracks = [u64::MAX; 64];
+        return preview_in(table, name, answer, &mut free_tracks);
+    }
+    let mut free_tracks = [u64::MAX; 1024];
+    preview_in(table, name, answer, &mut free_tracks)
 }

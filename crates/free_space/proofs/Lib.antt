@@ -3,3 +3,4 @@ pub mod Release
 pub mod Scratch
 pub mod Laws
 pub mod Calls
+pub mod Decided

@@ -10,7 +10,7 @@ use lib.ListN.{length}
 use Rattle.model.specs.Basics.{bit}
 use Rattle.model.specs.Model.{Extent, Geometry, Label, Volume, held, oneSlot, runsOf, slots, slotsOf, tally, times, total, tracks, used}
 use Rattle.model.proofs.Lists.{and-l, and-r, sum-append, true-is}
-use Rattle.rules.specs.Calls.{accept, answer, givenBack, goodTtr, releaseSet, releaseTracks, settled, shorter, tracksKeptOf, unless}
+use Rattle.rules.specs.Calls.{Outcome, accept, answer, givenBack, goodTtr, onCopy, releaseSet, releaseTracks, settled, shorter, tracksKeptOf, unless}
 use Rattle.rules.specs.Ledger.{keeps}
 use Rattle.rules.specs.Entries.{lent, result, written}
 use Rattle.rules.specs.Slots.{kept3, settleWith, without}
@@ -26,8 +26,8 @@ use Rattle.bitmap.proofs.Held.{shows-same}
 use Rattle.check_label.specs.Marks.{units}
 use Rattle.update.specs.declared.Home.{Home}
 use Rattle.update.specs.Commit.{Draft, Leaves, Puts, drafted}
-use Rattle.update.proofs.Put.{put-full}
-use Rattle.update.proofs.Replies.{is-given-back, not-fitting}
+use Rattle.update.proofs.Put.{is-w, put-full}
+use Rattle.update.proofs.Replies.{back-foreseen, is-given-back, not-fitting}
 use Rattle.update.proofs.Sets.{held-apart, held-front, others-stay, shows-below, slots-inside, slots-once, slots-shown, used-apart}
 use Rattle.dscb.specs.Records.{slotBytes}
 use Rattle.dscb_write.specs.Labels.{withTtr}
@@ -40,6 +40,7 @@ use Rattle.free_space.specs.Giving.{At, FreedSlot, Measures}
 use Rattle.free_space.proofs.Laws.{stays-is, tail-is}
 use Rattle.free_space.specs.declared.Cut.{Cut}
 use Rattle.free_space.specs.Shorter.{CutPlans, Shortens}
+use Rattle.free_space.specs.Deciding.{ForeseesAt, releaseOf}
 
 -- what a good TTR says
 pub ttr-fits : (ttr all : ℕ) → goodTtr ttr all ≡ true → (ttr < 16777216) × (ttr / 256 + 1 ≤ all)
@@ -181,6 +182,13 @@ module _ {g : Geometry} {t m s : List ℕ} {k : ℕ} (d : At g t m s k) (ttr : �
     pub full : (a : List ℕ) → r .plan .fits ≡ false → result 11 (lent t a []) ≡ written (lent t a []) (releaseSet v (d .name) ttr l)
     unfolding draft
     full a h = not-fitting t a _ (givenBack (total (runsOf l) - n)) (put-full draft (z .askedIs) (z .plan) h) ∙ sym (ap (written (lent t a [])) rule-is)
+
+    -- on a copy
+    pub cut-foreseen : r .plan .fits ≡ true → (a a′ : List ℕ) → a′ ≡ answer (givenBack (x .tracks - n)) → ForeseesAt d (releaseOf d ttr) a 0 a′
+    unfolding draft
+    cut-foreseen fits a a′ e =
+        back-foreseen t a _ v _ (d .ready .bytes) (is-w draft (z .askedIs) (z .plan) fits) a′ (total (runsOf l) - n) (e ∙ ap (λ (i : ℕ). answer (givenBack (i - n))) (y .spread .sum))
+        ∙ sym (ap (λ (o : Outcome). written (lent t a []) (onCopy v o)) rule-is)
 
     -- ---- written: f1 and f3 are the records, copied from the table and then cut
 

@@ -1,3 +1,4 @@
 pub mod Shorter
 pub mod Going
 pub mod Giving
+pub mod Deciding

@@ -22,6 +22,7 @@ ghost use Rattle.rules.specs.Calls.{goodTtr, releaseSet, removeSet};
 ghost use Rattle.rules.specs.Entries.{lent, result, written};
 ghost use Rattle.free_space.specs.Shorter.{CutPlans, Shortens};
 ghost use Rattle.free_space.specs.Going.{GoingPlans};
+ghost use Rattle.free_space.specs.Deciding.{Decides, ForeseesAt, releaseOf};
 
 // A data set: the slots of its format 1 and its format 3, 0 for none, its unit, how many extents it has, its tracks and the lowest
 // of them.
@@ -153,6 +154,62 @@ fn cut_set(f1: &mut [u8; 140], f3: &mut [u8; 140], g: Geometry, kept: Kept, ttr:
     dscb_write::set_ttr(f1, ttr);
 }
 
+// What is decided of a release: the refusal, 0 for none; where it is 0, the data set, what stays of it and a plan that fits. Where it
+// is not, these are any numbers.
+pub struct Decision {
+    pub refusal: u32,
+    pub set: Measured,
+    pub cut: Cut,
+}
+
+// A release that is refused before there is a plan.
+fn refused(refusal: u32, set: Measured) -> Decision
+    ensures { λ r. ⌜ r .refusal ≡ refusal ⌝ }
+{
+    let kept = Kept {
+        whole: 0,
+        type_byte: 0,
+        start: 0,
+        count: 0,
+    };
+    let cut = Cut {
+        kept,
+        few: false,
+        plan: update::no_plan(),
+    };
+    Decision { refusal, set, cut }
+}
+
+// Decides what the data set in slot k gives back behind the block TTR: 11, 12, or 0 with the answer. The table is only read: a preview
+// ends here, and its call has only to write.
+pub fn decide(
+    table: &[u8],
+    g: Geometry,
+    free_tracks: &mut [u64],
+    free_slots: &mut [u64],
+    chain: &mut [u16],
+    k: usize,
+    ttr: u32,
+    answer: &mut [u8],
+) -> Decision
+    requires { ⌜ Limits (geometryOf g) × (length (now table) ≡ 140 * slots (geometryOf g)) × (tracks (geometryOf g) ≤ 64 * length (now «free_tracks»)) × (length (now «free_slots») ≡ 8) × (length (now chain) ≡ 468) × (k < slots (geometryOf g)) × (length (now answer) ≡ 24) ⌝ }
+    requires { ⌜ At (geometryOf g) (now table) (now «free_tracks») (now «free_slots») k ⌝ }
+    ensures { λ r. ⌜ ((d : At (geometryOf g) (now (table .entry)) (now («free_tracks» .entry)) (now («free_slots» .entry)) k) → Decides d ttr (now (answer .entry)) (now («free_tracks» .exit)) (now (chain .exit)) (now (answer .exit)) r) ⌝ }
+{
+    let set = measure(table, g, k);
+    if good_ttr(ttr, set.tracks) {} else {
+        return refused(E_TTR, set);
+    }
+    let keep = kept_of(table, g, set, ttr);
+    let cut = plan_release(table, g, free_tracks, free_slots, chain, set, keep);
+    let plan = cut.plan;
+    if plan.fits {} else {
+        return refused(E_VTOC_FULL, set);
+    }
+    answers::put_back(answer, set.tracks - keep);
+    Decision { refusal: 0, set, cut }
+}
+
 // Cuts the data set in slot k behind the block TTR and writes it: 0, 11 or 12.
 pub fn release_set(
     table: &mut [u8],
@@ -167,28 +224,42 @@ pub fn release_set(
     requires { ⌜ At (geometryOf g) (now table) (now «free_tracks») (now «free_slots») k ⌝ }
     ensures { λ r. ⌜ ((d : At (geometryOf g) (now (table .entry)) (now («free_tracks» .entry)) (now («free_slots» .entry)) k) → result r (lent (now (table .exit)) (now (answer .exit)) []) ≡ written (lent (now (table .entry)) (now (answer .entry)) []) (releaseSet (d .volume) (d .name) ttr (d .it .label))) ⌝ }
 {
-    let x = measure(table, g, k);
-    if good_ttr(ttr, x.tracks) {} else {
-        return E_TTR;
-    }
-    let keep = kept_of(table, g, x, ttr);
     let mut chain = [0u16; 468];
-    let cut = plan_release(table, g, free_tracks, free_slots, &mut chain, x, keep);
-    let plan = cut.plan;
-    if plan.fits {} else {
-        return E_VTOC_FULL;
+    let decision = decide(table, g, free_tracks, free_slots, &mut chain, k, ttr, answer);
+    if decision.refusal != 0 {
+        return decision.refusal;
     }
+    let set = decision.set;
+    let cut = decision.cut;
     let mut f1 = dscb_write::record_of(dscb::record_at(table, k));
-    let mut f3 = data_set::third_record(table, x.slot3);
+    let mut f3 = data_set::third_record(table, set.slot3);
     cut_set(&mut f1, &mut f3, g, cut.kept, ttr);
     let home = Home {
-        slot: x.slot,
-        slot3: x.slot3,
+        slot: set.slot,
+        slot3: set.slot3,
         few: cut.few,
     };
-    update::write_set(table, g, free_tracks, &chain, plan, home, &mut f1, &f3);
-    answers::put_back(answer, x.tracks - keep);
+    update::write_set(table, g, free_tracks, &chain, cut.plan, home, &mut f1, &f3);
     0
+}
+
+// The same without writing the table.
+pub fn preview_release(
+    table: &[u8],
+    g: Geometry,
+    free_tracks: &mut [u64],
+    free_slots: &mut [u64],
+    k: usize,
+    ttr: u32,
+    answer: &mut [u8],
+) -> u32
+    requires { ⌜ Limits (geometryOf g) × (length (now table) ≡ 140 * slots (geometryOf g)) × (tracks (geometryOf g) ≤ 64 * length (now «free_tracks»)) × (length (now «free_slots») ≡ 8) × (k < slots (geometryOf g)) × (length (now answer) ≡ 24) ⌝ }
+    requires { ⌜ At (geometryOf g) (now table) (now «free_tracks») (now «free_slots») k ⌝ }
+    ensures { λ r. ⌜ ((d : At (geometryOf g) (now (table .entry)) (now («free_tracks» .entry)) (now («free_slots» .entry)) k) → ForeseesAt d (releaseOf d ttr) (now (answer .entry)) r (now (answer .exit))) ⌝ }
+{
+    let mut chain = [0u16; 468];
+    let decision = decide(table, g, free_tracks, free_slots, &mut chain, k, ttr, answer);
+    decision.refusal
 }
 
 // A data set that is to go, and the plan of what is left.
@@ -240,6 +311,17 @@ pub fn scratch_set(
         return E_VTOC_FULL;
     }
     update::write_drop(table, g, free_tracks, &chain, plan, set.slot, set.slot3);
+    answers::put_back(answer, set.tracks);
+    0
+}
+
+// The same without writing the table: the tracks of the data set, which never lacks a slot to go.
+pub fn preview_scratch(table: &[u8], g: Geometry, k: usize, answer: &mut [u8]) -> u32
+    requires { ⌜ Limits (geometryOf g) × (length (now table) ≡ 140 * slots (geometryOf g)) × (k < slots (geometryOf g)) × (length (now answer) ≡ 24) ⌝ }
+    requires { ⌜ ((m : List ℕ) × (s : List ℕ) × At (geometryOf g) (now table) m s k) ⌝ }
+    ensures { λ r. ⌜ ((m s : List ℕ) (d : At (geometryOf g) (now (table .entry)) m s k) → ForeseesAt d (removeSet (d .volume) (d .name) (d .it .label)) (now (answer .entry)) r (now (answer .exit))) ⌝ }
+{
+    let set = measure(table, g, k);
     answers::put_back(answer, set.tracks);
     0
 }

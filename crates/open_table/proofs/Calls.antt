@@ -2,7 +2,7 @@
 -- not the rule behind that decides. Assumes nothing.
 use mathlib.Core.Path.{_≡_, refl, sym, ap, ap₂, _∙_}
 use mathlib.Core.Bool.{Bool, true, false, cond, _&&_}
-use mathlib.Core.Option.{Option}
+use mathlib.Core.Option.{Option, none, some}
 use mathlib.Core.List.{List}
 use Prim.Native.Nat.{ℕ, zero, suc, _+_, _*_, _≤_, _<_}
 use native.Mathlib.Omega.{arith}
@@ -11,7 +11,7 @@ use lib.ListN.{length}
 use Rattle.open_table.specs.declared.Opening.{Opening}
 use Rattle.model.specs.Model.{Label, Volume, slots}
 use Rattle.model.proofs.Lists.{and-l, and-r, true-is}
-use Rattle.rules.specs.Calls.{Call, Outcome, given, refuse, rule, unless}
+use Rattle.rules.specs.Calls.{Call, Outcome, given, onCopy, preview, refuse, rule, unless}
 use Rattle.rules.specs.Entries.{Lent, callLengths, goodLengths, otherLengths, perform, result, unlessRefused, written}
 use Rattle.rules.specs.Reading.{read}
 use Rattle.rules.specs.Slots.{found}
@@ -31,6 +31,31 @@ pub record AsksTable (b : Lent) (c : Call) (ok good : Bool) (own : Volume → Ou
 pub record AsksSet (b : Lent) (c : Call) (ok good : Bool) (name : List ℕ) (own : Volume → Label → Outcome) : Type 0 where
   pub lengths : ok ≡ otherLengths c (length (b .answer)) (length (b .extra))
   pub rules : (v : Volume) → rule v c ≡ unless good 4 (given (found v name) 5 (own v))
+
+-- ---- a preview: as its call, on a copy
+
+copy-unless : (v : Volume) (good : Bool) (n : ℕ) (o : Outcome) → onCopy v (unless good n o) ≡ unless good n (onCopy v o)
+copy-unless v true n o = refl
+copy-unless v false n o = refl
+
+copy-given : {A : Type 0} (v : Volume) (x : Option A) (n : ℕ) (k : A → Outcome) → onCopy v (given x n k) ≡ given x n (λ a. onCopy v (k a))
+copy-given v none n k = refl
+copy-given v (some a) n k = refl
+
+pub preview-table : {b : Lent} {c : Call} {ok good : Bool} {own : Volume → Outcome} → AsksTable b c ok good own → AsksTable b (preview c) ok good (λ v. onCopy v (own v))
+unfolding rule
+preview-table {good = good} {own = own} y =
+    record { lengths = y .lengths; rules = λ v. ap (onCopy v) (y .rules v) ∙ copy-unless v good 4 (own v) }
+
+pub preview-set : {b : Lent} {c : Call} {ok good : Bool} {name : List ℕ} {own : Volume → Label → Outcome} → AsksSet b c ok good name own
+    → AsksSet b (preview c) ok good name (λ v l. onCopy v (own v l))
+unfolding rule
+preview-set {good = good} {name = name} {own = own} y =
+    record {
+      lengths = y .lengths;
+      rules = λ v.
+          ap (onCopy v) (y .rules v) ∙ copy-unless v good 4 (given (found v name) 5 (own v)) ∙ ap (unless good 4) (copy-given v (found v name) 5 (own v));
+    }
 
 -- ---- the outcome, whatever refuses a table
 
