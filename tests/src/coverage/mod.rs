@@ -141,7 +141,7 @@ impl Coverage {
             Call::Lspace if old.holes.is_empty() => self.saw("lspace with no free extent"),
             _ => {}
         }
-        if !matches!(call, Call::Initialise { .. }) {
+        if !matches!(call, Call::Initialise { .. } | Call::Preview(_)) {
             self.records(call, &old, &new);
         }
     }

@@ -94,6 +94,7 @@ fn with_lengths(call: &Call, len: usize) -> Vec<Call> {
             Call::Rename { old: cut(&old), new: new.clone() },
             Call::Rename { old: old.clone(), new: cut(&new) },
         ],
+        Call::Preview(call) => with_lengths(&call, len).iter().filter_map(Call::preview).collect(),
         Call::Initialise { .. } | Call::Lspace => vec![],
     }
 }

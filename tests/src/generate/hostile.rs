@@ -64,10 +64,14 @@ fn names_of(call: &mut Call) -> Vec<&mut Vec<u8>> {
         | Call::Obtain { name } => vec![name],
         Call::Rename { old, new } => vec![old, new],
         Call::Initialise { .. } | Call::Lspace => vec![],
+        Call::Preview(call) => names_of(call),
     }
 }
 
 fn spoil_name_length(rng: &mut Rng, call: &mut Call) {
+    if let Call::Preview(call) = call {
+        return spoil_name_length(rng, call);
+    }
     if let Call::Allocate { attributes, .. } = call {
         if rng.chance(50) {
             *attributes = attributes_of([0, 51, 53, 104][rng.below(4)], rng.byte());
@@ -104,6 +108,7 @@ fn spoil_number(rng: &mut Rng, call: &mut Call) {
             *ttr = if rng.chance(50) { rng.word() as u32 } else { wild(rng) }
         }
         Call::Initialise { c, h, d, s, v } => *[c, h, d, s, v][rng.below(5)] = wild(rng),
+        Call::Preview(call) => spoil_number(rng, call),
         _ => {}
     }
 }
