@@ -5,8 +5,9 @@ use super::elsewhere;
 use super::glance::glance;
 use super::rng::Rng;
 use crate::call::{Buffers, Call, ALX, CONTIG, MXIG, NO_OPTION};
-use crate::desk::{attributes, attributes_of};
+use crate::desk::attributes_of;
 use crate::reference::{extend, release, scratch};
+use crate::short::allocation;
 use crate::volumes::{fresh, name, open_slots, place, scattered, small};
 
 /// The volumes from elsewhere.
@@ -32,11 +33,6 @@ fn accepted() -> Vec<Call> {
         Call::Obtain { name: a() },
         Call::Lspace,
     ]
-}
-
-fn allocation(text: &str, kind: u32, start: u32, amount: u32, secondary: u32, option: u32) -> Call {
-    let (name, attributes) = (name(text).to_vec(), attributes(7));
-    Call::Allocate { name, attributes, kind, start, amount, secondary, option }
 }
 
 /// Volume A's end with one more set, which can be extended.
