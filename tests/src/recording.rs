@@ -175,7 +175,7 @@ impl Recording {
         let [c, h, d, s, v] = geometry;
         self.table_len = (d * v) as usize * 140;
         self.plain(Call::Initialise { c, h, d, s, v });
-        let mut session = Session::on(rng.word(), self.table(), shape);
+        let mut session = Session::on(rng.word(), self.table(), shape).with_previews();
         for _ in 0..calls {
             let trial = session.next_trial();
             let lent = &trial.buffers;

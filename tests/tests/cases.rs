@@ -20,9 +20,9 @@ fn digests() {
 fn all_is_covered() {
     let sequences = sequences();
     assert_eq!(coverage(&sequences).missing(&[]), [""; 0]);
-    assert!((20..=38).contains(&sequences.len()));
+    assert!((20..=40).contains(&sequences.len()));
     let rows: usize = sequences.iter().map(|sequence| sequence.desk.rows.len()).sum();
-    assert!((300..=700).contains(&rows), "{rows} rows");
+    assert!((300..=800).contains(&rows), "{rows} rows");
     let small = sequences.iter().filter(|s| size(s).0 <= 60 && size(s).1 <= 16).count();
     assert!(small + 2 >= sequences.len(), "more than two sequences on large volumes");
 }

@@ -49,7 +49,7 @@ fn every_result_is_due() {
 #[test]
 fn enough_is_enough() {
     assert_eq!(EACH, 10);
-    assert_eq!(WHOLE, 100_000);
+    assert_eq!(WHOLE, 150_000);
     assert_eq!(enough().too_few(WHOLE), Vec::<String>::new());
     assert_eq!(Coverage::default().too_few(WHOLE - 1), Vec::<String>::new());
 }

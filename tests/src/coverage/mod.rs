@@ -72,7 +72,7 @@ pub const WIDE: [&str; 7] = [
 
 /// The number of calls from which on a run must have seen everything, and the fewest with each
 /// result of each call then.
-pub const WHOLE: usize = 100_000;
+pub const WHOLE: usize = 150_000;
 pub const EACH: usize = 10;
 
 #[derive(Clone, Debug, Default)]

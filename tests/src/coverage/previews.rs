@@ -34,11 +34,10 @@ pub const PREVIEWS: [&str; 25] = [
 ];
 
 /// What a long run must see besides.
-pub const WIDE: [&str; 4] = [
+pub const WIDE: [&str; 3] = [
     "preview of allocate: 5 pieces",
     "preview of allocate: 11 though a slot is free",
     "preview of extend: format 3 needed",
-    "preview of extend: 11 though a slot is free",
 ];
 
 /// A preview that the next call may follow.

@@ -1,5 +1,5 @@
-//! Calls by the row: each length of each buffer, each byte in each place of a name, and
-//! numbers at and around their limits.
+//! Calls by the row: each length of each buffer, each byte in each place of a name, numbers at and
+//! around their limits, and previews of such calls.
 
 use super::elsewhere;
 use super::glance::glance;
@@ -23,7 +23,7 @@ fn row(call: Call, table: &[u8]) -> Row {
 /// Each call with arguments that Volume A's end accepts.
 fn accepted() -> Vec<Call> {
     let a = || name("FLT.A").to_vec();
-    vec![
+    let mut calls = vec![
         Call::Initialise { c: 4, h: 5, d: 4, s: 1, v: 2 },
         allocation("FLT.NEW", 0, 0, 3, 1, NO_OPTION),
         Call::Extend { name: name("FLT.B").to_vec() },
@@ -32,7 +32,10 @@ fn accepted() -> Vec<Call> {
         Call::Rename { old: a(), new: name("FLT.NEW").to_vec() },
         Call::Obtain { name: a() },
         Call::Lspace,
-    ]
+    ];
+    let previews: Vec<Call> = calls.iter().filter_map(Call::preview).collect();
+    calls.extend(previews);
+    calls
 }
 
 /// Volume A's end with one more set, which can be extended.
@@ -217,6 +220,14 @@ fn releases(tables: &[Vec<u8>], ttrs: impl Fn(u32) -> Vec<u32>) -> Vec<Row> {
         }
     }
     rows
+}
+
+/// Previews of the calls in the grids, where they have one; of the many amounts every fifth.
+pub fn previews() -> Vec<Row> {
+    let amounts = amounts().into_iter().step_by(5);
+    let others = [name_bytes(), options(), ttrs(), elsewhere()].into_iter().flatten();
+    let preview = |(call, buffers): Row| Some((call.preview()?, buffers));
+    amounts.chain(others).filter_map(preview).collect()
 }
 
 /// Sets of 16, 9 and 4 extents between others, more than 26 free extents, and a full VTOC.
