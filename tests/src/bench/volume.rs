@@ -129,8 +129,13 @@ impl Volume {
         Call::Allocate { name, attributes, kind, start: 0, amount, secondary: 1, option }
     }
 
-    /// The calls to time.
+    /// The calls to time; after those that have a preview in `PREVIEWS` that one, with the same
+    /// arguments.
     pub fn calls(&self) -> Vec<Timed<'_>> {
+        self.calls_alone().into_iter().flat_map(with_preview).collect()
+    }
+
+    fn calls_alone(&self) -> Vec<Timed<'_>> {
         let glance = self.glance();
         let g = glance.geometry;
         let (c, h, d) = (g.cylinders, g.heads, g.per_track);
@@ -199,6 +204,28 @@ impl Volume {
         ];
         figures.map(|figure| figure.to_string()).join(" | ")
     }
+}
+
+/// The rows of calls that have a row of their preview beside them, and that row.
+const PREVIEWS: [(&str, &str); 9] = [
+    ("allocate, tracks", "preview allocate, tracks"),
+    ("allocate, cylinders", "preview allocate, cylinders"),
+    ("allocate, five pieces", "preview allocate, five pieces"),
+    ("allocate, MXIG", "preview allocate, MXIG"),
+    ("allocate, ALX", "preview allocate, ALX"),
+    ("extend", "preview extend"),
+    ("release", "preview release"),
+    ("release, mid-cylinder", "preview release, mid-cylinder"),
+    ("scratch", "preview scratch"),
+];
+
+/// The row of a call and that of its preview, where there is one.
+fn with_preview(timed: Timed<'_>) -> Vec<Timed<'_>> {
+    let (table, wanted) = (timed.table, timed.wanted);
+    let what = PREVIEWS.iter().find(|(of, _)| *of == timed.what).map(|&(_, what)| what);
+    let preview = what.zip(timed.call.preview());
+    let preview = preview.map(|(what, call)| Timed { what, table, call, wanted });
+    std::iter::once(timed).chain(preview).collect()
 }
 
 /// What each volume holds.
