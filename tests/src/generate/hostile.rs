@@ -26,7 +26,7 @@ fn wild(rng: &mut Rng) -> u32 {
     *rng.pick(&WILD).expect("numbers")
 }
 
-/// Spoils one argument of the call, or one length.
+/// Spoils one argument of the call, which is no preview, or one length.
 pub fn spoil(rng: &mut Rng, call: &mut Call, buffers: &mut Buffers) {
     match rng.below(10) {
         0 => buffers.answer.resize([0, 1, 23, 25, 140][rng.below(5)], 0xA5),
@@ -69,9 +69,6 @@ fn names_of(call: &mut Call) -> Vec<&mut Vec<u8>> {
 }
 
 fn spoil_name_length(rng: &mut Rng, call: &mut Call) {
-    if let Call::Preview(call) = call {
-        return spoil_name_length(rng, call);
-    }
     if let Call::Allocate { attributes, .. } = call {
         if rng.chance(50) {
             *attributes = attributes_of([0, 51, 53, 104][rng.below(4)], rng.byte());
@@ -108,7 +105,6 @@ fn spoil_number(rng: &mut Rng, call: &mut Call) {
             *ttr = if rng.chance(50) { rng.word() as u32 } else { wild(rng) }
         }
         Call::Initialise { c, h, d, s, v } => *[c, h, d, s, v][rng.below(5)] = wild(rng),
-        Call::Preview(call) => spoil_number(rng, call),
         _ => {}
     }
 }

@@ -52,7 +52,7 @@ pub struct Session {
     shuffles: bool,
     /// The set that took the longest candidates whole with the last call.
     greedy: Option<Vec<u8>>,
-    /// Draws the previews, where there are any; the other calls are the same without them.
+    /// Draws the previews, where there are any: lives without them are as they were before request [3].
     previews: Option<Rng>,
     /// What comes after a preview, the last one first.
     next: Vec<Trial>,
