@@ -3,18 +3,10 @@
 
 use vtoc_tests::audit::{picture, table_with, Set};
 use vtoc_tests::call::{Call, ALX, CONTIG, MXIG};
-use vtoc_tests::desk::{Desk, Outcome};
+use vtoc_tests::desk::Desk;
 use vtoc_tests::generate::grids::{sixteen, tight};
 use vtoc_tests::short::*;
 use vtoc_tests::volumes::{name, open_slots};
-
-/// The preview and then the call, which have the same outcome.
-#[track_caller]
-fn seen_and_made(desk: &mut Desk, call: Call) -> Outcome {
-    let seen = desk.preview(&call);
-    assert_eq!(desk.call(call), seen);
-    seen
-}
 
 fn on(table: Vec<u8>) -> Desk {
     Desk { table, rows: vec![] }
@@ -24,20 +16,20 @@ fn on(table: Vec<u8>) -> Desk {
 #[test]
 fn volume_a() {
     let mut desk = Desk::begin(4, 5, 4, 1, 2);
-    seen_and_made(&mut desk, tracks("FLT.A", 4, 0)).granted(&[(3, 4)]);
-    seen_and_made(&mut desk, cylinders("FLT.B", 1, 0)).granted(&[(10, 5)]);
+    desk.seen_and_made(tracks("FLT.A", 4, 0)).granted(&[(3, 4)]);
+    desk.seen_and_made(cylinders("FLT.B", 1, 0)).granted(&[(10, 5)]);
     // "Here 3 tracks would be 7–9."
     desk.preview(&tracks("FLT.C", 3, 0)).granted(&[(7, 3)]);
-    let seen = seen_and_made(&mut desk, tracks("FLT.C", 7, 0));
+    let seen = desk.seen_and_made(tracks("FLT.C", 7, 0));
     let mut answer = [0; 24];
     answer[..11].copy_from_slice(&[0, 7, 2, 0, 15, 0, 5, 0, 7, 0, 2]);
     assert_eq!(seen.answer, answer);
-    seen_and_made(&mut desk, tracks("FLT.D", 2, 0)).refused(9);
-    seen_and_made(&mut desk, absolute("FLT.D", 19, 2)).refused(7);
-    seen_and_made(&mut desk, absolute("FLT.D", 6, 1)).refused(9);
-    seen_and_made(&mut desk, scratch("FLT.B")).gave_back(5);
-    seen_and_made(&mut desk, release("FLT.C", 7, 1)).refused(12);
-    let seen = seen_and_made(&mut desk, release("FLT.C", 4, 1));
+    desk.seen_and_made(tracks("FLT.D", 2, 0)).refused(9);
+    desk.seen_and_made(absolute("FLT.D", 19, 2)).refused(7);
+    desk.seen_and_made(absolute("FLT.D", 6, 1)).refused(9);
+    desk.seen_and_made(scratch("FLT.B")).gave_back(5);
+    desk.seen_and_made(release("FLT.C", 7, 1)).refused(12);
+    let seen = desk.seen_and_made(release("FLT.C", 4, 1));
     let mut answer = [0; 24];
     answer[1] = 2;
     assert_eq!(seen.answer, answer);
@@ -96,22 +88,22 @@ fn of_extend() {
     desk.scratch("N").accepted();
     desk.tracks("A", 1, 1).granted(&[(2, 1)]);
     for track in 3..18 {
-        seen_and_made(&mut desk, extend("A")).granted(&[(track, 1)]);
+        desk.seen_and_made(extend("A")).granted(&[(track, 1)]);
     }
     // Sixteen extents.
-    seen_and_made(&mut desk, extend("A")).refused(10);
+    desk.seen_and_made(extend("A")).refused(10);
     desk.release("A", 14, 1).gave_back(1);
-    seen_and_made(&mut desk, extend("A")).granted(&[(17, 1)]);
+    desk.seen_and_made(extend("A")).granted(&[(17, 1)]);
     desk.release("A", 2, 1).gave_back(13);
     desk.tracks("B", 35, 0).granted(&[(5, 35)]);
-    seen_and_made(&mut desk, extend("A")).refused(9);
+    desk.seen_and_made(extend("A")).refused(9);
     // Three extents, and no slot for a format 3.
     desk.release("B", 33, 1).gave_back(1);
     assert_eq!(open_slots(&desk.table), 0);
-    seen_and_made(&mut desk, extend("A")).refused(11);
+    desk.seen_and_made(extend("A")).refused(11);
     // A slot comes free, and it is the format 3's.
     desk.scratch("B").gave_back(34);
-    seen_and_made(&mut desk, extend("A")).granted(&[(5, 1)]);
+    desk.seen_and_made(extend("A")).granted(&[(5, 1)]);
 }
 
 /// H is 5. A cylinder file with 10–24: a preview of its release keeps whole cylinders as the release does.
@@ -137,12 +129,12 @@ fn of_release() {
 #[test]
 fn one_free_extent_too_many() {
     let mut desk = on(tight());
-    seen_and_made(&mut desk, tracks("NEW", 1, 0)).refused(11);
+    desk.seen_and_made(tracks("NEW", 1, 0)).refused(11);
     // 188–190, the first of four sets side by side: 189–190 would be a free extent of its own.
-    seen_and_made(&mut desk, release("BIG.N0", 0, 1)).refused(11);
-    seen_and_made(&mut desk, release("BIG.N0", 2, 1)).gave_back(0);
+    desk.seen_and_made(release("BIG.N0", 0, 1)).refused(11);
+    desk.seen_and_made(release("BIG.N0", 2, 1)).gave_back(0);
     // Its own slot is free by then.
-    seen_and_made(&mut desk, scratch("BIG.N1")).gave_back(3);
+    desk.seen_and_made(scratch("BIG.N1")).gave_back(3);
 }
 
 /// 27 free extents in two format 5s, and no slot: a set that fills one of them takes the slot of the
@@ -159,10 +151,10 @@ fn a_format_5_makes_room() {
     let table = table_with([55, 1, 7, 1, 1], sets).expect("sound");
     let mut desk = on(table);
     assert_eq!((open_slots(&desk.table), picture(&desk.table).unwrap().chain.len()), (0, 2));
-    seen_and_made(&mut desk, tracks("A", 1, 0)).granted(&[(2, 1)]);
-    seen_and_made(&mut desk, tracks("B", 1, 0)).refused(11);
-    seen_and_made(&mut desk, extend("COMB")).refused(10);
-    seen_and_made(&mut desk, extend("REST")).granted(&[(4, 1)]);
+    desk.seen_and_made(tracks("A", 1, 0)).granted(&[(2, 1)]);
+    desk.seen_and_made(tracks("B", 1, 0)).refused(11);
+    desk.seen_and_made(extend("COMB")).refused(10);
+    desk.seen_and_made(extend("REST")).granted(&[(4, 1)]);
 }
 
 /// A full VTOC refuses no scratch, and no preview of one; sets of sixteen, nine and four extents.
@@ -173,7 +165,7 @@ fn of_scratch() {
     desk.preview(&scratch("NONE")).refused(5);
     desk.preview(&scratch("9")).refused(4);
     for (text, tracks) in [("SIXTEEN", 32), ("NINE", 27), ("FOUR", 4)] {
-        seen_and_made(&mut desk.clone(), scratch(text)).gave_back(tracks);
+        desk.clone().seen_and_made(scratch(text)).gave_back(tracks);
     }
-    seen_and_made(&mut desk, scratch("FOUR")).gave_back(4);
+    desk.seen_and_made(scratch("FOUR")).gave_back(4);
 }

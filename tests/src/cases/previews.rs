@@ -3,22 +3,13 @@
 use super::{sequence, Sequence};
 use crate::audit::{table_with, Extent, Set};
 use crate::call::{Call, ALX, CONTIG, MXIG};
-use crate::desk::{Desk, Outcome};
+use crate::desk::Desk;
 use crate::reference::layout::ATTRIBUTES;
 use crate::short::*;
 use crate::volumes::name;
 
 pub fn sequences() -> Vec<Sequence> {
     vec![seen_first(), where_slots_decide()]
-}
-
-/// The preview and then the call, which have the same outcome.
-#[track_caller]
-fn seen_and_made(desk: &mut Desk, call: Call) -> Outcome {
-    let seen = desk.preview(&call);
-    let made = desk.call(call);
-    assert_eq!(seen, made);
-    made
 }
 
 fn seen_first() -> Sequence {
@@ -33,14 +24,14 @@ fn seen_first() -> Sequence {
 }
 
 fn grants(desk: &mut Desk) {
-    seen_and_made(desk, tracks("A", 4, 0)).granted(&[(3, 4)]);
-    seen_and_made(desk, cylinders("B", 1, 1)).granted(&[(10, 5)]);
+    desk.seen_and_made(tracks("A", 4, 0)).granted(&[(3, 4)]);
+    desk.seen_and_made(cylinders("B", 1, 1)).granted(&[(10, 5)]);
     // One after another, and nothing is taken: 7–9 and 15–19 stay free.
     desk.preview(&absolute("C", 16, 2)).granted(&[(16, 2)]);
     desk.preview(&tracks_by(CONTIG, "C", 3, 0)).granted(&[(7, 3)]);
     desk.preview(&tracks_by(MXIG, "C", 1, 0)).granted(&[(15, 5)]);
     desk.preview(&tracks_by(ALX, "C", 3, 0)).granted(&[(15, 5), (7, 3)]);
-    seen_and_made(desk, tracks("C", 7, 2)).granted(&[(15, 5), (7, 2)]);
+    desk.seen_and_made(tracks("C", 7, 2)).granted(&[(15, 5), (7, 2)]);
 }
 
 /// Free: 9.
@@ -48,29 +39,29 @@ fn refusals(desk: &mut Desk) {
     desk.preview(&tracks("", 1, 0)).refused(4);
     desk.preview(&absolute("D", 19, 2)).refused(7);
     desk.preview(&tracks("A", 1, 0)).refused(6);
-    seen_and_made(desk, tracks("D", 2, 0)).refused(9);
+    desk.seen_and_made(tracks("D", 2, 0)).refused(9);
     desk.preview(&extend("C.")).refused(4);
     desk.preview(&extend("D")).refused(5);
     desk.preview(&extend("A")).refused(8);
-    seen_and_made(desk, extend("B")).refused(9);
+    desk.seen_and_made(extend("B")).refused(9);
     desk.preview(&release("9", 0, 1)).refused(4);
     desk.preview(&release("D", 0, 1)).refused(5);
-    seen_and_made(desk, release("C", 7, 1)).refused(12);
+    desk.seen_and_made(release("C", 7, 1)).refused(12);
     desk.preview(&scratch("-")).refused(4);
-    seen_and_made(desk, scratch("D")).refused(5);
+    desk.seen_and_made(scratch("D")).refused(5);
 }
 
 fn given_back(desk: &mut Desk) {
     // All of a cylinder is kept.
-    seen_and_made(desk, release("B", 0, 1)).gave_back(0);
-    seen_and_made(desk, release("C", 4, 1)).gave_back(2);
-    // Free 7–9: two tracks. With what the preview of a scratch frees it would be a cylinder.
+    desk.seen_and_made(release("B", 0, 1)).gave_back(0);
+    desk.seen_and_made(release("C", 4, 1)).gave_back(2);
+    // A preview frees nothing: 7–9 holds no cylinder still.
     desk.preview(&scratch("B")).gave_back(5);
     desk.preview(&extend("B")).refused(9);
-    seen_and_made(desk, scratch("C")).gave_back(5);
-    seen_and_made(desk, extend("B")).granted(&[(15, 5)]);
+    desk.seen_and_made(scratch("C")).gave_back(5);
+    desk.seen_and_made(extend("B")).granted(&[(15, 5)]);
     // 10–14, though TT + 1 is two tracks.
-    seen_and_made(desk, release("B", 1, 1)).gave_back(5);
+    desk.seen_and_made(release("B", 1, 1)).gave_back(5);
     for option in [CONTIG, MXIG, ALX] {
         desk.preview(&cylinders_by(option, "D", 1, 0)).granted(&[(15, 5)]);
     }
@@ -89,10 +80,10 @@ fn where_slots_decide() -> Sequence {
 fn three_records(desk: &mut Desk) {
     desk.initialise(5, 4, 3, 1, 1).without_numbers();
     desk.tracks("A", 1, 1).granted(&[(2, 1)]);
-    seen_and_made(desk, tracks("B", 1, 0)).refused(11);
+    desk.seen_and_made(tracks("B", 1, 0)).refused(11);
     desk.extend("A").granted(&[(3, 1)]);
     desk.extend("A").granted(&[(4, 1)]);
-    seen_and_made(desk, extend("A")).refused(11);
+    desk.seen_and_made(extend("A")).refused(11);
 }
 
 /// The call with another length of its name.
@@ -153,14 +144,14 @@ fn full(desk: &mut Desk) {
     }
     desk.put(&other);
     // A 17th extent.
-    seen_and_made(desk, extend("COMB")).refused(10);
+    desk.seen_and_made(extend("COMB")).refused(10);
     // 41 would be the 27th free extent.
-    seen_and_made(desk, release("A", 4, 1)).refused(11);
+    desk.seen_and_made(release("A", 4, 1)).refused(11);
     desk.preview(&scratch("COMB")).gave_back(16);
     // 35–36, and on to 38: the format 3 goes, and a format 5 takes its slot.
-    seen_and_made(desk, release("A", 1, 1)).gave_back(2);
+    desk.seen_and_made(release("A", 1, 1)).gave_back(2);
     // Three free extents go, and with them that format 5.
-    seen_and_made(desk, extend("REST")).granted(&[(1, 1), (3, 1), (5, 1)]);
+    desk.seen_and_made(extend("REST")).granted(&[(1, 1), (3, 1), (5, 1)]);
 }
 
 /// H = 3. Free: 1, 3, 5, .., 33 and 43, 45, .., 59.

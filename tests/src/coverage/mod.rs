@@ -80,7 +80,7 @@ pub struct Coverage {
     pub results: BTreeMap<(usize, u32), usize>,
     pub features: BTreeMap<&'static str, usize>,
     /// The call before, where it was a preview.
-    preview: Option<Seen>,
+    last_preview: Option<Seen>,
 }
 
 impl Coverage {
@@ -95,23 +95,24 @@ impl Coverage {
             (Origin::Changed, 3) => self.saw("damaged table refused"),
             (Origin::Changed, 2) => {}
             (Origin::Changed, _) => self.saw("changed table accepted"),
-            (Origin::Live | Origin::Probe, _) if matches!(call, Call::Preview(_)) => {
-                self.preview(call, result, before, answer);
-            }
-            (Origin::Live | Origin::Probe, 0) => self.effect(call, before, after, answer),
-            (Origin::Live | Origin::Probe, _) => self.refusal(call, result, before),
+            (Origin::Live | Origin::Probe, _) => match call {
+                Call::Preview(call) => self.preview(call, result, before, answer),
+                _ if result == 0 => self.effect(call, before, after, answer),
+                _ => self.refusal(call, result, before),
+            },
         }
     }
 
     /// Where the call before was a preview, whether this is the call that it was of.
     fn after_a_preview(&mut self, call: &Call, result: u32, before: &[u8]) {
-        let path = self.preview.take().and_then(|seen| seen.followed_by(call, before, result));
+        let path = self.last_preview.take().and_then(|seen| seen.followed_by(call, before, result));
         path.into_iter().for_each(|path| self.saw(path));
-        self.preview = Seen::of(call, before);
+        self.last_preview = Seen::of(call, before);
     }
 
+    /// The preview of a call.
     fn preview(&mut self, call: &Call, result: u32, before: &[u8], answer: &[u8]) {
-        let (Call::Preview(call), Some(table)) = (call, glance(before)) else { return };
+        let Some(table) = glance(before) else { return };
         let paths = previews::shown(call, &table, result, answer);
         paths.into_iter().for_each(|path| self.saw(path));
     }

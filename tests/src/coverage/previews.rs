@@ -1,7 +1,7 @@
 //! The paths of previews, worked out from the table and the answer, and whether the call came next:
 //! document 02, [3].
 
-use crate::call::{Call, ALX, CONTIG, MXIG};
+use crate::call::{Call, ALX, CALL_NAMES, CONTIG, MXIG};
 use crate::generate::glance::{Glance, SetGlance};
 
 /// The paths that a run must see. Every refusal of every preview is due besides.
@@ -61,9 +61,11 @@ impl Seen {
         if matches!(call, Call::Preview(_)) {
             return find("preview, then another preview".into());
         }
-        let is_made = self.call == *call && self.table == table;
+        if self.call != *call || self.table != table {
+            return None;
+        }
         let end = if result == 0 { "accepted" } else { "refused" };
-        is_made.then(|| find(format!("preview of {}, then the call: {end}", verb(call))))?
+        find(format!("preview of {}, then the call: {end}", verb(call)))
     }
 }
 
@@ -72,7 +74,7 @@ fn find(path: String) -> Option<&'static str> {
 }
 
 fn verb(call: &Call) -> &'static str {
-    crate::call::CALL_NAMES[call.index()]
+    CALL_NAMES[call.index()]
 }
 
 /// What the preview of a call with this result shows of a sound table.
@@ -83,15 +85,11 @@ pub fn shown(call: &Call, table: &Glance, result: u32, answer: &[u8]) -> Vec<&'s
         }
         (Call::Extend { name }, 0) => extended(set_named(table, name), answer),
         (Call::Release { name, ttr }, 0) => released(set_named(table, name), ttr >> 8, answer),
-        (Call::Release { name, .. }, 11) => vec![(
-            set_named(table, name).is_some_and(|set| set.format_3.is_some()),
-            "11, set with a format 3",
-        )],
+        (Call::Release { name, .. }, 11) => {
+            vec![(has_format_3(table, name), "11, set with a format 3")]
+        }
         (Call::Scratch { name }, 0) => vec![
-            (
-                set_named(table, name).is_some_and(|set| set.format_3.is_some()),
-                "set with a format 3",
-            ),
+            (has_format_3(table, name), "set with a format 3"),
             (table.open.is_empty(), "full VTOC"),
         ],
         (_, 11) => vec![(!table.open.is_empty(), "11 though a slot is free")],
@@ -105,6 +103,10 @@ type Facts = Vec<(bool, &'static str)>;
 
 fn set_named<'a>(table: &'a Glance, name: &[u8]) -> Option<&'a SetGlance> {
     table.sets.iter().find(|set| set.name == name)
+}
+
+fn has_format_3(table: &Glance, name: &[u8]) -> bool {
+    set_named(table, name).is_some_and(|set| set.format_3.is_some())
 }
 
 fn word(answer: &[u8], at: usize) -> u32 {

@@ -8,7 +8,8 @@ use crate::reference::name::Name;
 use crate::reference::volume::Volume;
 use crate::reference::{records, records_mut, Refusal};
 
-/// What a release keeps of a set, and what it gives back. The slots for that are not counted yet.
+/// What a release keeps of a set, and what it gives back. The slots for that are not counted yet. As in
+/// `grants`, what is shared with the preview is inlined.
 struct Cut {
     set: DataSet,
     by_cylinders: bool,
@@ -19,6 +20,7 @@ struct Cut {
 }
 
 impl Cut {
+    #[inline(always)]
     fn new(volume: &Volume, records: &[Record], name: &Name, ttr: u32) -> Result<Cut, Refusal> {
         lawful(name)?;
         let slot = lookup(volume, records, name)?;
@@ -121,6 +123,7 @@ pub fn preview_release(table: &[u8], name: &[u8], ttr: u32, answer: &mut [u8]) -
 }
 
 /// The set to remove.
+#[inline(always)]
 fn condemned(volume: &Volume, records: &[Record], name: &Name) -> Result<DataSet, Refusal> {
     lawful(name)?;
     let slot = lookup(volume, records, name)?;
