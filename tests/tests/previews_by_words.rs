@@ -12,7 +12,7 @@ use vtoc_tests::generate::session::{lives, Origin, Session};
 use vtoc_tests::generate::shapes::{Shape, SHAPES};
 use vtoc_tests::ledger::Ledger;
 use vtoc_tests::short;
-use vtoc_tests::volumes::{fresh, name, small};
+use vtoc_tests::volumes::{fresh, name, place, small};
 
 /// "Its reply equals that of the call made on a copy of the table, refusals included, and the lent
 /// table is not written." Returns the result.
@@ -226,5 +226,25 @@ fn whatever_it_answers() {
         assert_eq!(entered, ledger);
         entered.enter(&call, 0, &answer);
         assert_ne!(entered, ledger);
+    }
+}
+
+/// A manager whose preview makes the call is found out: the ledger is not that of its table.
+#[test]
+fn a_preview_that_writes_is_noticed() {
+    let mut table = small();
+    place(&mut table, "FLT.B", 0, 0, 1, 1);
+    for call in [
+        short::tracks("FLT.D", 2, 0),
+        short::extend("FLT.B"),
+        short::release("FLT.A", 0, 1),
+        short::scratch("FLT.A"),
+    ] {
+        let mut ledger = Ledger::of(&picture(&table).expect("sound"));
+        let mut buffers = Buffers::new(table.clone(), 24, 280);
+        assert_eq!(call.run(&Reference, &mut buffers), 0);
+        ledger.enter(&call.preview().expect("one of the four"), 0, &buffers.answer);
+        assert!(ledger.agrees(&picture(&table).expect("sound")));
+        assert!(!ledger.agrees(&picture(&buffers.table).expect("sound")), "{call:?}");
     }
 }
