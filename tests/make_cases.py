@@ -11,7 +11,7 @@ use lib.Dec.{T}
 use Rattle.model.specs.Choice.{choose}
 use Rattle.model.specs.Model.{format0s, free, gaps, held, unused, used}
 use Rattle.model.specs.Tracks.{tracksKept}
-use Rattle.rules.specs.Calls.{allocate, extend, grant, lspace, obtain, release, rename, request, rule, scratch}
+use Rattle.rules.specs.Calls.{allocate, extend, grant, lspace, obtain, preview, release, rename, request, rule, scratch}
 use Rattle.rules.specs.Entries.{goodLengths, initialise, perform}
 use Rattle.rules.specs.Layout.{encode, extentPart, format1, format3, format4, format5, records}
 use Rattle.rules.specs.Listing.{listing, printable}

@@ -65,6 +65,19 @@ int main(int count, char **arguments)
     case 8:
         result = vtoc_lspace(table, length, answer, sizeof answer);
         break;
+    case 0x82:
+        result = vtoc_preview_allocate(table, length, name, record[1], second, record[2], number(0), number(1), number(2),
+                                       number(3), number(4), answer, sizeof answer);
+        break;
+    case 0x83:
+        result = vtoc_preview_extend(table, length, name, record[1], answer, sizeof answer);
+        break;
+    case 0x84:
+        result = vtoc_preview_release(table, length, name, record[1], number(0), answer, sizeof answer);
+        break;
+    case 0x85:
+        result = vtoc_preview_scratch(table, length, name, record[1], answer, sizeof answer);
+        break;
     }
     printf("%lu\n", (unsigned long)result);
     return EXIT_SUCCESS;

@@ -1,5 +1,6 @@
 //! A call made of the reference and of another manager, side by side, with watch kept over
-//! every lent byte, over bytes beside the lent ones, and over reads past them.
+//! every lent byte, over bytes beside the lent ones, and over reads past them. Beside a preview of
+//! the other stands the reference's call on a copy of the table.
 
 use std::hint::black_box;
 
@@ -125,7 +126,7 @@ pub fn both(
     manager: &impl Manager, call: &Call, buffers: &Buffers, rooms: &mut Rooms, sides: u64,
 ) -> Result<Answered, String> {
     let mut after = buffers.clone();
-    let expected = call.run(&Reference, &mut after);
+    let expected = expect(call, &mut after);
 
     let at_end = |bit: u32| sides >> bit & 1 == 1;
     let [first, second] = read_only(call);
@@ -149,6 +150,7 @@ pub fn both(
             Call::Rename { .. } => manager.rename(table, name, other, answer),
             Call::Obtain { .. } => manager.obtain(table, name, labels, answer),
             Call::Lspace => manager.lspace(table, answer),
+            Call::Preview(ref call) => preview(manager, call, [table, name, other], answer),
         }
     };
     // The other side may have written anything: nothing of it is known.
@@ -167,6 +169,32 @@ pub fn both(
     Ok(Answered { result, buffers: after })
 }
 
+/// The result that a call must have, with what it must leave in the buffers: the reference's, and of
+/// a preview the answer of its call "made on a copy of the table" (document 02).
+fn expect(call: &Call, buffers: &mut Buffers) -> u32 {
+    let Call::Preview(call) = call else {
+        return call.run(&Reference, buffers);
+    };
+    let table = buffers.table.clone();
+    let result = call.run(&Reference, buffers);
+    buffers.table = table;
+    result
+}
+
+/// The preview of a call, with the table, the name and the attributes that are lent.
+fn preview(
+    manager: &impl Manager, call: &Call, [table, name, other]: [&[u8]; 3], answer: &mut [u8],
+) -> u32 {
+    match *call {
+        Call::Allocate { kind, start, amount, secondary, option, .. } => manager
+            .preview_allocate(table, name, other, kind, start, amount, secondary, option, answer),
+        Call::Extend { .. } => manager.preview_extend(table, name, answer),
+        Call::Release { ttr, .. } => manager.preview_release(table, name, ttr, answer),
+        Call::Scratch { .. } => manager.preview_scratch(table, name, answer),
+        _ => unreachable!("no preview of {call:?}"),
+    }
+}
+
 /// The buffers that a call only reads, the table aside.
 fn read_only(call: &Call) -> [&[u8]; 2] {
     match call {
@@ -177,5 +205,6 @@ fn read_only(call: &Call) -> [&[u8]; 2] {
         | Call::Obtain { name } => [name, &[]],
         Call::Rename { old, new } => [old, new],
         Call::Initialise { .. } | Call::Lspace => [&[], &[]],
+        Call::Preview(call) => read_only(call),
     }
 }

@@ -39,6 +39,8 @@ pub enum Call {
         name: Vec<u8>,
     },
     Lspace,
+    /// The preview of an allocate, extend, release or scratch; there is none of another call.
+    Preview(Box<Call>),
 }
 
 /// Document 02's numbers of the space options.
@@ -47,10 +49,22 @@ pub const CONTIG: u32 = 1;
 pub const MXIG: u32 = 2;
 pub const ALX: u32 = 3;
 
-pub const CALL_NAMES: [&str; 8] =
-    ["initialise", "allocate", "extend", "release", "scratch", "rename", "obtain", "lspace"];
+pub const CALL_NAMES: [&str; 12] = [
+    "initialise",
+    "allocate",
+    "extend",
+    "release",
+    "scratch",
+    "rename",
+    "obtain",
+    "lspace",
+    "preview_allocate",
+    "preview_extend",
+    "preview_release",
+    "preview_scratch",
+];
 
-/// Anything that answers the eight calls: the reference, or the library it is compared with.
+/// Anything that answers the twelve calls: the reference, or the library it is compared with.
 pub trait Manager {
     #[allow(clippy::too_many_arguments)]
     fn initialise(
@@ -67,6 +81,14 @@ pub trait Manager {
     fn rename(&self, table: &mut [u8], old: &[u8], new: &[u8], answer: &mut [u8]) -> u32;
     fn obtain(&self, table: &[u8], name: &[u8], labels: &mut [u8], answer: &mut [u8]) -> u32;
     fn lspace(&self, table: &[u8], answer: &mut [u8]) -> u32;
+    #[allow(clippy::too_many_arguments)]
+    fn preview_allocate(
+        &self, table: &[u8], name: &[u8], attributes: &[u8], kind: u32, start: u32, amount: u32,
+        secondary: u32, option: u32, answer: &mut [u8],
+    ) -> u32;
+    fn preview_extend(&self, table: &[u8], name: &[u8], answer: &mut [u8]) -> u32;
+    fn preview_release(&self, table: &[u8], name: &[u8], ttr: u32, answer: &mut [u8]) -> u32;
+    fn preview_scratch(&self, table: &[u8], name: &[u8], answer: &mut [u8]) -> u32;
 }
 
 /// The reference as a manager.
@@ -101,6 +123,23 @@ impl Manager for Reference {
     }
     fn lspace(&self, table: &[u8], answer: &mut [u8]) -> u32 {
         reference::lspace(table, answer)
+    }
+    fn preview_allocate(
+        &self, table: &[u8], name: &[u8], attributes: &[u8], kind: u32, start: u32, amount: u32,
+        secondary: u32, option: u32, answer: &mut [u8],
+    ) -> u32 {
+        reference::preview_allocate(
+            table, name, attributes, kind, start, amount, secondary, option, answer,
+        )
+    }
+    fn preview_extend(&self, table: &[u8], name: &[u8], answer: &mut [u8]) -> u32 {
+        reference::preview_extend(table, name, answer)
+    }
+    fn preview_release(&self, table: &[u8], name: &[u8], ttr: u32, answer: &mut [u8]) -> u32 {
+        reference::preview_release(table, name, ttr, answer)
+    }
+    fn preview_scratch(&self, table: &[u8], name: &[u8], answer: &mut [u8]) -> u32 {
+        reference::preview_scratch(table, name, answer)
     }
 }
 
@@ -149,6 +188,39 @@ impl Call {
             Call::Rename { old, new } => manager.rename(table, old, new, answer),
             Call::Obtain { name } => manager.obtain(table, name, labels, answer),
             Call::Lspace => manager.lspace(table, answer),
+            Call::Preview(call) => call.preview_on(manager, table, answer),
+        }
+    }
+
+    /// Makes the preview of the call.
+    fn preview_on(&self, manager: &impl Manager, table: &[u8], answer: &mut [u8]) -> u32 {
+        match self {
+            &Call::Allocate {
+                ref name,
+                ref attributes,
+                kind,
+                start,
+                amount,
+                secondary,
+                option,
+            } => manager.preview_allocate(
+                table, name, attributes, kind, start, amount, secondary, option, answer,
+            ),
+            Call::Extend { name } => manager.preview_extend(table, name, answer),
+            Call::Release { name, ttr } => manager.preview_release(table, name, *ttr, answer),
+            Call::Scratch { name } => manager.preview_scratch(table, name, answer),
+            _ => unreachable!("no preview of {self:?}"),
+        }
+    }
+
+    /// The preview of the call, where there is one.
+    pub fn preview(&self) -> Option<Call> {
+        match self {
+            Call::Allocate { .. }
+            | Call::Extend { .. }
+            | Call::Release { .. }
+            | Call::Scratch { .. } => Some(Call::Preview(Box::new(self.clone()))),
+            _ => None,
         }
     }
 
@@ -163,18 +235,30 @@ impl Call {
             Call::Rename { .. } => 5,
             Call::Obtain { .. } => 6,
             Call::Lspace => 7,
+            Call::Preview(call) => FIRST_PREVIEW + call.index() - 1,
         }
     }
 }
 
+/// The place in `CALL_NAMES` of the preview of allocate, which stands at 1; the others follow alike.
+const FIRST_PREVIEW: usize = 8;
+
 /// The refusals each call can give, in the order it checks them (0: accepted).
-pub const RESULTS: [&[u32]; 8] = [
+pub const RESULTS: [&[u32]; 12] = [
     &[0, 1, 2],
-    &[0, 2, 3, 4, 7, 6, 9, 11],
-    &[0, 2, 3, 4, 5, 8, 9, 10, 11],
-    &[0, 2, 3, 4, 5, 12, 11],
-    &[0, 2, 3, 4, 5],
+    ALLOCATE,
+    EXTEND,
+    RELEASE,
+    SCRATCH,
     &[0, 2, 3, 4, 5, 6],
     &[0, 2, 3, 4, 5],
     &[0, 2, 3],
+    ALLOCATE,
+    EXTEND,
+    RELEASE,
+    SCRATCH,
 ];
+const ALLOCATE: &[u32] = &[0, 2, 3, 4, 7, 6, 9, 11];
+const EXTEND: &[u32] = &[0, 2, 3, 4, 5, 8, 9, 10, 11];
+const RELEASE: &[u32] = &[0, 2, 3, 4, 5, 12, 11];
+const SCRATCH: &[u32] = &[0, 2, 3, 4, 5];

@@ -85,6 +85,23 @@ impl Desk {
         outcome
     }
 
+    /// Makes the preview of a call on the desk's table, which must not change.
+    #[track_caller]
+    pub fn preview(&mut self, call: &Call) -> Outcome {
+        let before = self.table.clone();
+        let outcome = self.call(call.preview().expect("a call that has a preview"));
+        assert!(self.table == before, "written by a preview: {call:?}");
+        outcome
+    }
+
+    /// Makes the preview of a call and then the call, which must have the same outcome.
+    #[track_caller]
+    pub fn seen_and_made(&mut self, call: Call) -> Outcome {
+        let seen = self.preview(&call);
+        assert_eq!(self.call(call), seen);
+        seen
+    }
+
     /// Takes another system's table of the same length in place of its own.
     #[track_caller]
     pub fn put(&mut self, changed: &[u8]) {

@@ -1,4 +1,4 @@
-//! The reference with the library's eight C functions: a stand-in to try hosts and tests with
+//! The reference with the library's twelve C functions: a stand-in to try hosts and tests with
 //! before the library is built, or beside it. `tests/stand_in DIR` makes an archive of it.
 
 use crate::reference;
@@ -109,4 +109,52 @@ pub unsafe extern "C" fn vtoc_lspace(
     table: *const u8, table_len: usize, answer: *mut u8, answer_len: usize,
 ) -> u32 {
     reference::lspace(lent(table, table_len), lent_mut(answer, answer_len))
+}
+
+/// # Safety
+/// See `vtoc_initialise`.
+#[no_mangle]
+pub unsafe extern "C" fn vtoc_preview_allocate(
+    table: *const u8, table_len: usize, name: *const u8, name_len: usize, attributes: *const u8,
+    attributes_len: usize, kind: u32, start: u32, amount: u32, secondary: u32, option: u32,
+    answer: *mut u8, answer_len: usize,
+) -> u32 {
+    let (table, answer) = (lent(table, table_len), lent_mut(answer, answer_len));
+    let (name, attributes) = (lent(name, name_len), lent(attributes, attributes_len));
+    reference::preview_allocate(
+        table, name, attributes, kind, start, amount, secondary, option, answer,
+    )
+}
+
+/// # Safety
+/// See `vtoc_initialise`.
+#[no_mangle]
+pub unsafe extern "C" fn vtoc_preview_extend(
+    table: *const u8, table_len: usize, name: *const u8, name_len: usize, answer: *mut u8,
+    answer_len: usize,
+) -> u32 {
+    let (table, answer) = (lent(table, table_len), lent_mut(answer, answer_len));
+    reference::preview_extend(table, lent(name, name_len), answer)
+}
+
+/// # Safety
+/// See `vtoc_initialise`.
+#[no_mangle]
+pub unsafe extern "C" fn vtoc_preview_release(
+    table: *const u8, table_len: usize, name: *const u8, name_len: usize, ttr: u32,
+    answer: *mut u8, answer_len: usize,
+) -> u32 {
+    let (table, answer) = (lent(table, table_len), lent_mut(answer, answer_len));
+    reference::preview_release(table, lent(name, name_len), ttr, answer)
+}
+
+/// # Safety
+/// See `vtoc_initialise`.
+#[no_mangle]
+pub unsafe extern "C" fn vtoc_preview_scratch(
+    table: *const u8, table_len: usize, name: *const u8, name_len: usize, answer: *mut u8,
+    answer_len: usize,
+) -> u32 {
+    let (table, answer) = (lent(table, table_len), lent_mut(answer, answer_len));
+    reference::preview_scratch(table, lent(name, name_len), answer)
 }

@@ -3,7 +3,9 @@
 use std::hint::black_box;
 
 use crate::call::{Manager, ALX, CONTIG, MXIG};
-use crate::reference::layout::{FORMAT, FORMAT_1, RECORD, UNIT, UNIT_CYLINDERS, UNIT_TRACKS};
+use crate::reference::layout::{
+    put16, FORMAT, FORMAT_1, RECORD, UNIT, UNIT_CYLINDERS, UNIT_TRACKS,
+};
 
 /// What goes wrong, wherever it can.
 #[derive(Clone, Copy, Debug, PartialEq, Eq)]
@@ -32,7 +34,7 @@ pub enum Fault {
     NameByte,
     /// The last byte of the second name or of the attributes, which are only read.
     SecondByte,
-    /// The last byte of the table of an obtain or LSPACE, which only read it.
+    /// The last byte of the table of an obtain, LSPACE or preview, which only read it.
     ReadTableByte,
     /// MXIG gives the amount and no more, as CONTIG does.
     MxigAmountOnly,
@@ -42,9 +44,23 @@ pub enum Fault {
     CylindersCutInTwo,
     /// A release of a track file keeps whole cylinders.
     TracksToCylinders,
+    /// A preview counts no slots: it says 0 where its call says 11.
+    PreviewForgetsSlots,
+    /// The preview of an allocate reports the amount asked for, not the tracks of the pieces.
+    PreviewOfTheAmount,
+    /// The preview of a release reports all tracks of the set.
+    PreviewOfAllTracks,
+    /// The preview of a release keeps just TT + 1 tracks, of a cylinder file too.
+    PreviewCutsCylinders,
+    /// A preview makes the call.
+    PreviewMakesTheCall,
+    /// A refused preview changes a byte of the table.
+    PreviewRefusalWrites,
+    /// A refused preview clears the answer.
+    PreviewRefusalAnswers,
 }
 
-pub const FAULTS: [Fault; 17] = [
+pub const FAULTS: [Fault; 24] = [
     Fault::RefusesAll,
     Fault::AcceptsAll,
     Fault::OtherRefusal,
@@ -62,6 +78,13 @@ pub const FAULTS: [Fault; 17] = [
     Fault::AlxShortestFirst,
     Fault::CylindersCutInTwo,
     Fault::TracksToCylinders,
+    Fault::PreviewForgetsSlots,
+    Fault::PreviewOfTheAmount,
+    Fault::PreviewOfAllTracks,
+    Fault::PreviewCutsCylinders,
+    Fault::PreviewMakesTheCall,
+    Fault::PreviewRefusalWrites,
+    Fault::PreviewRefusalAnswers,
 ];
 
 pub struct Faulty<'a, M> {
@@ -90,12 +113,19 @@ fn unit_of<'a>(table: &'a mut [u8], name: &[u8]) -> Option<&'a mut u8> {
 }
 
 /// Writes a buffer that was lent for reading, as a library in another language could.
-fn flip_last_read(bytes: &[u8]) {
-    if let Some(last) = bytes.len().checked_sub(1) {
-        let at = black_box(bytes.as_ptr()).cast_mut();
+fn overwrite_read(bytes: &[u8], with: &[u8]) {
+    assert_eq!(bytes.len(), with.len());
+    let start = black_box(bytes.as_ptr()).cast_mut();
+    for (i, &byte) in with.iter().enumerate() {
         // SAFETY: the buffers of `beside` lie in memory that can be written.
-        unsafe { at.add(last).write_volatile(at.add(last).read_volatile() ^ 1) };
+        unsafe { start.add(i).write_volatile(byte) };
     }
+}
+
+fn flip_last_read(bytes: &[u8]) {
+    let mut flipped = bytes.to_vec();
+    flip_last(&mut flipped);
+    overwrite_read(bytes, &flipped);
 }
 
 impl<M: Manager> Faulty<'_, M> {
@@ -122,6 +152,27 @@ impl<M: Manager> Faulty<'_, M> {
         Some(result)
     }
 
+    /// Spoils a preview, whose call is `call`.
+    fn spoil_preview(
+        &self, result: u32, table: &[u8], name: &[u8], answer: &mut [u8],
+        call: impl FnOnce(&mut [u8], &mut [u8]) -> u32,
+    ) -> u32 {
+        match (self.fault, result) {
+            (Fault::PreviewForgetsSlots, 11) => return 0,
+            (Fault::PreviewMakesTheCall, 0) => {
+                let mut copy = table.to_vec();
+                call(&mut copy, answer);
+                overwrite_read(table, &copy);
+            }
+            (Fault::PreviewRefusalWrites, 1..) => flip_last_read(table),
+            (Fault::PreviewRefusalAnswers, 1..) => answer.fill(0),
+            _ => {}
+        }
+        self.spoil_read(Fault::NameByte, name);
+        self.spoil_read(Fault::ReadTableByte, table);
+        self.spoil(result, &mut [], answer)
+    }
+
     fn spoil(&self, result: u32, table: &mut [u8], answer: &mut [u8]) -> u32 {
         match (self.fault, result) {
             (Fault::RefusesAll, 0) => return 9,
@@ -132,7 +183,9 @@ impl<M: Manager> Faulty<'_, M> {
             (Fault::RefusalAnswers, 1..) => answer.fill(0),
             (Fault::RefusalWrites, 1..) => flip_last(table),
             // SAFETY: the buffers of `beside` lie inside larger ones of their own.
-            (Fault::AfterTable, 0) => unsafe { *table.as_mut_ptr().add(table.len()) ^= 1 },
+            (Fault::AfterTable, 0) if !table.is_empty() => unsafe {
+                *table.as_mut_ptr().add(table.len()) ^= 1
+            },
             (Fault::BeforeAnswer, 0) => unsafe { *answer.as_mut_ptr().sub(1) ^= 1 },
             _ => {}
         }
@@ -208,5 +261,52 @@ impl<M: Manager> Manager for Faulty<'_, M> {
         let result = self.manager.lspace(table, answer);
         self.spoil_read(Fault::ReadTableByte, table);
         self.spoil(result, &mut [], answer)
+    }
+    fn preview_allocate(
+        &self, table: &[u8], name: &[u8], attributes: &[u8], kind: u32, start: u32, amount: u32,
+        secondary: u32, option: u32, answer: &mut [u8],
+    ) -> u32 {
+        let result = self.manager.preview_allocate(
+            table, name, attributes, kind, start, amount, secondary, option, answer,
+        );
+        if (self.fault, result) == (Fault::PreviewOfTheAmount, 0) {
+            put16(answer, 0, amount);
+        }
+        self.spoil_read(Fault::SecondByte, attributes);
+        self.spoil_preview(result, table, name, answer, |table, answer| {
+            self.manager
+                .allocate(table, name, attributes, kind, start, amount, secondary, option, answer)
+        })
+    }
+    fn preview_extend(&self, table: &[u8], name: &[u8], answer: &mut [u8]) -> u32 {
+        let result = self.manager.preview_extend(table, name, answer);
+        self.spoil_preview(result, table, name, answer, |table, answer| {
+            self.manager.extend(table, name, answer)
+        })
+    }
+    fn preview_release(&self, table: &[u8], name: &[u8], ttr: u32, answer: &mut [u8]) -> u32 {
+        let result = self.manager.preview_release(table, name, ttr, answer);
+        match (self.fault, result) {
+            (Fault::PreviewOfAllTracks, 0) => {
+                self.manager.preview_scratch(table, name, answer);
+            }
+            (Fault::PreviewCutsCylinders, 0) => {
+                let mut copy = table.to_vec();
+                if let Some(unit) = unit_of(&mut copy, name) {
+                    *unit = UNIT_TRACKS;
+                }
+                self.manager.preview_release(&copy, name, ttr, answer);
+            }
+            _ => {}
+        }
+        self.spoil_preview(result, table, name, answer, |table, answer| {
+            self.manager.release(table, name, ttr, answer)
+        })
+    }
+    fn preview_scratch(&self, table: &[u8], name: &[u8], answer: &mut [u8]) -> u32 {
+        let result = self.manager.preview_scratch(table, name, answer);
+        self.spoil_preview(result, table, name, answer, |table, answer| {
+            self.manager.scratch(table, name, answer)
+        })
     }
 }

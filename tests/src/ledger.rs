@@ -95,7 +95,7 @@ impl Ledger {
                 let entry = self.sets.remove(old).unwrap_or_default();
                 self.sets.insert(new.clone(), entry);
             }
-            Call::Obtain { .. } | Call::Lspace => {}
+            Call::Obtain { .. } | Call::Lspace | Call::Preview(_) => {}
         }
     }
 

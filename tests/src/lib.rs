@@ -26,5 +26,6 @@ pub mod proved;
 pub mod recording;
 pub mod reference;
 pub mod replay;
+pub mod short;
 pub mod timing;
 pub mod volumes;

@@ -33,6 +33,23 @@ extern "C" {
         labels_len: usize, answer: *mut u8, answer_len: usize,
     ) -> u32;
     fn vtoc_lspace(table: *const u8, table_len: usize, answer: *mut u8, answer_len: usize) -> u32;
+    fn vtoc_preview_allocate(
+        table: *const u8, table_len: usize, name: *const u8, name_len: usize,
+        attributes: *const u8, attributes_len: usize, kind: u32, start: u32, amount: u32,
+        secondary: u32, option: u32, answer: *mut u8, answer_len: usize,
+    ) -> u32;
+    fn vtoc_preview_extend(
+        table: *const u8, table_len: usize, name: *const u8, name_len: usize, answer: *mut u8,
+        answer_len: usize,
+    ) -> u32;
+    fn vtoc_preview_release(
+        table: *const u8, table_len: usize, name: *const u8, name_len: usize, ttr: u32,
+        answer: *mut u8, answer_len: usize,
+    ) -> u32;
+    fn vtoc_preview_scratch(
+        table: *const u8, table_len: usize, name: *const u8, name_len: usize, answer: *mut u8,
+        answer_len: usize,
+    ) -> u32;
 }
 
 /// The library. An empty buffer goes over as a null pointer, as it may from a host in C.
@@ -130,5 +147,40 @@ impl Manager for Library {
     fn lspace(&self, table: &[u8], answer: &mut [u8]) -> u32 {
         let a = answer.len();
         unsafe { vtoc_lspace(read(table), table.len(), write(answer), a) }
+    }
+    fn preview_allocate(
+        &self, table: &[u8], name: &[u8], attributes: &[u8], kind: u32, start: u32, amount: u32,
+        secondary: u32, option: u32, answer: &mut [u8],
+    ) -> u32 {
+        let a = answer.len();
+        unsafe {
+            vtoc_preview_allocate(
+                read(table),
+                table.len(),
+                read(name),
+                name.len(),
+                read(attributes),
+                attributes.len(),
+                kind,
+                start,
+                amount,
+                secondary,
+                option,
+                write(answer),
+                a,
+            )
+        }
+    }
+    fn preview_extend(&self, table: &[u8], name: &[u8], answer: &mut [u8]) -> u32 {
+        let (t, n, a) = (table.len(), name.len(), answer.len());
+        unsafe { vtoc_preview_extend(read(table), t, read(name), n, write(answer), a) }
+    }
+    fn preview_release(&self, table: &[u8], name: &[u8], ttr: u32, answer: &mut [u8]) -> u32 {
+        let (t, n, a) = (table.len(), name.len(), answer.len());
+        unsafe { vtoc_preview_release(read(table), t, read(name), n, ttr, write(answer), a) }
+    }
+    fn preview_scratch(&self, table: &[u8], name: &[u8], answer: &mut [u8]) -> u32 {
+        let (t, n, a) = (table.len(), name.len(), answer.len());
+        unsafe { vtoc_preview_scratch(read(table), t, read(name), n, write(answer), a) }
     }
 }

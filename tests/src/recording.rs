@@ -126,8 +126,8 @@ impl Recording {
         }
     }
 
-    /// Records that no recorder writes: operations that there are not, lengths and places past
-    /// the end of a buffer. What they leave is no table.
+    /// Records that no recorder writes: operations that there are not, previews of calls that have none,
+    /// lengths and places past the end of a buffer. What they leave is no table.
     fn hostile(&mut self) {
         let obtain = Call::Obtain { name: vec![0xC1; 44] };
         let allocate = Call::Allocate {
@@ -142,6 +142,9 @@ impl Recording {
         for (at, bytes) in [
             (0, vec![0]),
             (0, vec![10]),
+            (0, vec![0x81]),
+            (0, vec![0x86]),
+            (0, vec![0x89]),
             (0, vec![255]),
             (1, vec![47]),
             (1, vec![255]),
@@ -175,7 +178,7 @@ impl Recording {
         let [c, h, d, s, v] = geometry;
         self.table_len = (d * v) as usize * 140;
         self.plain(Call::Initialise { c, h, d, s, v });
-        let mut session = Session::on(rng.word(), self.table(), shape);
+        let mut session = Session::on(rng.word(), self.table(), shape).with_previews();
         for _ in 0..calls {
             let trial = session.next_trial();
             let lent = &trial.buffers;

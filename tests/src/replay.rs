@@ -14,8 +14,10 @@ pub const LABELS: usize = 288;
 /// The most bytes that one record puts into the table.
 pub const PUT: usize = 100;
 
-/// The operation that is no call, and the result of one that there is not.
+/// The operation that is no call, what a preview's is above that of its call, and the result of one
+/// that there is not.
 const PUTTING: u8 = 9;
+const PREVIEW: u8 = 128;
 const UNKNOWN: u32 = 99;
 
 const NUMBERS_AT: usize = 8;
@@ -26,25 +28,14 @@ pub type Record = [u8; RECORD];
 
 /// The record of a call with these lengths of the lent buffers; nothing where one does not fit.
 pub fn record(call: &Call, table: usize, answer: usize, labels: usize) -> Option<Record> {
-    let (numbers, name, second): ([u32; 5], &[u8], &[u8]) = match call {
-        &Call::Initialise { c, h, d, s, v } => ([c, h, d, s, v], &[], &[]),
-        Call::Allocate { name, attributes, kind, start, amount, secondary, option } => {
-            ([*kind, *start, *amount, *secondary, *option], name, attributes)
-        }
-        Call::Release { name, ttr } => ([*ttr, 0, 0, 0, 0], name, &[]),
-        Call::Extend { name } | Call::Scratch { name } | Call::Obtain { name } => {
-            ([0; 5], name, &[])
-        }
-        Call::Rename { old, new } => ([0; 5], old, new),
-        Call::Lspace => ([0; 5], &[], &[]),
-    };
+    let (numbers, name, second) = arguments(call);
     let most = [NAME, SECOND, ANSWER, LABELS, 65_535];
     let lengths = [name.len(), second.len(), answer, labels, table];
     if lengths.iter().zip(most).any(|(&length, most)| length > most) {
         return None;
     }
     let mut record = [0; RECORD];
-    record[0] = call.index() as u8 + 1;
+    record[0] = operation(call);
     record[1] = name.len() as u8;
     record[2] = second.len() as u8;
     record[3] = answer as u8;
@@ -56,6 +47,30 @@ pub fn record(call: &Call, table: usize, answer: usize, labels: usize) -> Option
     record[NAME_AT..][..name.len()].copy_from_slice(name);
     record[SECOND_AT..][..second.len()].copy_from_slice(second);
     Some(record)
+}
+
+fn operation(call: &Call) -> u8 {
+    match call {
+        Call::Preview(call) => PREVIEW + operation(call),
+        _ => call.index() as u8 + 1,
+    }
+}
+
+/// The numbers, the name and the second name or the attributes of a call.
+fn arguments(call: &Call) -> ([u32; 5], &[u8], &[u8]) {
+    match call {
+        &Call::Initialise { c, h, d, s, v } => ([c, h, d, s, v], &[], &[]),
+        Call::Allocate { name, attributes, kind, start, amount, secondary, option } => {
+            ([*kind, *start, *amount, *secondary, *option], name, attributes)
+        }
+        Call::Release { name, ttr } => ([*ttr, 0, 0, 0, 0], name, &[]),
+        Call::Extend { name } | Call::Scratch { name } | Call::Obtain { name } => {
+            ([0; 5], name, &[])
+        }
+        Call::Rename { old, new } => ([0; 5], old, new),
+        Call::Lspace => ([0; 5], &[], &[]),
+        Call::Preview(call) => arguments(call),
+    }
 }
 
 /// Records that put `to` where `from` is, both tables of one length.
@@ -114,6 +129,10 @@ impl<'a, M: Manager> Player<'a, M> {
             6 => self.manager.rename(table, name, second, lent_answer),
             7 => self.manager.obtain(table, name, &mut labels[..labels_len], lent_answer),
             8 => self.manager.lspace(table, lent_answer),
+            0x82 => self.manager.preview_allocate(table, name, second, a, b, c, d, e, lent_answer),
+            0x83 => self.manager.preview_extend(table, name, lent_answer),
+            0x84 => self.manager.preview_release(table, name, a, lent_answer),
+            0x85 => self.manager.preview_scratch(table, name, lent_answer),
             PUTTING => {
                 let bytes = &record[NAME_AT..][..length(1, PUT)];
                 for (i, &byte) in bytes.iter().enumerate() {

@@ -10,8 +10,8 @@ use vtoc_tests::generate::session::Session;
 fn difference(manager: &impl Manager, sides: u64) -> Option<(Call, String)> {
     let mut rooms = Rooms::new();
     for seed in 1..6 {
-        let mut session = Session::new(seed);
-        for _ in 0..200 {
+        let mut session = Session::new(seed).with_previews();
+        for _ in 0..300 {
             let trial = session.next_trial();
             match both(manager, &trial.call, &trial.buffers, &mut rooms, sides) {
                 Ok(answered) => session.keep(&trial, answered.buffers.table),
@@ -49,6 +49,12 @@ fn every_fault_is_noticed() {
             Fault::MxigAmountOnly => "table: byte",
             Fault::AlxShortestFirst => "answer: byte",
             Fault::CylindersCutInTwo | Fault::TracksToCylinders => "table: byte",
+            Fault::PreviewForgetsSlots => "result 0, not 11",
+            Fault::PreviewOfTheAmount
+            | Fault::PreviewOfAllTracks
+            | Fault::PreviewCutsCylinders
+            | Fault::PreviewRefusalAnswers => "answer: byte",
+            Fault::PreviewMakesTheCall | Fault::PreviewRefusalWrites => "table: byte",
         };
         assert!(text.contains(expected), "{fault:?} {call:?}: {text}");
     }
@@ -65,6 +71,7 @@ fn grids_are_not_all_refused() {
         grids::ttrs(),
         grids::elsewhere(),
         grids::geometries(),
+        grids::previews(),
     ];
     for rows in grids {
         let mut accepted = 0;

@@ -20,9 +20,9 @@ fn digests() {
 fn all_is_covered() {
     let sequences = sequences();
     assert_eq!(coverage(&sequences).missing(&[]), [""; 0]);
-    assert!((20..=38).contains(&sequences.len()));
+    assert!((20..=40).contains(&sequences.len()));
     let rows: usize = sequences.iter().map(|sequence| sequence.desk.rows.len()).sum();
-    assert!((300..=700).contains(&rows), "{rows} rows");
+    assert!((300..=800).contains(&rows), "{rows} rows");
     let small = sequences.iter().filter(|s| size(s).0 <= 60 && size(s).1 <= 16).count();
     assert!(small + 2 >= sequences.len(), "more than two sequences on large volumes");
 }
@@ -52,6 +52,12 @@ fn rows_as_agreed() {
     assert_eq!(desk.listed(&damaged, 1120), "E 3\n");
     assert_eq!(desk.listed(&desk.table.clone(), 0), "E 2\n");
     desk.parts(140, 139);
+    let table = desk.table.clone();
+    let release = Call::Release { name: name("AB").to_vec(), ttr: 0x101 };
+    desk.preview(&release).accepted();
+    desk.preview(&Call::Extend { name: name("A").to_vec() }).refused(5);
+    desk.hurt(&damaged, release.preview().expect("there is one"));
+    desk.sized(1119, 24, 280, release.preview().expect("there is one"));
     let text = print::sequence("sequence9", "Title", &desk);
     let lines: Vec<&str> = text.lines().collect();
     assert_eq!(lines[..4], ["", "-- Title", "abbrev pub sequence9 : List Row", "sequence9 ="]);
@@ -73,5 +79,11 @@ fn rows_as_agreed() {
     assert_eq!(lines[13], format!("    ∷ listed {patches} 1120 {unsound:#X}"));
     assert_eq!(lines[14], format!("    ∷ listed [] 0 {length:#X}"));
     assert_eq!(lines[15], format!("    ∷ parts 140 139 {:#X}", print::digest(&[0; 18])));
-    assert_eq!(lines[16], "    ∷ []");
+    let (preview, after) =
+        ("(preview (release (nm (0xC1 ∷ 0xC2 ∷ [])) 0x101))", print::digest(&table));
+    assert_eq!(lines[16], format!("    ∷ ok {preview} 0x0 {after:#X}"));
+    assert_eq!(lines[17], "    ∷ no (preview (extend (nm (0xC1 ∷ [])))) 5");
+    assert_eq!(lines[18], format!("    ∷ hurt {patches} {preview} 3"));
+    assert_eq!(lines[19], format!("    ∷ sized 1119 24 280 {preview} 2"));
+    assert_eq!(lines[20], "    ∷ []");
 }

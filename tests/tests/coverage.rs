@@ -1,7 +1,9 @@
 //! A run that sees too little says so.
 
 use vtoc_tests::call::{CALL_NAMES, RESULTS};
-use vtoc_tests::coverage::{Coverage, EACH, FEATURES, OPTIONS, RELEASES, VOLUMES, WHOLE, WIDE};
+use vtoc_tests::coverage::{
+    Coverage, EACH, FEATURES, OPTIONS, PREVIEWS, RELEASES, VOLUMES, WHOLE, WIDE, WIDE_PREVIEWS,
+};
 
 /// Just enough of everything.
 fn enough() -> Coverage {
@@ -11,37 +13,43 @@ fn enough() -> Coverage {
             coverage.results.insert((call, result), EACH);
         }
     }
-    let features = FEATURES.into_iter().chain(OPTIONS).chain(RELEASES).chain(VOLUMES);
-    for feature in features.chain(WIDE) {
+    let features =
+        FEATURES.into_iter().chain(OPTIONS).chain(RELEASES).chain(PREVIEWS).chain(VOLUMES);
+    for feature in features.chain(WIDE).chain(WIDE_PREVIEWS) {
         coverage.features.insert(feature, 1);
     }
     coverage
 }
 
-/// Accepted, and document 01's refusals of each call: `RESULTS` is what a run is held to.
+/// Accepted, and document 01's refusals of each call, which its preview has too: `RESULTS` is what a
+/// run is held to.
 #[test]
 fn every_result_is_due() {
-    let expected: [&[u32]; 8] = [
-        &[0, 1, 2],
-        &[0, 2, 3, 4, 6, 7, 9, 11],
-        &[0, 2, 3, 4, 5, 8, 9, 10, 11],
-        &[0, 2, 3, 4, 5, 11, 12],
-        &[0, 2, 3, 4, 5],
-        &[0, 2, 3, 4, 5, 6],
-        &[0, 2, 3, 4, 5],
-        &[0, 2, 3],
+    let expected: [(&str, &[u32]); 12] = [
+        ("initialise", &[0, 1, 2]),
+        ("allocate", &[0, 2, 3, 4, 6, 7, 9, 11]),
+        ("extend", &[0, 2, 3, 4, 5, 8, 9, 10, 11]),
+        ("release", &[0, 2, 3, 4, 5, 11, 12]),
+        ("scratch", &[0, 2, 3, 4, 5]),
+        ("rename", &[0, 2, 3, 4, 5, 6]),
+        ("obtain", &[0, 2, 3, 4, 5]),
+        ("lspace", &[0, 2, 3]),
+        ("preview_allocate", &[0, 2, 3, 4, 6, 7, 9, 11]),
+        ("preview_extend", &[0, 2, 3, 4, 5, 8, 9, 10, 11]),
+        ("preview_release", &[0, 2, 3, 4, 5, 11, 12]),
+        ("preview_scratch", &[0, 2, 3, 4, 5]),
     ];
     for (call, expected) in expected.into_iter().enumerate() {
         let mut due = RESULTS[call].to_vec();
         due.sort();
-        assert_eq!(due, expected, "{}", CALL_NAMES[call]);
+        assert_eq!((CALL_NAMES[call], &due[..]), expected);
     }
 }
 
 #[test]
 fn enough_is_enough() {
     assert_eq!(EACH, 10);
-    assert_eq!(WHOLE, 100_000);
+    assert_eq!(WHOLE, 150_000);
     assert_eq!(enough().too_few(WHOLE), Vec::<String>::new());
     assert_eq!(Coverage::default().too_few(WHOLE - 1), Vec::<String>::new());
 }
@@ -49,8 +57,9 @@ fn enough_is_enough() {
 #[test]
 fn nothing_seen_names_everything() {
     let due = RESULTS.iter().map(|results| results.len()).sum::<usize>();
-    let features = FEATURES.len() + OPTIONS.len() + RELEASES.len() + VOLUMES.len();
-    assert_eq!(Coverage::default().too_few(WHOLE).len(), due + features + WIDE.len());
+    let features = FEATURES.len() + OPTIONS.len() + RELEASES.len() + PREVIEWS.len() + VOLUMES.len();
+    let besides = WIDE.len() + WIDE_PREVIEWS.len();
+    assert_eq!(Coverage::default().too_few(WHOLE).len(), due + features + besides);
     assert_eq!(Coverage::default().missing(&[]).len(), due + features);
 }
 

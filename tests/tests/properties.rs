@@ -53,11 +53,11 @@ fn random_calls() {
     let mut coverage = Coverage::default();
     // SESSIONS=5000 cargo test random_calls: for a long run.
     let sessions = std::env::var("SESSIONS").ok().and_then(|text| text.parse().ok());
-    for seed in 0..sessions.unwrap_or(160) {
-        let session = Session::new(seed);
-        let calls = if session.shape == Shape::Large { 40 } else { 250 };
+    for seed in 0..sessions.unwrap_or(240) {
+        let session = Session::new(seed).with_previews();
+        let calls = if session.shape == Shape::Large { 60 } else { 380 };
         run(session, calls, &mut coverage);
-        run(Session::elsewhere(seed), 25, &mut coverage);
+        run(Session::elsewhere(seed).with_previews(), 40, &mut coverage);
     }
     println!("{coverage}");
     assert_eq!(coverage.missing(&[]), [""; 0], "not seen");

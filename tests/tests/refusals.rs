@@ -26,10 +26,10 @@ fn allocate(text: &str, kind: u32, start: u32, amount: u32, secondary: u32) -> C
     Call::Allocate { name, attributes, kind, start, amount, secondary, option: NO_OPTION }
 }
 
-/// Every call but initialise, with a lawful name that is on the volume.
+/// Every call but initialise, with a lawful name that is on the volume; the previews last.
 fn calls() -> Vec<Call> {
     let n = || name("B").to_vec();
-    vec![
+    let mut calls = vec![
         allocate("NEW", 0, 0, 1, 0),
         Call::Extend { name: n() },
         Call::Release { name: n(), ttr: 1 },
@@ -37,7 +37,10 @@ fn calls() -> Vec<Call> {
         Call::Rename { old: n(), new: name("NEW").to_vec() },
         Call::Obtain { name: n() },
         Call::Lspace,
-    ]
+    ];
+    let previews: Vec<Call> = calls.iter().filter_map(Call::preview).collect();
+    calls.extend(previews);
+    calls
 }
 
 /// The call with its name (in a rename the old one) replaced.
@@ -51,6 +54,7 @@ fn with_name(call: &Call, bytes: Vec<u8>) -> Call {
         | Call::Rename { old: name, .. }
         | Call::Obtain { name } => *name = bytes,
         Call::Initialise { .. } | Call::Lspace => {}
+        Call::Preview(call) => **call = with_name(call, bytes),
     }
     call
 }

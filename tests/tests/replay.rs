@@ -65,6 +65,54 @@ fn an_option_in_its_record() {
     assert!(line.starts_with("02 00 000F010005000F00"), "{line}");
 }
 
+/// The operation of a preview is X'80' above that of its call; all other bytes are the call's. The
+/// table stays, and so its digest; the call has the same answer.
+#[test]
+fn a_preview_in_its_record() {
+    let mut player = Player::new(&Reference);
+    let first = Call::Initialise { c: 4, h: 5, d: 4, s: 1, v: 2 };
+    player.play(&record(&first, 1120, 24, 280).expect("it fits"));
+    let (made, call) = allocation(0, 4, 0);
+    let mut seen = made;
+    seen[0] = 0x82;
+    assert_eq!(record(&call.preview().expect("there is one"), 1120, 24, 280), Some(seen));
+    let answer = "000401000300040000000000000000000000000000000000";
+    let line = String::from_utf8(player.play(&seen)).unwrap();
+    assert_eq!(line, format!("82 00 {answer} 46E202CE 0ABA6271\n"));
+    let line = String::from_utf8(player.play(&made)).unwrap();
+    assert_eq!(line, format!("02 00 {answer} 767716F7 0ABA6271\n"));
+    let line = String::from_utf8(player.play(&seen)).unwrap();
+    assert!(line.starts_with("82 06 A5A5"), "{line}");
+}
+
+#[test]
+fn operations_of_previews() {
+    let name = || name("FLT.A").to_vec();
+    for (call, operation) in [
+        (allocation(0, 4, 0).1, 0x82),
+        (Call::Extend { name: name() }, 0x83),
+        (Call::Release { name: name(), ttr: 0x010203 }, 0x84),
+        (Call::Scratch { name: name() }, 0x85),
+    ] {
+        let mut written = record(&call, 1120, 24, 280).expect("it fits");
+        assert_eq!(written[0], operation - 0x80);
+        written[0] = operation;
+        assert_eq!(record(&call.preview().expect("there is one"), 1120, 24, 280), Some(written));
+    }
+}
+
+/// Four operations above 9 are known.
+#[test]
+fn other_operations_are_unknown() {
+    for operation in (10..=255).chain([0]) {
+        let mut record = allocation(0, 4, 0).0;
+        record[0] = operation;
+        let line = String::from_utf8(Player::new(&Reference).play(&record)).unwrap();
+        let result = if (0x82..=0x85).contains(&operation) { "03" } else { "99" };
+        assert!(line.starts_with(&format!("{operation:02X} {result} A5A5")), "{line}");
+    }
+}
+
 #[test]
 fn puts_make_one_table_of_another() {
     let (from, to) = (vec![0xEE; 1120], small());

@@ -1,4 +1,4 @@
-//! The benchmark of the eight calls: the library beside the reference, both in one run.
+//! The benchmark of the twelve calls: the library beside the reference, both in one run.
 
 pub mod growth;
 pub mod page;

@@ -19,7 +19,7 @@ pub fn processor() -> String {
 /// The rows of a volume.
 struct Section<'a> {
     title: &'static str,
-    calls: Vec<(&'static str, Row<'a>)>,
+    calls: Vec<(String, Row<'a>)>,
     floor: Row<'a>,
 }
 

@@ -26,7 +26,7 @@ pub struct Volume {
 
 /// A call to time, the table to make it on, and the result that it must have.
 pub struct Timed<'a> {
-    pub what: &'static str,
+    pub what: String,
     pub table: &'a [u8],
     pub call: Call,
     pub wanted: u32,
@@ -129,18 +129,22 @@ impl Volume {
         Call::Allocate { name, attributes, kind, start: 0, amount, secondary: 1, option }
     }
 
-    /// The calls to time.
+    /// The calls to time; after each of `PREVIEWED` its preview, with the same arguments.
     pub fn calls(&self) -> Vec<Timed<'_>> {
+        self.calls_alone().into_iter().flat_map(with_preview).collect()
+    }
+
+    fn calls_alone(&self) -> Vec<Timed<'_>> {
         let glance = self.glance();
         let g = glance.geometry;
         let (c, h, d) = (g.cylinders, g.heads, g.per_track);
         let (s, v) = (g.vtoc_start, g.vtoc_tracks);
         let present = || self.present.clone();
         let table = &self.table[..];
-        let accepted = |what, call| Timed { what, table, call, wanted: 0 };
-        let many = |what, call| self.irregular.then(|| accepted(what, call));
+        let accepted = |what: &str, call| Timed { what: what.into(), table, call, wanted: 0 };
+        let many = |what: &str, call| self.irregular.then(|| accepted(what, call));
         // Where slots and whole cylinders allow it.
-        let by_option = |what, option, kind, amount| {
+        let by_option = |what: &str, option, kind, amount| {
             let call = Volume::allocation_by(option, kind, amount);
             is_accepted(&self.table, &call).then(|| accepted(what, call))
         };
@@ -150,7 +154,7 @@ impl Volume {
             Some(accepted("allocate, cylinders", Volume::allocation(1, 1))),
             many("allocate, five pieces", Volume::allocation(0, five_pieces(&glance))),
             Some(Timed {
-                what: "allocate, refused 9",
+                what: "allocate, refused 9".into(),
                 table,
                 call: Volume::allocation(0, 65_535),
                 wanted: 9,
@@ -163,7 +167,7 @@ impl Volume {
             Some(accepted("release", Call::Release { name: present(), ttr: 1 })),
             many("release, half", Call::Release { name: present(), ttr: self.half(&glance) }),
             self.cut.as_ref().map(|(table, call)| Timed {
-                what: "release, mid-cylinder",
+                what: "release, mid-cylinder".into(),
                 table,
                 call: call.clone(),
                 wanted: 0,
@@ -199,6 +203,28 @@ impl Volume {
         ];
         figures.map(|figure| figure.to_string()).join(" | ")
     }
+}
+
+/// The rows that have one of the preview after them.
+const PREVIEWED: [&str; 9] = [
+    "allocate, tracks",
+    "allocate, cylinders",
+    "allocate, five pieces",
+    "allocate, MXIG",
+    "allocate, ALX",
+    "extend",
+    "release",
+    "release, mid-cylinder",
+    "scratch",
+];
+
+/// The row of a call and, where it is to have one, that of its preview.
+fn with_preview(timed: Timed<'_>) -> Vec<Timed<'_>> {
+    let Timed { what, table, call, wanted } = &timed;
+    let preview = call.preview().filter(|_| PREVIEWED.contains(&what.as_str()));
+    let what = format!("preview {what}");
+    let preview = preview.map(|call| Timed { what, table, call, wanted: *wanted });
+    std::iter::once(timed).chain(preview).collect()
 }
 
 /// What each volume holds.

@@ -4,7 +4,8 @@ use std::hint::black_box;
 
 use vtoc_tests::call::{MXIG, NO_OPTION};
 use vtoc_tests::reference::{
-    allocate, extend, listing, lspace, obtain, release, rename, scratch, taken,
+    allocate, extend, listing, lspace, obtain, preview_allocate, preview_scratch, release, rename,
+    scratch, taken,
 };
 use vtoc_tests::timing::time;
 use vtoc_tests::volumes::{
@@ -24,6 +25,11 @@ fn measure(label: &str, mut table: Vec<u8>, present: &str) {
     let inquiry = time(|| accepted(lspace(black_box(&table), &mut answer)));
     let read = time(|| accepted(obtain(&table, &present, &mut labels, &mut answer)));
     let list = time(|| drop(black_box(listing(black_box(&table)))));
+    let seen = time(|| {
+        let none = NO_OPTION;
+        accepted(preview_allocate(&table, &fresh, &ATTRIBUTES, 0, 0, 1, 1, none, &mut answer));
+        accepted(preview_scratch(&table, &present, &mut answer));
+    });
     let names = time(|| {
         accepted(rename(&mut table, &present, &fresh, &mut answer));
         accepted(rename(&mut table, &fresh, &present, &mut answer));
@@ -45,20 +51,21 @@ fn measure(label: &str, mut table: Vec<u8>, present: &str) {
     accepted(scratch(&mut table, &fresh, &mut answer));
     assert!(table == before, "the benchmark must leave the table as it was");
     println!(
-        "{label:<14}{check:>9.2}{inquiry:>9.2}{read:>9.2}{list:>9.2}{names:>9.2}{grant:>14.2}{longest:>14.2}{growth:>15.2}"
+        "{label:<14}{check:>9.2}{inquiry:>9.2}{read:>9.2}{list:>9.2}{names:>9.2}{seen:>10.2}{grant:>14.2}{longest:>14.2}{growth:>15.2}"
     );
 }
 
 fn main() {
     println!("microseconds per call (pairs: for both calls)");
     println!(
-        "{:<14}{:>9}{:>9}{:>9}{:>9}{:>9}{:>14}{:>14}{:>15}",
+        "{:<14}{:>9}{:>9}{:>9}{:>9}{:>9}{:>10}{:>14}{:>14}{:>15}",
         "volume",
         "check",
         "lspace",
         "obtain",
         "listing",
         "rename",
+        "previews",
         "alloc+scratch",
         "MXIG+scratch",
         "extend+release"

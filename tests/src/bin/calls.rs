@@ -1,5 +1,5 @@
 //! The library beside the reference, call by call: result, answer, labels and every byte of the
-//! table, and that nothing else was written. `calls [--calls N] [--seed S] [--plant FAULT]`.
+//! table, and that nothing else was written; a preview beside the call on a copy of the table. `calls [--calls N] [--seed S] [--plant FAULT]`.
 //! Prints what was called and answered; fails at the first difference, or where too little was
 //! seen. A planted fault must make it fail, and so must `--plant Idle`: one call, over and over.
 
@@ -147,6 +147,7 @@ impl<'a, M: Manager> Beside<'a, M> {
             ("TTRs", grids::ttrs()),
             ("elsewhere", grids::elsewhere()),
             ("geometries", grids::geometries()),
+            ("previews", grids::previews()),
         ];
         for (place, rows) in grids {
             for (call, buffers) in rows {
@@ -156,7 +157,7 @@ impl<'a, M: Manager> Beside<'a, M> {
         Ok(())
     }
 
-    /// Large and worn volumes with each kind of damage, and a call aimed at the whole one.
+    /// Large and worn volumes with each kind of damage, a call aimed at the whole one and its preview.
     fn damaged(&mut self, rng: &mut Rng) -> Result<(), String> {
         let tables = [small(), medium(), many_names(), many_extents(), grids::sixteen()];
         for table in &tables {
@@ -165,14 +166,18 @@ impl<'a, M: Manager> Beside<'a, M> {
                 let mut session = Session::on(rng.word(), table, Shape::Cylinders);
                 let trial = session.next_trial();
                 let buffers = Buffers { table: hurt, ..trial.buffers };
-                self.call(&trial.call, &buffers, Origin::Changed, &format!("{kind:?} {turn}"))?;
+                for call in trial.call.preview().iter().chain([&trial.call]) {
+                    self.call(call, &buffers, Origin::Changed, &format!("{kind:?} {turn}"))?;
+                }
             }
         }
         Ok(())
     }
 
-    /// A volume's life: most calls stay, the table that the library left is the next one's.
-    fn life(&mut self, mut session: Session, calls: usize, place: &str) -> Result<(), String> {
+    /// A volume's life: most calls stay, the table that the library left is the next one's. Many have
+    /// their preview before them.
+    fn life(&mut self, session: Session, calls: usize, place: &str) -> Result<(), String> {
+        let mut session = session.with_previews();
         for _ in 0..calls {
             let trial = session.next_trial();
             let Trial { call, buffers, origin } = &trial;
@@ -225,7 +230,8 @@ impl<'a, M: Manager> Beside<'a, M> {
 fn notices(fault: vtoc_tests::faulty::Fault) -> bool {
     let library = Faulty { manager: &Library, fault };
     let mut beside = Beside::new(&library, Sides::Planted);
-    let sessions = [Session::new(1), Session::elsewhere(1)];
+    let full = Session::of_shape(1, Shape::Brink);
+    let sessions = [Session::new(1), Session::elsewhere(1), full];
     sessions.into_iter().any(|session| beside.life(session, 300, "planted").is_err())
 }
 

@@ -6,6 +6,7 @@ mod damages;
 mod edges;
 mod grants;
 mod options;
+mod previews;
 pub mod print;
 mod random;
 mod refusals;
@@ -36,6 +37,7 @@ pub fn sequences() -> Vec<Sequence> {
     all.extend(options::stories());
     all.extend(options::edges());
     all.extend(cylinders::sequences());
+    all.extend(previews::sequences());
     all
 }
 
@@ -44,6 +46,7 @@ pub fn stories() -> Vec<Sequence> {
     let mut all = stories_of_the_base();
     all.extend(options::stories());
     all.extend(cylinders::sequences());
+    all.extend(previews::sequences());
     all
 }
 

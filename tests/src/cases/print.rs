@@ -73,6 +73,7 @@ fn print_call(call: &Call) -> String {
         Call::Rename { old, new } => format!("(rename {} {})", print_name(old), print_name(new)),
         Call::Obtain { name } => format!("(obtain {})", print_name(name)),
         Call::Lspace => "lspace".into(),
+        Call::Preview(call) => format!("(preview {})", print_call(call)),
     }
 }
 

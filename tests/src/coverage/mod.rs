@@ -1,6 +1,7 @@
 //! What a run of calls has touched: results of each call, and paths worth seeing.
 
 mod options;
+mod previews;
 mod releases;
 
 use std::collections::BTreeMap;
@@ -11,6 +12,8 @@ use crate::generate::glance::{glance, Glance};
 use crate::generate::session::Origin;
 use options::Numbers;
 pub use options::OPTIONS;
+use previews::Seen;
+pub use previews::{PREVIEWS, WIDE as WIDE_PREVIEWS};
 pub use releases::RELEASES;
 
 /// The paths that a run must see.
@@ -69,13 +72,15 @@ pub const WIDE: [&str; 7] = [
 
 /// The number of calls from which on a run must have seen everything, and the fewest with each
 /// result of each call then.
-pub const WHOLE: usize = 100_000;
+pub const WHOLE: usize = 150_000;
 pub const EACH: usize = 10;
 
 #[derive(Clone, Debug, Default)]
 pub struct Coverage {
     pub results: BTreeMap<(usize, u32), usize>,
     pub features: BTreeMap<&'static str, usize>,
+    /// The call before, where it was a preview.
+    last_preview: Option<Seen>,
 }
 
 impl Coverage {
@@ -85,13 +90,31 @@ impl Coverage {
         answer: &[u8],
     ) {
         *self.results.entry((call.index(), result)).or_default() += 1;
+        self.after_a_preview(call, result, before);
         match (origin, result) {
             (Origin::Changed, 3) => self.saw("damaged table refused"),
             (Origin::Changed, 2) => {}
             (Origin::Changed, _) => self.saw("changed table accepted"),
-            (Origin::Live | Origin::Probe, 0) => self.effect(call, before, after, answer),
-            (Origin::Live | Origin::Probe, _) => self.refusal(call, result, before),
+            (Origin::Live | Origin::Probe, _) => match call {
+                Call::Preview(call) => self.preview(call, result, before, answer),
+                _ if result == 0 => self.effect(call, before, after, answer),
+                _ => self.refusal(call, result, before),
+            },
         }
+    }
+
+    /// Where the call before was a preview, whether this is the call that it was of.
+    fn after_a_preview(&mut self, call: &Call, result: u32, before: &[u8]) {
+        let path = self.last_preview.take().and_then(|seen| seen.followed_by(call, before, result));
+        path.into_iter().for_each(|path| self.saw(path));
+        self.last_preview = Seen::of(call, before);
+    }
+
+    /// The preview of a call.
+    fn preview(&mut self, call: &Call, result: u32, before: &[u8], answer: &[u8]) {
+        let Some(table) = glance(before) else { return };
+        let paths = previews::shown(call, &table, result, answer);
+        paths.into_iter().for_each(|path| self.saw(path));
     }
 
     /// A refused allocate with an option, or a release for which slots are short.
@@ -217,9 +240,9 @@ impl Coverage {
 }
 
 impl Coverage {
-    /// What is missing of `WIDE`.
+    /// What is missing of what a long run must see besides.
     pub fn missing_wide(&self) -> Vec<String> {
-        let missing = WIDE.iter().filter(|&f| !self.features.contains_key(f));
+        let missing = due_besides().filter(|f| !self.features.contains_key(f));
         missing.map(|f| f.to_string()).collect()
     }
 
@@ -241,7 +264,12 @@ impl Coverage {
 
 /// What every run must see, apart from results.
 fn due() -> impl Iterator<Item = &'static str> {
-    FEATURES.into_iter().chain(OPTIONS).chain(RELEASES).chain(VOLUMES)
+    FEATURES.into_iter().chain(OPTIONS).chain(RELEASES).chain(PREVIEWS).chain(VOLUMES)
+}
+
+/// What a long run must see besides.
+fn due_besides() -> impl Iterator<Item = &'static str> {
+    WIDE.into_iter().chain(WIDE_PREVIEWS)
 }
 
 /// The paths of a release with this result.
@@ -262,7 +290,7 @@ fn numbers_with_option(call: &Call) -> Option<Numbers> {
 
 impl fmt::Display for Coverage {
     fn fmt(&self, f: &mut fmt::Formatter) -> fmt::Result {
-        write!(f, "{:<12}{:>8}", "result", "all")?;
+        write!(f, "{:<17}{:>8}", "result", "all")?;
         (0..=12).try_for_each(|result| write!(f, "{result:>7}"))?;
         writeln!(f)?;
         let sum = |wanted: &dyn Fn(usize, u32) -> bool| -> usize {
@@ -270,7 +298,7 @@ impl fmt::Display for Coverage {
             seen.filter(|(&(call, result), _)| wanted(call, result)).map(|(_, count)| count).sum()
         };
         for (call, name) in CALL_NAMES.iter().enumerate() {
-            write!(f, "{name:<12}{:>8}", sum(&|of, _| of == call))?;
+            write!(f, "{name:<17}{:>8}", sum(&|of, _| of == call))?;
             for result in 0..=12 {
                 match self.results.get(&(call, result)) {
                     Some(count) => write!(f, "{count:>7}")?,
@@ -280,13 +308,13 @@ impl fmt::Display for Coverage {
             }
             writeln!(f)?;
         }
-        write!(f, "{:<12}{:>8}", "all", sum(&|_, _| true))?;
+        write!(f, "{:<17}{:>8}", "all", sum(&|_, _| true))?;
         (0..=12).try_for_each(|result| write!(f, "{:>7}", sum(&|_, of| of == result)))?;
         writeln!(f)?;
         for feature in due() {
             writeln!(f, "{:>8}  {feature}", self.features.get(feature).unwrap_or(&0))?;
         }
-        for feature in WIDE {
+        for feature in due_besides() {
             if let Some(count) = self.features.get(feature) {
                 writeln!(f, "{count:>8}  {feature}")?;
             }

@@ -1,12 +1,13 @@
-//! Calls by the row: each length of each buffer, each byte in each place of a name, and
-//! numbers at and around their limits.
+//! Calls by the row: each length of each buffer, each byte in each place of a name, numbers at and
+//! around their limits, and previews of such calls.
 
 use super::elsewhere;
 use super::glance::glance;
 use super::rng::Rng;
 use crate::call::{Buffers, Call, ALX, CONTIG, MXIG, NO_OPTION};
-use crate::desk::{attributes, attributes_of};
+use crate::desk::attributes_of;
 use crate::reference::{extend, release, scratch};
+use crate::short::allocation;
 use crate::volumes::{fresh, name, open_slots, place, scattered, small};
 
 /// The volumes from elsewhere.
@@ -22,7 +23,7 @@ fn row(call: Call, table: &[u8]) -> Row {
 /// Each call with arguments that Volume A's end accepts.
 fn accepted() -> Vec<Call> {
     let a = || name("FLT.A").to_vec();
-    vec![
+    let mut calls = vec![
         Call::Initialise { c: 4, h: 5, d: 4, s: 1, v: 2 },
         allocation("FLT.NEW", 0, 0, 3, 1, NO_OPTION),
         Call::Extend { name: name("FLT.B").to_vec() },
@@ -31,12 +32,10 @@ fn accepted() -> Vec<Call> {
         Call::Rename { old: a(), new: name("FLT.NEW").to_vec() },
         Call::Obtain { name: a() },
         Call::Lspace,
-    ]
-}
-
-fn allocation(text: &str, kind: u32, start: u32, amount: u32, secondary: u32, option: u32) -> Call {
-    let (name, attributes) = (name(text).to_vec(), attributes(7));
-    Call::Allocate { name, attributes, kind, start, amount, secondary, option }
+    ];
+    let previews: Vec<Call> = calls.iter().filter_map(Call::preview).collect();
+    calls.extend(previews);
+    calls
 }
 
 /// Volume A's end with one more set, which can be extended.
@@ -94,6 +93,7 @@ fn with_lengths(call: &Call, len: usize) -> Vec<Call> {
             Call::Rename { old: cut(&old), new: new.clone() },
             Call::Rename { old: old.clone(), new: cut(&new) },
         ],
+        Call::Preview(call) => with_lengths(&call, len).iter().filter_map(Call::preview).collect(),
         Call::Initialise { .. } | Call::Lspace => vec![],
     }
 }
@@ -220,6 +220,14 @@ fn releases(tables: &[Vec<u8>], ttrs: impl Fn(u32) -> Vec<u32>) -> Vec<Row> {
         }
     }
     rows
+}
+
+/// Previews of the calls in the grids, where they have one; of the many amounts every fifth.
+pub fn previews() -> Vec<Row> {
+    let amounts = amounts().into_iter().step_by(5);
+    let others = [name_bytes(), options(), ttrs(), elsewhere()].into_iter().flatten();
+    let preview = |(call, buffers): Row| Some((call.preview()?, buffers));
+    amounts.chain(others).filter_map(preview).collect()
 }
 
 /// Sets of 16, 9 and 4 extents between others, more than 26 free extents, and a full VTOC.

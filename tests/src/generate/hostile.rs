@@ -26,7 +26,7 @@ fn wild(rng: &mut Rng) -> u32 {
     *rng.pick(&WILD).expect("numbers")
 }
 
-/// Spoils one argument of the call, or one length.
+/// Spoils one argument of the call, which is no preview, or one length.
 pub fn spoil(rng: &mut Rng, call: &mut Call, buffers: &mut Buffers) {
     match rng.below(10) {
         0 => buffers.answer.resize([0, 1, 23, 25, 140][rng.below(5)], 0xA5),
@@ -64,6 +64,7 @@ fn names_of(call: &mut Call) -> Vec<&mut Vec<u8>> {
         | Call::Obtain { name } => vec![name],
         Call::Rename { old, new } => vec![old, new],
         Call::Initialise { .. } | Call::Lspace => vec![],
+        Call::Preview(call) => names_of(call),
     }
 }
 

@@ -52,6 +52,10 @@ pub struct Session {
     shuffles: bool,
     /// The set that took the longest candidates whole with the last call.
     greedy: Option<Vec<u8>>,
+    /// Draws the previews, where there are any: lives without them are as they were before request [3].
+    previews: Option<Rng>,
+    /// What comes after a preview, the last one first.
+    next: Vec<Trial>,
 }
 
 /// Weights of tracks, cylinders, absolute, wall, extend, release, scratch, rename, obtain,
@@ -122,7 +126,15 @@ impl Session {
     }
 
     fn with(rng: Rng, table: Vec<u8>, shape: Shape) -> Session {
-        Session { rng, shape, phase: Phase::Fill, table, shuffles: false, greedy: None }
+        let (phase, shuffles, greedy) = (Phase::Fill, false, None);
+        Session { rng, shape, phase, table, shuffles, greedy, previews: None, next: vec![] }
+    }
+
+    /// The same life with previews: before many calls their own, some of them twice, and now and then
+    /// one of a call that is not made.
+    pub fn with_previews(mut self) -> Session {
+        self.previews = Some(Rng::new(self.rng.clone().word()));
+        self
     }
 
     pub fn table(&self) -> &[u8] {
@@ -141,6 +153,30 @@ impl Session {
 
     /// The next call. Give its outcome to `keep`.
     pub fn next_trial(&mut self) -> Trial {
+        if let Some(trial) = self.next.pop() {
+            return trial;
+        }
+        let trial = self.call_alone();
+        let (Some(rng), Some(call)) = (&mut self.previews, trial.call.preview()) else {
+            return trial;
+        };
+        let preview = Trial { call, ..trial.clone() };
+        match rng.below(10) {
+            0 => preview,
+            1 => {
+                self.next = vec![trial, preview.clone()];
+                preview
+            }
+            2..=4 => {
+                self.next = vec![trial];
+                preview
+            }
+            _ => trial,
+        }
+    }
+
+    /// A call that is no preview.
+    fn call_alone(&mut self) -> Trial {
         // A few calls end what is special about such a volume; most of them are only tried there.
         let is_special = matches!(self.shape, Shape::Brink | Shape::Elsewhere);
         if self.rng.chance(4) && !is_special {

@@ -1,8 +1,8 @@
-//! The eight calls and the listing, written from documents 01 and 02 alone.
+//! The twelve calls and the listing, written from documents 01 and 02 alone.
 //!
 //! The route: check every rule on the bytes, read the format 5 chain into a sorted free
 //! list, split and join its entries, and write back the records that changed. A call
-//! decides on all its refusals before it writes its first byte.
+//! decides on all its refusals before it writes its first byte; a preview is that decision alone.
 
 mod calls;
 mod check;
@@ -16,11 +16,11 @@ pub mod name;
 mod sets;
 mod volume;
 
-pub use calls::grants::{allocate, extend};
+pub use calls::grants::{allocate, extend, preview_allocate, preview_extend};
 pub use calls::initialise::initialise;
 pub use calls::reading::{lspace, obtain};
 pub use calls::rename::rename;
-pub use calls::returns::{release, scratch};
+pub use calls::returns::{preview_release, preview_scratch, release, scratch};
 pub use listing::listing;
 
 use geometry::{MAX_SLOTS, MIN_SLOTS};

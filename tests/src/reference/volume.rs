@@ -55,6 +55,12 @@ impl Volume {
         Ok(())
     }
 
+    /// Whether they do whatever becomes of the free list: no call adds more than 16 entries to it,
+    /// which want one format 5 at most. A preview that has these slots need not edit the list.
+    pub fn has_slots_to_spare(&self, freed: usize, wanted: usize) -> bool {
+        self.open.len() + freed > wanted
+    }
+
     /// Frees the format 5s no longer needed, from the chain's end. Comes before
     /// `take_slot`, for these slots may be taken again.
     pub fn trim_chain(&mut self, records: &mut [Record]) {

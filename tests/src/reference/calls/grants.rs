@@ -1,4 +1,4 @@
-//! Allocate and extend.
+//! Allocate and extend, and their previews.
 
 use super::{answered, granted, lawful, lookup, sized, sound, Answer};
 use crate::reference::data_set::DataSet;
@@ -7,10 +7,20 @@ use crate::reference::grant::{self, Grant, SpaceOption};
 use crate::reference::layout::*;
 use crate::reference::name::Name;
 use crate::reference::volume::Volume;
-use crate::reference::{records_mut, Refusal};
+use crate::reference::{records, records_mut, Refusal};
 
 const MOST_PRIMARY: u32 = 65_535;
 const MOST_SECONDARY: u32 = 0xFF_FFFF;
+
+/// The numbers of an allocate, as they are handed over.
+#[derive(Clone, Copy)]
+struct Numbers {
+    kind: u32,
+    start: u32,
+    amount: u32,
+    secondary: u32,
+    option: u32,
+}
 
 /// What an allocate asks for, its numbers in their ranges. An absolute one has no option.
 #[derive(Clone, Copy)]
@@ -21,9 +31,8 @@ enum Amount {
 }
 
 impl Amount {
-    fn judge(
-        volume: &Volume, kind: u32, start: u32, amount: u32, secondary: u32, option: u32,
-    ) -> Result<Amount, Refusal> {
+    fn judge(volume: &Volume, numbers: Numbers) -> Result<Amount, Refusal> {
+        let Numbers { kind, start, amount, secondary, option } = numbers;
         let option = SpaceOption::numbered(option).ok_or(Refusal::Amount)?;
         let in_range = (1..=MOST_PRIMARY).contains(&amount) && secondary <= MOST_SECONDARY;
         match kind {
@@ -68,9 +77,86 @@ impl Amount {
     }
 }
 
-/// Takes the pieces out of the free list. The table is not touched yet.
-fn take(volume: &mut Volume, grant: &Grant) {
-    grant.pieces().iter().for_each(|&piece| volume.free.take(piece));
+/// A grant and the labels that it needs. The slots for them are not counted yet. What the call and its
+/// preview share is inlined in both: the opponent of the benchmark is no slower for the sharing.
+struct Plan {
+    amount: Amount,
+    grant: Grant,
+    needs_format_1: bool,
+    needs_format_3: bool,
+}
+
+impl Plan {
+    #[inline(always)]
+    fn allocate(
+        volume: &Volume, records: &[Record], name: &Name, numbers: Numbers,
+    ) -> Result<Plan, Refusal> {
+        lawful(name)?;
+        let amount = Amount::judge(volume, numbers)?;
+        if volume.names.find(records, name).is_some() {
+            return Err(Refusal::Duplicate);
+        }
+        let grant = amount.choose(volume)?;
+        let needs_format_3 = grant.pieces().len() > IN_FORMAT_1;
+        Ok(Plan { amount, grant, needs_format_1: true, needs_format_3 })
+    }
+
+    /// With the set that grows.
+    #[inline(always)]
+    fn extend(
+        volume: &Volume, records: &[Record], name: &Name,
+    ) -> Result<(DataSet, Plan), Refusal> {
+        lawful(name)?;
+        let slot = lookup(volume, records, name)?;
+        let secondary = be24(&records[slot], SECONDARY);
+        if secondary == 0 {
+            return Err(Refusal::NoSecondary);
+        }
+        // The option of the allocate is kept in no label.
+        let amount = match records[slot][UNIT] {
+            UNIT_CYLINDERS => Amount::Cylinders(secondary, SpaceOption::None),
+            _ => Amount::Tracks(secondary, SpaceOption::None),
+        };
+        let grant = amount.choose(volume)?;
+        let set = DataSet::read(volume, records, slot);
+        let extents = set.extents().len() + grant.pieces().len();
+        if extents > MAX_EXTENTS {
+            return Err(Refusal::Extents);
+        }
+        let needs_format_3 = extents > IN_FORMAT_1 && set.format_3.is_none();
+        Ok((set, Plan { amount, grant, needs_format_1: false, needs_format_3 }))
+    }
+
+    fn labels(&self) -> usize {
+        usize::from(self.needs_format_1) + usize::from(self.needs_format_3)
+    }
+
+    /// Takes the pieces out of the free list; refusal 11 unless the slots do then. The table is not
+    /// touched yet.
+    fn take(&self, volume: &mut Volume) -> Result<(), Refusal> {
+        self.grant.pieces().iter().for_each(|&piece| volume.free.take(piece));
+        volume.slots_suffice(0, self.labels())
+    }
+
+    /// What the call would answer.
+    fn preview(&self, volume: &mut Volume) -> Result<Answer, Refusal> {
+        if !volume.has_slots_to_spare(0, self.labels()) {
+            self.take(volume)?;
+        }
+        Ok(granted(&self.grant))
+    }
+
+    /// Appends the pieces to a set, which gets a format 3 first where it needs one, and closes the
+    /// volume.
+    fn append(&self, volume: &mut Volume, records: &mut [Record], mut set: DataSet) -> Answer {
+        if self.needs_format_3 {
+            let slot = volume.take_slot();
+            set.attach_format_3(volume, records, slot);
+        }
+        set.append(volume, records, self.amount.extent_type(), self.grant.pieces());
+        volume.close(records);
+        granted(&self.grant)
+    }
 }
 
 /// Gives a new set its tracks and labels. Refusals in order: 2, 3, 4, 7, 6, 9, 11.
@@ -84,37 +170,32 @@ pub fn allocate(
         let name: &Name = sized(name)?;
         let attributes: &[u8; 52] = sized(attributes)?;
         let mut volume = sound(records)?;
-        lawful(name)?;
-        let amount = Amount::judge(&volume, kind, start, amount, secondary, option)?;
-        if volume.names.find(records, name).is_some() {
-            return Err(Refusal::Duplicate);
-        }
-        let grant = amount.choose(&volume)?;
-        take(&mut volume, &grant);
-        let needs_format_3 = grant.pieces().len() > IN_FORMAT_1;
-        volume.slots_suffice(0, 1 + usize::from(needs_format_3))?;
+        let numbers = Numbers { kind, start, amount, secondary, option };
+        let plan = Plan::allocate(&volume, records, name, numbers)?;
+        plan.take(&mut volume)?;
 
         volume.trim_chain(records);
         let slot = volume.take_slot();
         volume.sets.insert(slot);
-        write_format_1(&mut records[slot], name, attributes, amount.unit(), secondary);
-        let set = DataSet::fresh(slot);
-        Ok(append(&mut volume, records, set, needs_format_3, amount, &grant))
+        write_format_1(&mut records[slot], name, attributes, plan.amount.unit(), secondary);
+        Ok(plan.append(&mut volume, records, DataSet::fresh(slot)))
     })
 }
 
-/// Appends the pieces to a set, which gets a format 3 first where it needs one, and closes the volume.
-fn append(
-    volume: &mut Volume, records: &mut [Record], mut set: DataSet, needs_format_3: bool,
-    amount: Amount, grant: &Grant,
-) -> Answer {
-    if needs_format_3 {
-        let slot = volume.take_slot();
-        set.attach_format_3(volume, records, slot);
-    }
-    set.append(volume, records, amount.extent_type(), grant.pieces());
-    volume.close(records);
-    granted(grant)
+/// What allocate would answer; its refusals. Of the attributes only the length is looked at.
+#[allow(clippy::too_many_arguments)]
+pub fn preview_allocate(
+    table: &[u8], name: &[u8], attributes: &[u8], kind: u32, start: u32, amount: u32,
+    secondary: u32, option: u32, answer: &mut [u8],
+) -> u32 {
+    answered(answer, || {
+        let records = records(table)?;
+        let name: &Name = sized(name)?;
+        let _: &[u8; 52] = sized(attributes)?;
+        let mut volume = sound(records)?;
+        let numbers = Numbers { kind, start, amount, secondary, option };
+        Plan::allocate(&volume, records, name, numbers)?.preview(&mut volume)
+    })
 }
 
 /// A format 1 without extents, its TTR zero.
@@ -136,32 +217,25 @@ fn write_format_1(
 
 /// Appends the secondary amount to a set. Refusals in order: 2, 3, 4, 5, 8, 9, 10, 11.
 pub fn extend(table: &mut [u8], name: &[u8], answer: &mut [u8]) -> u32 {
-    answered(answer, || extend_set(records_mut(table)?, sized(name)?))
+    answered(answer, || {
+        let records = records_mut(table)?;
+        let name: &Name = sized(name)?;
+        let mut volume = sound(records)?;
+        let (set, plan) = Plan::extend(&volume, records, name)?;
+        plan.take(&mut volume)?;
+
+        volume.trim_chain(records);
+        Ok(plan.append(&mut volume, records, set))
+    })
 }
 
-fn extend_set(records: &mut [Record], name: &Name) -> Result<Answer, Refusal> {
-    let mut volume = sound(records)?;
-    lawful(name)?;
-    let slot = lookup(&volume, records, name)?;
-    let secondary = be24(&records[slot], SECONDARY);
-    if secondary == 0 {
-        return Err(Refusal::NoSecondary);
-    }
-    // The option of the allocate is kept in no label.
-    let amount = match records[slot][UNIT] {
-        UNIT_CYLINDERS => Amount::Cylinders(secondary, SpaceOption::None),
-        _ => Amount::Tracks(secondary, SpaceOption::None),
-    };
-    let grant = amount.choose(&volume)?;
-    let set = DataSet::read(&volume, records, slot);
-    let extents = set.extents().len() + grant.pieces().len();
-    if extents > MAX_EXTENTS {
-        return Err(Refusal::Extents);
-    }
-    take(&mut volume, &grant);
-    let needs_format_3 = extents > IN_FORMAT_1 && set.format_3.is_none();
-    volume.slots_suffice(0, usize::from(needs_format_3))?;
-
-    volume.trim_chain(records);
-    Ok(append(&mut volume, records, set, needs_format_3, amount, &grant))
+/// What extend would answer; its refusals.
+pub fn preview_extend(table: &[u8], name: &[u8], answer: &mut [u8]) -> u32 {
+    answered(answer, || {
+        let records = records(table)?;
+        let name: &Name = sized(name)?;
+        let mut volume = sound(records)?;
+        let (_, plan) = Plan::extend(&volume, records, name)?;
+        plan.preview(&mut volume)
+    })
 }

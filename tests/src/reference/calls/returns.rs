@@ -1,87 +1,160 @@
-//! Release and scratch.
+//! Release and scratch, and their previews.
 
-use super::{answered, lawful, lookup, sized, sound, tracks, Answer};
+use super::{answered, lawful, lookup, sized, sound, tracks};
 use crate::reference::data_set::DataSet;
 use crate::reference::free::Run;
 use crate::reference::layout::*;
 use crate::reference::name::Name;
-use crate::reference::{records_mut, Refusal};
+use crate::reference::volume::Volume;
+use crate::reference::{records, records_mut, Refusal};
+
+/// What a release keeps of a set, and what it gives back. The slots for that are not counted yet. As in
+/// `grants`, what is shared with the preview is inlined.
+struct Cut {
+    set: DataSet,
+    by_cylinders: bool,
+    tracks_kept: u32,
+    /// The extents that stay, and the last of them as it is then.
+    stay: usize,
+    last: Run,
+}
+
+impl Cut {
+    #[inline(always)]
+    fn new(volume: &Volume, records: &[Record], name: &Name, ttr: u32) -> Result<Cut, Refusal> {
+        lawful(name)?;
+        let slot = lookup(volume, records, name)?;
+        let set = DataSet::read(volume, records, slot);
+        let (wide, tt, r) = (ttr >> 24, ttr >> 8, ttr & 0xFF);
+        if wide != 0 || tt >= set.tracks() || (r == 0 && tt > 0) {
+            return Err(Refusal::Ttr);
+        }
+
+        let by_cylinders = records[slot][UNIT] == UNIT_CYLINDERS;
+        let tracks_kept = match by_cylinders {
+            true => set.whole_cylinders(tt + 1, volume.geometry.heads),
+            false => tt + 1,
+        };
+        let (mut stay, mut last, mut rest) = (0, Run::default(), tracks_kept);
+        while rest > 0 {
+            let extent = set.extents()[stay];
+            last = Run { length: rest.min(extent.length), ..extent };
+            rest -= last.length;
+            stay += 1;
+        }
+        Ok(Cut { set, by_cylinders, tracks_kept, stay, last })
+    }
+
+    /// The last extent that stays, where it gets shorter.
+    fn shortened(&self) -> Option<Run> {
+        (self.last != self.set.extents()[self.stay - 1]).then_some(self.last)
+    }
+
+    /// The slot of a format 3 that is needed no longer.
+    fn freed_format_3(&self) -> Option<usize> {
+        self.set.format_3.filter(|_| self.stay <= IN_FORMAT_1)
+    }
+
+    fn freed(&self) -> usize {
+        usize::from(self.freed_format_3().is_some())
+    }
+
+    /// Puts the tracks back into the free list; refusal 11 unless the slots do then. The table is not
+    /// touched yet.
+    fn give(&self, volume: &mut Volume) -> Result<(), Refusal> {
+        let (staying, going) = self.set.extents().split_at(self.stay);
+        if let (Some(last), Some(before)) = (self.shortened(), staying.last()) {
+            volume.free.give(Run { start: last.end(), length: before.length - last.length });
+        }
+        going.iter().for_each(|&extent| volume.free.give(extent));
+        volume.slots_suffice(self.freed(), 0)
+    }
+
+    fn tracks_back(&self) -> u32 {
+        self.set.tracks() - self.tracks_kept
+    }
+}
 
 /// Keeps the first TT + 1 tracks of a set; a cylinder file also those that go on in the same cylinder.
 /// Refusals in order: 2, 3, 4, 5, 12, 11.
 pub fn release(table: &mut [u8], name: &[u8], ttr: u32, answer: &mut [u8]) -> u32 {
-    answered(answer, || release_from(records_mut(table)?, sized(name)?, ttr))
+    answered(answer, || {
+        let records = records_mut(table)?;
+        let name: &Name = sized(name)?;
+        let mut volume = sound(records)?;
+        let cut = Cut::new(&volume, records, name, ttr)?;
+        cut.give(&mut volume)?;
+        write_release(&mut volume, records, &cut, ttr);
+        Ok(tracks(cut.tracks_back()))
+    })
 }
 
-fn release_from(records: &mut [Record], name: &Name, ttr: u32) -> Result<Answer, Refusal> {
-    let mut volume = sound(records)?;
-    lawful(name)?;
-    let slot = lookup(&volume, records, name)?;
-    let set = DataSet::read(&volume, records, slot);
-    let (wide, tt, r) = (ttr >> 24, ttr >> 8, ttr & 0xFF);
-    if wide != 0 || tt >= set.tracks() || (r == 0 && tt > 0) {
-        return Err(Refusal::Ttr);
-    }
-
-    let by_cylinders = records[slot][UNIT] == UNIT_CYLINDERS;
-    let tracks_kept = match by_cylinders {
-        true => set.whole_cylinders(tt + 1, volume.geometry.heads),
-        false => tt + 1,
-    };
-
-    // Walk the extents: those inside the tracks kept stay, one may be cut.
-    let mut keep = tracks_kept;
-    let mut stay = 0;
-    let mut shortened = None;
-    for &extent in set.extents() {
-        let kept = keep.min(extent.length);
-        keep -= kept;
-        stay += usize::from(kept > 0);
-        if kept < extent.length {
-            volume.free.give(Run { start: extent.start + kept, length: extent.length - kept });
-            if kept > 0 {
-                shortened = Some(Run { length: kept, ..extent });
-            }
-        }
-    }
-    let unneeded_format_3 = set.format_3.filter(|_| stay <= IN_FORMAT_1);
-    volume.slots_suffice(usize::from(unneeded_format_3.is_some()), 0)?;
-
+fn write_release(volume: &mut Volume, records: &mut [Record], cut: &Cut, ttr: u32) {
+    let Cut { set, stay, .. } = cut;
     volume.trim_chain(records);
-    if let Some(run) = shortened {
-        // Only the last one that stays can have been cut, in a cylinder file where a cylinder ends.
-        let kind = if by_cylinders { set.kind(records, stay - 1) } else { ANY_TRACKS };
-        set.put(&volume, records, stay - 1, kind, run);
+    if let Some(run) = cut.shortened() {
+        // A cylinder file is cut where a cylinder ends.
+        let kind = if cut.by_cylinders { set.kind(records, stay - 1) } else { ANY_TRACKS };
+        set.put(volume, records, stay - 1, kind, run);
     }
-    (stay..set.extents().len()).for_each(|e| set.clear(records, e));
-    let record = &mut records[slot];
-    record[EXTENT_COUNT] = stay as u8;
+    (*stay..set.extents().len()).for_each(|e| set.clear(records, e));
+    let record = &mut records[set.slot];
+    record[EXTENT_COUNT] = *stay as u8;
     put24(record, LAST_BLOCK, ttr);
-    if let Some(format_3) = unneeded_format_3 {
+    if let Some(format_3) = cut.freed_format_3() {
         record[LINK..].fill(0);
         volume.free_slot(records, format_3);
     }
     volume.close(records);
-    Ok(tracks(set.tracks() - tracks_kept))
+}
+
+/// What release would answer; its refusals.
+pub fn preview_release(table: &[u8], name: &[u8], ttr: u32, answer: &mut [u8]) -> u32 {
+    answered(answer, || {
+        let records = records(table)?;
+        let name: &Name = sized(name)?;
+        let mut volume = sound(records)?;
+        let cut = Cut::new(&volume, records, name, ttr)?;
+        if !volume.has_slots_to_spare(cut.freed(), 0) {
+            cut.give(&mut volume)?;
+        }
+        Ok(tracks(cut.tracks_back()))
+    })
+}
+
+/// The set to remove.
+#[inline(always)]
+fn condemned(volume: &Volume, records: &[Record], name: &Name) -> Result<DataSet, Refusal> {
+    lawful(name)?;
+    let slot = lookup(volume, records, name)?;
+    Ok(DataSet::read(volume, records, slot))
 }
 
 /// Removes a set. Refusals in order: 2, 3, 4, 5.
 pub fn scratch(table: &mut [u8], name: &[u8], answer: &mut [u8]) -> u32 {
-    answered(answer, || scratch_set(records_mut(table)?, sized(name)?))
+    answered(answer, || {
+        let records = records_mut(table)?;
+        let name: &Name = sized(name)?;
+        let mut volume = sound(records)?;
+        let set = condemned(&volume, records, name)?;
+        // No refusal 11: at most 16 new entries want one format 5, and a slot comes free.
+        set.extents().iter().for_each(|&extent| volume.free.give(extent));
+        volume.trim_chain(records);
+        volume.free_slot(records, set.slot);
+        if let Some(format_3) = set.format_3 {
+            volume.free_slot(records, format_3);
+        }
+        volume.close(records);
+        Ok(tracks(set.tracks()))
+    })
 }
 
-fn scratch_set(records: &mut [Record], name: &Name) -> Result<Answer, Refusal> {
-    let mut volume = sound(records)?;
-    lawful(name)?;
-    let slot = lookup(&volume, records, name)?;
-    let set = DataSet::read(&volume, records, slot);
-    // No refusal 11: at most 16 new entries want one format 5, and a slot comes free.
-    set.extents().iter().for_each(|&extent| volume.free.give(extent));
-    volume.trim_chain(records);
-    volume.free_slot(records, slot);
-    if let Some(format_3) = set.format_3 {
-        volume.free_slot(records, format_3);
-    }
-    volume.close(records);
-    Ok(tracks(set.tracks()))
+/// What scratch would answer; its refusals.
+pub fn preview_scratch(table: &[u8], name: &[u8], answer: &mut [u8]) -> u32 {
+    answered(answer, || {
+        let records = records(table)?;
+        let name: &Name = sized(name)?;
+        let volume = sound(records)?;
+        Ok(tracks(condemned(&volume, records, name)?.tracks()))
+    })
 }
