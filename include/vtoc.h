@@ -9,8 +9,8 @@
  *   vtoc_allocate    gives a new data set its tracks              vtoc_rename   changes a name
  *   vtoc_extend      adds the secondary amount to a data set      vtoc_obtain   reads the labels of a data set
  *   vtoc_release     gives back tracks after the last block       vtoc_lspace   says how much is free
- * vtoc_preview_allocate, vtoc_preview_extend, vtoc_preview_release and vtoc_preview_scratch say what these calls would answer, and
- * change nothing.
+ *   vtoc_preview_allocate, vtoc_preview_extend, vtoc_preview_release, vtoc_preview_scratch
+ *                    say what the call would answer, and change nothing
  * Each takes numbers of 32 bits and byte buffers, a buffer as a pointer and its length, and answers VTOC_OK (0) or the number
  * of a refusal (1 to 12, below). Any bytes, numbers and lengths may be handed over: every call ends in one of the two.
  *
@@ -23,9 +23,10 @@
  *
  * WHAT IS PROVED
  * The result, the answer, the labels and every byte of the table equal the definitions of the rules, for good calls and for
- * refused ones; no call reads or writes outside the buffers it was lent; every call ends. docs/THEOREM.md has the one theorem
- * about lists of calls: each track lies in exactly one place, and the data sets are those that the replies have granted. Previews
- * may stand anywhere in such a list, and count for nothing.
+ * refused ones; a preview has the result and the answer of its call on a copy of the table, which stays as it was; no call reads or
+ * writes outside the buffers it was lent; every call ends. docs/THEOREM.md has the one theorem about lists of calls: each track lies
+ * in exactly one place, and the data sets are those that the replies have granted. Previews may stand anywhere in such a list, and
+ * count for nothing.
  *
  * The inline functions of this header are plain C and are not proved; tests/header.c tries each of them.
  *

@@ -395,7 +395,7 @@ static void releases_by_list(void)
 /* The lengths that a preview and its call are lent. */
 static size_t table_lent = LENGTH, name_lent = 44, attributes_lent = 52, answer_lent = 24;
 
-/* The table as it is, in memory that can be read alone: a byte written there ends the program. */
+/* The table as it is, in memory that can be read alone: a byte written there ends the program. Both answers are filled. */
 static const uint8_t *read_only(void)
 {
     static uint8_t *pages = NULL;
@@ -521,6 +521,9 @@ static void previews_refused(void)
     CHECK(both_allocate(VTOC_NO_OPTION, "FLT.B", VTOC_TRACKS, 0, 1, 0) == VTOC_E_DUPLICATE);
     CHECK(both_allocate(VTOC_NO_OPTION, "FLT.B", VTOC_TRACKS, 0, 0, 0) == VTOC_E_AMOUNT);
     CHECK(both_allocate(VTOC_CONTIG, "FLT.D", VTOC_ABSOLUTE, 30, 4, 0) == VTOC_E_AMOUNT);
+    CHECK(both_allocate(VTOC_NO_OPTION, "FLT.D", VTOC_ABSOLUTE, 30, 4, 1) == VTOC_E_AMOUNT);
+    CHECK(both_allocate(VTOC_NO_OPTION, "FLT.D", VTOC_TRACKS, 0, 1, VTOC_MOST_SECONDARY + 1) == VTOC_E_AMOUNT);
+    CHECK(both_allocate(VTOC_NO_OPTION, "FLT.D", VTOC_ABSOLUTE + 1, 0, 1, 0) == VTOC_E_AMOUNT);
     CHECK(both_extend("FLT.C") == VTOC_E_NO_SECONDARY);
     CHECK(both_allocate(VTOC_NO_OPTION, "FLT.D", VTOC_TRACKS, 0, 175, 0) == VTOC_E_NO_SPACE);
     CHECK(both_allocate(VTOC_NO_OPTION, "FLT.D", VTOC_ABSOLUTE, 7, 1, 0) == VTOC_E_NO_SPACE);
