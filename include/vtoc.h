@@ -23,10 +23,10 @@
  *
  * WHAT IS PROVED
  * The result, the answer, the labels and every byte of the table equal the definitions of the rules, for good calls and for
- * refused ones; a preview has the result and the answer of its call on a copy of the table, which stays as it was; no call reads or
- * writes outside the buffers it was lent; every call ends. docs/THEOREM.md has the one theorem about lists of calls: each track lies
- * in exactly one place, and the data sets are those that the replies have granted. Previews may stand anywhere in such a list, and
- * count for nothing.
+ * refused ones; a preview has the result and the answer of its call on a copy of the table, and leaves the table; no call reads
+ * or writes outside the buffers it was lent; every call ends. docs/THEOREM.md has the one theorem about lists of calls: each track
+ * lies in exactly one place, and the data sets are those that the replies have granted. Previews may stand anywhere in such a
+ * list, and count for nothing.
  *
  * The inline functions of this header are plain C and are not proved; tests/header.c tries each of them.
  *
@@ -273,24 +273,24 @@ uint32_t vtoc_lspace(const uint8_t *table, size_t table_length, uint8_t *VTOC_RE
  * happened, ask again, and look at the result and the answer of the call in any case.
  */
 
-/* The tracks and pieces that vtoc_allocate would grant. Refusals: as for vtoc_allocate. */
+/* The tracks and pieces that vtoc_allocate would grant. */
 VTOC_NODISCARD
 uint32_t vtoc_preview_allocate(const uint8_t *table, size_t table_length, const uint8_t *name, size_t name_length,
                                const uint8_t *attributes, size_t attributes_length, uint32_t kind, uint32_t start,
                                uint32_t amount, uint32_t secondary, uint32_t option, uint8_t *VTOC_RESTRICT answer,
                                size_t answer_length);
 
-/* The tracks and pieces that the next vtoc_extend would grant. Refusals: as for vtoc_extend. */
+/* The tracks and pieces that the next vtoc_extend would grant. */
 VTOC_NODISCARD
 uint32_t vtoc_preview_extend(const uint8_t *table, size_t table_length, const uint8_t *name, size_t name_length,
                              uint8_t *VTOC_RESTRICT answer, size_t answer_length);
 
-/* The tracks that vtoc_release would give back; the TTR is not stored. Refusals: as for vtoc_release. */
+/* The tracks that vtoc_release would give back; the TTR is not stored. */
 VTOC_NODISCARD
 uint32_t vtoc_preview_release(const uint8_t *table, size_t table_length, const uint8_t *name, size_t name_length, uint32_t ttr,
                               uint8_t *VTOC_RESTRICT answer, size_t answer_length);
 
-/* The tracks that vtoc_scratch would give back, which are all that the data set has. Refusals: as for vtoc_scratch. */
+/* The tracks that vtoc_scratch would give back, which are all that the data set has. */
 VTOC_NODISCARD
 uint32_t vtoc_preview_scratch(const uint8_t *table, size_t table_length, const uint8_t *name, size_t name_length,
                               uint8_t *VTOC_RESTRICT answer, size_t answer_length);
