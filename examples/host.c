@@ -1,12 +1,12 @@
 /*
- * host.c: a week on a survey volume, as an emulator would live it with the VTOC space manager.
+ * host.c: a week on a survey volume, its last day on two, as an emulator would live it with the VTOC space manager.
  *
  *   rt staticlib vtoc && cc -std=c99 -Iinclude examples/host.c target/staticlib/libvtoc.a -o target/host
  *   target/host target/week.vtoc && target/bin/vtlist < target/week.vtoc
  *
- * The volume is a 3330 pack: 404 cylinders of 19 tracks, a VTOC of two tracks with 39 records each from track 1. The program
+ * A volume is a 3330 pack: 404 cylinders of 19 tracks, a VTOC of two tracks with 39 records each from track 1. The program
  * prints what it does in clear words, and ends with status 1 where a call answers otherwise than the week needs. At the end it
- * writes the table to the file named by its argument, for vtlist.
+ * writes the table of the survey volume to the file named by its argument, for vtlist.
  */
 #include <stdarg.h>
 #include <stdio.h>
@@ -16,10 +16,13 @@
 #include "vtoc.h"
 
 enum { CYLINDERS = 404, HEADS = 19, RECORDS_A_TRACK = 39, VTOC_START = 1, VTOC_LENGTH = 2 };
+enum { TABLE_LENGTH = VTOC_LENGTH * RECORDS_A_TRACK * VTOC_RECORD_LENGTH, VOLUMES = 2 };
 
-static uint8_t table[VTOC_LENGTH * RECORDS_A_TRACK * VTOC_RECORD_LENGTH];
+static const char *const serials[VOLUMES] = {"SURV01", "SURV02"};
+static uint8_t tables[VOLUMES][TABLE_LENGTH];
+static uint8_t *table = tables[0]; /* of the volume that the calls are for: SURV01 up to Sunday */
 static uint8_t answer[VTOC_ANSWER_LENGTH];
-static uint8_t table_before[sizeof table], answer_before[sizeof answer]; /* as they were before a call */
+static uint8_t table_before[TABLE_LENGTH], answer_before[sizeof answer]; /* as they were before a call */
 
 /* ---- What the operator reads --------------------------------------------------------------------------------------------- */
 
@@ -55,8 +58,16 @@ static void say(const char *format, ...)
     vprintf(format, words);
     va_end(words);
     printf("\n");
-    memcpy(table_before, table, sizeof table);
+    memcpy(table_before, table, TABLE_LENGTH);
     memcpy(answer_before, answer, sizeof answer);
+}
+
+/* A refused call has nothing to tell but its number. */
+static void print_refusal(uint32_t result)
+{
+    check(memcmp(table, table_before, TABLE_LENGTH) == 0 && memcmp(answer, answer_before, sizeof answer) == 0,
+          "a refusal writes no byte");
+    printf("      refused, %lu: %s; no byte was written\n", (unsigned long)result, vtoc_refusal_word(result));
 }
 
 /* Ends the program where a call answered otherwise than the week needs. */
@@ -67,14 +78,18 @@ static void expect(uint32_t result, uint32_t wanted)
                vtoc_refusal_word(result), (unsigned long)wanted, vtoc_refusal_word(wanted));
         exit(EXIT_FAILURE);
     }
-    if (result != VTOC_OK) {
-        check(memcmp(table, table_before, sizeof table) == 0 && memcmp(answer, answer_before, sizeof answer) == 0,
-              "a refusal writes no byte");
-        printf("      refused, %lu: %s; no byte was written\n", (unsigned long)result, vtoc_refusal_word(result));
-    }
+    if (result != VTOC_OK)
+        print_refusal(result);
 }
 
-/* ---- The calls with the volume's one table and text for names ------------------------------------------------------------ */
+/* ---- The calls with the table of one volume and text for names ----------------------------------------------------------- */
+
+static void initialise(void)
+{
+    say("initialise %d cylinders of %d tracks", CYLINDERS, HEADS);
+    expect(vtoc_initialise(table, TABLE_LENGTH, CYLINDERS, HEADS, RECORDS_A_TRACK, VTOC_START, VTOC_LENGTH, answer, sizeof answer),
+           VTOC_OK);
+}
 
 static void allocate(const char *text, uint32_t kind, uint32_t start, uint32_t amount, uint32_t secondary, uint32_t option,
                      uint32_t wanted)
@@ -87,7 +102,7 @@ static void allocate(const char *text, uint32_t kind, uint32_t start, uint32_t a
     vtoc_name_from_text(name, text);
     say("allocate %s, %lu %s, secondary %lu%s", text, (unsigned long)amount, units[kind], (unsigned long)secondary,
         options[option]);
-    result = vtoc_allocate(table, sizeof table, name, sizeof name, attributes, sizeof attributes, kind, start, amount, secondary,
+    result = vtoc_allocate(table, TABLE_LENGTH, name, sizeof name, attributes, sizeof attributes, kind, start, amount, secondary,
                            option, answer, sizeof answer);
     expect(result, wanted);
     if (result == VTOC_OK)
@@ -100,7 +115,7 @@ static void extend(const char *text, uint32_t wanted)
     uint32_t result;
     vtoc_name_from_text(name, text);
     say("extend %s", text);
-    result = vtoc_extend(table, sizeof table, name, sizeof name, answer, sizeof answer);
+    result = vtoc_extend(table, TABLE_LENGTH, name, sizeof name, answer, sizeof answer);
     expect(result, wanted);
     if (result == VTOC_OK)
         print_pieces();
@@ -112,7 +127,7 @@ static void release(const char *text, uint32_t tt, uint32_t r, uint32_t wanted)
     uint32_t result;
     vtoc_name_from_text(name, text);
     say("release %s after its last block, track %lu of the data set, record %lu", text, (unsigned long)tt, (unsigned long)r);
-    result = vtoc_release(table, sizeof table, name, sizeof name, vtoc_ttr(tt, r), answer, sizeof answer);
+    result = vtoc_release(table, TABLE_LENGTH, name, sizeof name, vtoc_ttr(tt, r), answer, sizeof answer);
     expect(result, wanted);
     if (result == VTOC_OK)
         printf("      %lu tracks given back\n", (unsigned long)vtoc_answer_tracks(answer));
@@ -124,7 +139,7 @@ static void scratch(const char *text, uint32_t wanted)
     uint32_t result;
     vtoc_name_from_text(name, text);
     say("scratch %s", text);
-    result = vtoc_scratch(table, sizeof table, name, sizeof name, answer, sizeof answer);
+    result = vtoc_scratch(table, TABLE_LENGTH, name, sizeof name, answer, sizeof answer);
     expect(result, wanted);
     if (result == VTOC_OK)
         printf("      %lu tracks given back\n", (unsigned long)vtoc_answer_tracks(answer));
@@ -136,7 +151,7 @@ static void rename_set(const char *old_text, const char *new_text, uint32_t want
     vtoc_name_from_text(old_name, old_text);
     vtoc_name_from_text(new_name, new_text);
     say("rename %s to %s", old_text, new_text);
-    expect(vtoc_rename(table, sizeof table, old_name, sizeof old_name, new_name, sizeof new_name, answer, sizeof answer), wanted);
+    expect(vtoc_rename(table, TABLE_LENGTH, old_name, sizeof old_name, new_name, sizeof new_name, answer, sizeof answer), wanted);
 }
 
 /* Reads the labels of a data set and prints its extents, which lie in the format 1 and, from the fourth on, in the format 3. */
@@ -145,7 +160,7 @@ static void obtain(const char *text)
     uint8_t name[VTOC_NAME_LENGTH], labels[VTOC_LABELS_LENGTH];
     vtoc_name_from_text(name, text);
     say("obtain %s", text);
-    expect(vtoc_obtain(table, sizeof table, name, sizeof name, labels, sizeof labels, answer, sizeof answer), VTOC_OK);
+    expect(vtoc_obtain(table, TABLE_LENGTH, name, sizeof name, labels, sizeof labels, answer, sizeof answer), VTOC_OK);
     for (unsigned e = 0; e < labels[VTOC_LABEL_EXTENTS]; e++) {
         const uint8_t *extent = vtoc_label_extent(labels, e);
         printf("      extent %u: track ", (unsigned)extent[VTOC_EXTENT_NUMBER]);
@@ -164,10 +179,66 @@ static unsigned long space_number(uint32_t which)
 static void space(void)
 {
     say("space inquiry");
-    expect(vtoc_lspace(table, sizeof table, answer, sizeof answer), VTOC_OK);
+    expect(vtoc_lspace(table, TABLE_LENGTH, answer, sizeof answer), VTOC_OK);
     printf("      free extents: %lu, together %lu cylinders and %lu tracks, the longest %lu cylinders and %lu tracks; records: %lu\n",
            space_number(VTOC_SPACE_EXTENTS), space_number(VTOC_SPACE_CYLINDERS), space_number(VTOC_SPACE_ODD_TRACKS),
            space_number(VTOC_SPACE_LONGEST_CYLINDERS), space_number(VTOC_SPACE_LONGEST_ODD), space_number(VTOC_SPACE_RECORDS));
+}
+
+/* ---- A planner: which volume is to have a new file ----------------------------------------------------------------------- */
+
+/* What a volume would answer. */
+struct offer {
+    uint32_t result;
+    uint8_t answer[VTOC_ANSWER_LENGTH];
+};
+
+/* What a volume would grant to a cylinder file. A preview takes nothing: to it the table is const. */
+static struct offer preview(unsigned volume, const char *text, uint32_t amount, uint32_t secondary)
+{
+    uint8_t name[VTOC_NAME_LENGTH];
+    uint8_t attributes[VTOC_ATTRIBUTES_LENGTH] = {0};
+    struct offer offer;
+    vtoc_name_from_text(name, text);
+    table = tables[volume];
+    say("preview on %s: allocate %s, %lu cylinders, secondary %lu", serials[volume], text, (unsigned long)amount,
+        (unsigned long)secondary);
+    offer.result = vtoc_preview_allocate(table, TABLE_LENGTH, name, sizeof name, attributes, sizeof attributes, VTOC_CYLINDERS, 0,
+                                         amount, secondary, VTOC_NO_OPTION, answer, sizeof answer);
+    memcpy(offer.answer, answer, sizeof answer);
+    check(memcmp(table, table_before, TABLE_LENGTH) == 0, "a preview writes no byte of the table");
+    if (offer.result == VTOC_OK)
+        print_pieces();
+    else
+        print_refusal(offer.result);
+    return offer;
+}
+
+/* Accepted is better than refused, and of two that are accepted the one in fewer pieces. */
+static int is_better(const struct offer *one, const struct offer *other)
+{
+    if (one->result != VTOC_OK || other->result != VTOC_OK)
+        return one->result == VTOC_OK && other->result != VTOC_OK;
+    return vtoc_answer_pieces(one->answer) < vtoc_answer_pieces(other->answer);
+}
+
+/* Allocates a cylinder file on the volume with the best offer. Of equal offers the first is taken, so that the last volume stays
+   free the longest. No call came between: the volume grants, or refuses, as it said. */
+static void place(const char *text, uint32_t amount, uint32_t secondary)
+{
+    struct offer best = preview(0, text, amount, secondary);
+    unsigned chosen = 0;
+    for (unsigned volume = 1; volume < VOLUMES; volume++) {
+        struct offer offer = preview(volume, text, amount, secondary);
+        if (is_better(&offer, &best)) {
+            best = offer;
+            chosen = volume;
+        }
+    }
+    table = tables[chosen];
+    say("%s is chosen", serials[chosen]);
+    allocate(text, VTOC_CYLINDERS, 0, amount, secondary, VTOC_NO_OPTION, best.result);
+    check(memcmp(answer, best.answer, sizeof answer) == 0, "the grant is the one foreseen");
 }
 
 /* ---- The week ------------------------------------------------------------------------------------------------------------ */
@@ -179,9 +250,7 @@ int main(int count, char **arguments)
     uint32_t freed_track, granted, kept;
 
     printf("Monday: a new volume, and the survey's files\n");
-    say("initialise %d cylinders of %d tracks", CYLINDERS, HEADS);
-    expect(vtoc_initialise(table, sizeof table, CYLINDERS, HEADS, RECORDS_A_TRACK, VTOC_START, VTOC_LENGTH, answer, sizeof answer),
-           VTOC_OK);
+    initialise();
     space();
     allocate("SURVEY.STRIP01", VTOC_CYLINDERS, 0, 60, 24, VTOC_NO_OPTION, VTOC_OK);
     allocate("SURVEY.NAV", VTOC_CYLINDERS, 0, 20, 0, VTOC_NO_OPTION, VTOC_OK);
@@ -249,11 +318,22 @@ int main(int count, char **arguments)
     scratch("SURVEY.SORTWK01", VTOC_OK);
     space();
 
+    printf("Sunday: the next flight's files, on this volume or a new one\n");
+    table = tables[1];
+    initialise();
+    place("SURVEY.FLT0318.PHOTO", 150, 0);
+    check(table == tables[1], "only the new volume has so many cylinders");
+    place("SURVEY.FLT0318.STRIP01", 55, 24);
+    check(table == tables[1], "one piece is better than two");
+    place("SURVEY.FLT0318.NAV", 20, 0);
+    check(table == tables[0], "of equal offers the first");
+    space();
+
     file = fopen(path, "wb");
-    if (file == NULL || fwrite(table, 1, sizeof table, file) != sizeof table || fclose(file) != 0) {
+    if (file == NULL || fwrite(tables[0], 1, TABLE_LENGTH, file) != TABLE_LENGTH || fclose(file) != 0) {
         perror(path);
         return EXIT_FAILURE;
     }
-    printf("The table is written to the file; vtlist lists it.\n");
+    printf("The table of %s is written to the file; vtlist lists it.\n", serials[0]);
     return EXIT_SUCCESS;
 }

@@ -9,10 +9,13 @@
  *   vtoc_allocate    gives a new data set its tracks              vtoc_rename   changes a name
  *   vtoc_extend      adds the secondary amount to a data set      vtoc_obtain   reads the labels of a data set
  *   vtoc_release     gives back tracks after the last block       vtoc_lspace   says how much is free
+ *   vtoc_preview_allocate, vtoc_preview_extend, vtoc_preview_release, vtoc_preview_scratch
+ *                    say what the call would answer, and change nothing
  * Each takes numbers of 32 bits and byte buffers, a buffer as a pointer and its length, and answers VTOC_OK (0) or the number
  * of a refusal (1 to 12, below). Any bytes, numbers and lengths may be handed over: every call ends in one of the two.
  *
  * WHAT IS NEW
+ * Version 301: the four previews. A host of version 300 stays as it is.
  * Version 300: of a cylinder file vtoc_release keeps the cylinder of the last block to its end, so more than TT + 1 tracks. A host
  * that works out from TT what is kept or given back must take it from the answer or the labels; any other stays as it is.
  * Version 200: vtoc_allocate has a space option after secondary (CONTIG, MXIG, ALX). A host of version 100 hands over
@@ -20,8 +23,10 @@
  *
  * WHAT IS PROVED
  * The result, the answer, the labels and every byte of the table equal the definitions of the rules, for good calls and for
- * refused ones; no call reads or writes outside the buffers it was lent; every call ends. docs/THEOREM.md has the one theorem
- * about lists of calls: each track lies in exactly one place, and the data sets are those that the replies have granted.
+ * refused ones; a preview has the result and the answer of its call on a copy of the table, and leaves the table; no call reads
+ * or writes outside the buffers it was lent; every call ends. docs/THEOREM.md has the one theorem about lists of calls: each track
+ * lies in exactly one place, and the data sets are those that the replies have granted. Previews may stand anywhere in such a
+ * list, and count for nothing.
  *
  * The inline functions of this header are plain C and are not proved; tests/header.c tries each of them.
  *
@@ -30,10 +35,12 @@
  *      be written where it is not const. With length 0 it may be null.
  *   2. What a call may write (each buffer that is not const) overlaps no other buffer of that call, not by a byte: `restrict`
  *      below. Buffers that a call only reads may overlap or be one buffer, since they are shared borrows (`&`) in Rattle: the two
- *      names of vtoc_rename, name and attributes of vtoc_allocate, and in vtoc_obtain a name that lies in the table.
+ *      names of vtoc_rename, name and attributes of vtoc_allocate, and in vtoc_obtain and the previews a name or attributes that
+ *      lie in the table.
  *   3. While a call runs, nothing else (a thread, a signal handler, a device) writes a buffer that was lent to it, or reads one
- *      that it may write. So no two threads are at one table, but for vtoc_obtain and vtoc_lspace: these may run side by side on
- *      one table, each with an answer and labels of its own. Calls on different tables may always run at the same time.
+ *      that it may write. So no two threads are at one table, but for the calls that take it as const (vtoc_obtain, vtoc_lspace and
+ *      the previews): these may run side by side on one table, each with an answer and labels of its own. Calls on different tables
+ *      may always run at the same time.
  *   4. There are VTOC_STACK_NEED bytes of stack (tests/stack.c measures what a call needs).
  * There is no other. Bytes, numbers, lengths and the order of calls may be any; buffers need no alignment; a table that was
  * changed between two calls is refused (VTOC_E_UNSOUND) or, where it still meets every rule of the layout, taken as it now is.
@@ -88,8 +95,8 @@ extern "C" {
 
 /* ---- Version ------------------------------------------------------------------------------------------------------------ */
 
-#define VTOC_VERSION 300 /* of this header, 100 x major + minor: a new major number where a host must change, else a new minor */
-#define VTOC_REQUESTS 2  /* how many of document 02's requests are in, from the first on */
+#define VTOC_VERSION 301 /* of this header, 100 x major + minor: a new major number where a host must change, else a new minor */
+#define VTOC_REQUESTS 3  /* how many of document 02's requests are in, from the first on */
 
 /* ---- Lengths, in bytes unless said otherwise ---------------------------------------------------------------------------- */
 
@@ -254,6 +261,40 @@ uint32_t vtoc_obtain(const uint8_t *table, size_t table_length, const uint8_t *n
 VTOC_NODISCARD
 uint32_t vtoc_lspace(const uint8_t *table, size_t table_length, uint8_t *VTOC_RESTRICT answer, size_t answer_length);
 
+/* ---- Previews: what a call would answer. Nothing is changed. ------------------------------------------------------------- */
+
+/*
+ * A preview takes the arguments of its call and gives the result and the answer that the call would give on a copy of the table:
+ * the same refusals in the same order, and where it is accepted the same 24 bytes, for the readers below. So a host asks each of
+ * its volumes what it would give, and makes the call where that is best; examples/host.c has such a planner.
+ *
+ * The table is not written: it may lie in memory that can only be read, and others may read it at the same time (duty 3).
+ * Nothing is reserved either. What a preview says holds until the table is next changed, by a call or by the host; if that may have
+ * happened, ask again, and look at the result and the answer of the call in any case.
+ */
+
+/* The tracks and pieces that vtoc_allocate would grant. */
+VTOC_NODISCARD
+uint32_t vtoc_preview_allocate(const uint8_t *table, size_t table_length, const uint8_t *name, size_t name_length,
+                               const uint8_t *attributes, size_t attributes_length, uint32_t kind, uint32_t start,
+                               uint32_t amount, uint32_t secondary, uint32_t option, uint8_t *VTOC_RESTRICT answer,
+                               size_t answer_length);
+
+/* The tracks and pieces that the next vtoc_extend would grant. */
+VTOC_NODISCARD
+uint32_t vtoc_preview_extend(const uint8_t *table, size_t table_length, const uint8_t *name, size_t name_length,
+                             uint8_t *VTOC_RESTRICT answer, size_t answer_length);
+
+/* The tracks that vtoc_release would give back; the TTR is not stored. */
+VTOC_NODISCARD
+uint32_t vtoc_preview_release(const uint8_t *table, size_t table_length, const uint8_t *name, size_t name_length, uint32_t ttr,
+                              uint8_t *VTOC_RESTRICT answer, size_t answer_length);
+
+/* The tracks that vtoc_scratch would give back, which are all that the data set has. */
+VTOC_NODISCARD
+uint32_t vtoc_preview_scratch(const uint8_t *table, size_t table_length, const uint8_t *name, size_t name_length,
+                              uint8_t *VTOC_RESTRICT answer, size_t answer_length);
+
 /* ---- Readers of the answer. Each is for an answer of 24 bytes that a call with result VTOC_OK has written. --------------- */
 
 /* The number in two bytes. */
@@ -262,7 +303,7 @@ static inline uint32_t vtoc_two(const uint8_t *bytes)
     return (uint32_t)bytes[0] << 8 | bytes[1];
 }
 
-/* allocate and extend: tracks granted. release and scratch: tracks given back. */
+/* allocate and extend: tracks granted. release and scratch: tracks given back. Of a preview, those that would be. */
 static inline uint32_t vtoc_answer_tracks(const uint8_t *answer)
 {
     return vtoc_two(answer);

@@ -16,8 +16,8 @@
 
 #define IS(constant, number) typedef char constant##_is_not_##number[(constant) == (number) ? 1 : -1]
 
-IS(VTOC_VERSION, 300);
-IS(VTOC_REQUESTS, 2);
+IS(VTOC_VERSION, 301);
+IS(VTOC_REQUESTS, 3);
 IS(VTOC_RECORD_LENGTH, 140);
 IS(VTOC_LEAST_RECORDS, 3);
 IS(VTOC_MOST_RECORDS, 468);
@@ -88,6 +88,11 @@ uint32_t vtoc_scratch(uint8_t *, size_t, const uint8_t *, size_t, uint8_t *, siz
 uint32_t vtoc_rename(uint8_t *, size_t, const uint8_t *, size_t, const uint8_t *, size_t, uint8_t *, size_t);
 uint32_t vtoc_obtain(const uint8_t *, size_t, const uint8_t *, size_t, uint8_t *, size_t, uint8_t *, size_t);
 uint32_t vtoc_lspace(const uint8_t *, size_t, uint8_t *, size_t);
+uint32_t vtoc_preview_allocate(const uint8_t *, size_t, const uint8_t *, size_t, const uint8_t *, size_t, uint32_t, uint32_t,
+                               uint32_t, uint32_t, uint32_t, uint8_t *, size_t);
+uint32_t vtoc_preview_extend(const uint8_t *, size_t, const uint8_t *, size_t, uint8_t *, size_t);
+uint32_t vtoc_preview_release(const uint8_t *, size_t, const uint8_t *, size_t, uint32_t, uint8_t *, size_t);
+uint32_t vtoc_preview_scratch(const uint8_t *, size_t, const uint8_t *, size_t, uint8_t *, size_t);
 #ifdef __cplusplus
 }
 #endif

@@ -1,13 +1,15 @@
 /*
  * promises.c: what include/vtoc.h tells hosts they may do, done with the library. One buffer for two that are only read; a file
- * closed in the table; the space options; what a release keeps; the header's limits, its readers and other inline functions on
- * tables and labels that the library writes.
+ * closed in the table; the space options; what a release keeps; previews beside their calls, on a table that cannot be written;
+ * the header's limits, its readers and other inline functions on tables and labels that the library writes.
  *
  *   cc -std=c99 -Iinclude tests/promises.c target/staticlib/libvtoc.a -o target/promises && target/promises
  */
+#define _DEFAULT_SOURCE /* for mmap */
 #include <stdio.h>
 #include <stdlib.h>
 #include <string.h>
+#include <sys/mman.h>
 
 #include "vtoc.h"
 
@@ -388,6 +390,185 @@ static void releases_by_list(void)
     CHECK(gives_back("OLD", 1, 1, 3, 0, 0x01, 30, 34));
 }
 
+/* ---- Previews ------------------------------------------------------------------------------------------------------------ */
+
+/* The lengths that a preview and its call are lent. */
+static size_t table_lent = LENGTH, name_lent = 44, attributes_lent = 52, answer_lent = 24;
+
+/* The table as it is, in memory that can be read alone: a byte written there ends the program. Both answers are filled. */
+static const uint8_t *read_only(void)
+{
+    static uint8_t *pages = NULL;
+    if (pages == NULL)
+        pages = (uint8_t *)mmap(NULL, LENGTH, PROT_NONE, MAP_PRIVATE | MAP_ANONYMOUS, -1, 0);
+    CHECK(pages != MAP_FAILED && mprotect(pages, LENGTH, PROT_READ | PROT_WRITE) == 0);
+    memcpy(pages, table, LENGTH);
+    CHECK(mprotect(pages, LENGTH, PROT_READ) == 0);
+    memset(answer, 0xA5, sizeof answer);
+    memset(other_answer, 0xA5, sizeof other_answer);
+    return pages;
+}
+
+/* The result of a call, where its preview had the same one and the same 24 bytes; refused, both have left theirs as they were. */
+static uint32_t foreseen(uint32_t preview, uint32_t result)
+{
+    CHECK(preview == result && memcmp(other_answer, answer, sizeof answer) == 0);
+    for (unsigned i = 0; i < sizeof answer && result != VTOC_OK; i++)
+        CHECK(answer[i] == 0xA5);
+    return result;
+}
+
+/* Each of the four: a preview on the table that cannot be written, with the other answer, then the call on the table. */
+static uint32_t both_allocate(uint32_t option, const char *text, uint32_t kind, uint32_t start, uint32_t amount, uint32_t secondary)
+{
+    const uint8_t *name = name_of(text), *lent = read_only();
+    uint32_t preview = vtoc_preview_allocate(lent, table_lent, name, name_lent, attributes, attributes_lent, kind, start, amount,
+                                             secondary, option, other_answer, answer_lent);
+    return foreseen(preview, vtoc_allocate(table, table_lent, name, name_lent, attributes, attributes_lent, kind, start, amount,
+                                           secondary, option, answer, answer_lent));
+}
+
+static uint32_t both_extend(const char *text)
+{
+    const uint8_t *name = name_of(text), *lent = read_only();
+    uint32_t preview = vtoc_preview_extend(lent, table_lent, name, name_lent, other_answer, answer_lent);
+    return foreseen(preview, vtoc_extend(table, table_lent, name, name_lent, answer, answer_lent));
+}
+
+static uint32_t both_release(const char *text, uint32_t ttr)
+{
+    const uint8_t *name = name_of(text), *lent = read_only();
+    uint32_t preview = vtoc_preview_release(lent, table_lent, name, name_lent, ttr, other_answer, answer_lent);
+    return foreseen(preview, vtoc_release(table, table_lent, name, name_lent, ttr, answer, answer_lent));
+}
+
+static uint32_t both_scratch(const char *text)
+{
+    const uint8_t *name = name_of(text), *lent = read_only();
+    uint32_t preview = vtoc_preview_scratch(lent, table_lent, name, name_lent, other_answer, answer_lent);
+    return foreseen(preview, vtoc_scratch(table, table_lent, name, name_lent, answer, answer_lent));
+}
+
+/* The life of a volume, each step foreseen. */
+static void previews(void)
+{
+    volume();
+    CHECK(both_allocate(VTOC_NO_OPTION, "FLT.D", VTOC_TRACKS, 0, 101, 30) == VTOC_OK);
+    CHECK(vtoc_answer_tracks(other_answer) == 101 && vtoc_answer_pieces(other_answer) == 2);
+    CHECK(vtoc_answer_start(other_answer, 0) == 109 && vtoc_answer_count(other_answer, 0) == 91);
+    CHECK(vtoc_answer_start(other_answer, 1) == 20 && vtoc_answer_count(other_answer, 1) == 10);
+    CHECK(both_extend("FLT.D") == VTOC_OK && vtoc_answer_start(other_answer, 0) == 30);
+    CHECK(both_extend("FLT.B") == VTOC_OK && vtoc_answer_start(other_answer, 0) == 60);
+    CHECK(both_release("FLT.D", vtoc_ttr(90, 1)) == VTOC_OK && vtoc_answer_tracks(other_answer) == 40);
+    CHECK(both_release("FLT.B", vtoc_ttr(1, 1)) == VTOC_OK && vtoc_answer_tracks(other_answer) == 10);
+    CHECK(both_scratch("FLT.B") == VTOC_OK && vtoc_answer_tracks(other_answer) == 5);
+    CHECK(both_scratch("FLT.B") == VTOC_E_NOT_FOUND);
+    CHECK(both_allocate(VTOC_CONTIG, "FLT.E", VTOC_CYLINDERS, 0, 2, 0) == VTOC_OK);
+    CHECK(both_allocate(VTOC_NO_OPTION, "FLT.F", VTOC_ABSOLUTE, 5, 2, 0) == VTOC_OK);
+    CHECK(both_allocate(VTOC_MXIG, "FLT.G", VTOC_TRACKS, 0, 1, 0) == VTOC_OK && vtoc_answer_tracks(other_answer) == 80);
+    CHECK(both_allocate(VTOC_ALX, "FLT.H", VTOC_TRACKS, 0, 1, 0) == VTOC_OK && vtoc_answer_pieces(other_answer) == 1);
+}
+
+/* A preview reads the table too: a name and attributes may lie in it. */
+static void previews_of_parts(void)
+{
+    const uint8_t *lent, *label;
+    volume();
+    lent = read_only();
+    label = lent + vtoc_find_slot(lent, LENGTH, name_of("FLT.B")) * VTOC_RECORD_LENGTH;
+    CHECK(label != lent);
+    CHECK(vtoc_preview_extend(lent, LENGTH, label, 44, answer, 24) == VTOC_OK && vtoc_answer_tracks(answer) == H);
+    CHECK(vtoc_preview_release(lent, LENGTH, label, 44, 0, answer, 24) == VTOC_OK && vtoc_answer_tracks(answer) == H);
+    CHECK(vtoc_preview_scratch(lent, LENGTH, label, 44, answer, 24) == VTOC_OK && vtoc_answer_tracks(answer) == 2 * H);
+    CHECK(vtoc_preview_allocate(lent, LENGTH, label, 44, label, 52, VTOC_TRACKS, 0, 1, 0, VTOC_NO_OPTION, answer, 24)
+          == VTOC_E_DUPLICATE);
+    CHECK(vtoc_preview_allocate(lent, LENGTH, name_of("FLT.D"), 44, label, 52, VTOC_TRACKS, 0, 1, 0, VTOC_NO_OPTION, answer, 24)
+              == VTOC_OK
+          && vtoc_answer_tracks(answer) == 1);
+}
+
+/* Whether all four refuse with this number; the name is that of a data set for all but allocate. */
+static int all_refuse(uint32_t result, const char *text)
+{
+    return both_allocate(VTOC_NO_OPTION, text, VTOC_TRACKS, 0, 1, 0) == result && both_extend(text) == result
+           && both_release(text, 1) == result && both_scratch(text) == result;
+}
+
+/* One byte less of a buffer that each of them is lent. */
+static int all_refuse_less_of(size_t *lent)
+{
+    int so;
+    --*lent;
+    so = all_refuse(VTOC_E_LENGTH, "FLT.B");
+    ++*lent;
+    return so;
+}
+
+/* Each refusal of each of the four, but for 11. */
+static void previews_refused(void)
+{
+    volume();
+    CHECK(all_refuse_less_of(&table_lent) && all_refuse_less_of(&name_lent) && all_refuse_less_of(&answer_lent));
+    attributes_lent = 51;
+    CHECK(both_allocate(VTOC_NO_OPTION, "FLT.D", VTOC_TRACKS, 0, 1, 0) == VTOC_E_LENGTH);
+    attributes_lent = 52;
+    table[LENGTH - 1] ^= 1;
+    CHECK(all_refuse(VTOC_E_UNSOUND, "FLT.B"));
+    table[LENGTH - 1] ^= 1;
+    CHECK(all_refuse(VTOC_E_NAME, "FLT..B"));
+    CHECK(both_extend("FLT.X") == VTOC_E_NOT_FOUND && both_release("FLT.X", 1) == VTOC_E_NOT_FOUND);
+    CHECK(both_scratch("FLT.X") == VTOC_E_NOT_FOUND);
+    CHECK(both_allocate(VTOC_NO_OPTION, "FLT.B", VTOC_TRACKS, 0, 1, 0) == VTOC_E_DUPLICATE);
+    CHECK(both_allocate(VTOC_NO_OPTION, "FLT.B", VTOC_TRACKS, 0, 0, 0) == VTOC_E_AMOUNT);
+    CHECK(both_allocate(VTOC_CONTIG, "FLT.D", VTOC_ABSOLUTE, 30, 4, 0) == VTOC_E_AMOUNT);
+    CHECK(both_allocate(VTOC_NO_OPTION, "FLT.D", VTOC_ABSOLUTE, 30, 4, 1) == VTOC_E_AMOUNT);
+    CHECK(both_allocate(VTOC_NO_OPTION, "FLT.D", VTOC_TRACKS, 0, 1, VTOC_MOST_SECONDARY + 1) == VTOC_E_AMOUNT);
+    CHECK(both_allocate(VTOC_NO_OPTION, "FLT.D", VTOC_ABSOLUTE + 1, 0, 1, 0) == VTOC_E_AMOUNT);
+    CHECK(both_extend("FLT.C") == VTOC_E_NO_SECONDARY);
+    CHECK(both_allocate(VTOC_NO_OPTION, "FLT.D", VTOC_TRACKS, 0, 175, 0) == VTOC_E_NO_SPACE);
+    CHECK(both_allocate(VTOC_NO_OPTION, "FLT.D", VTOC_ABSOLUTE, 7, 1, 0) == VTOC_E_NO_SPACE);
+    CHECK(both_release("FLT.A", vtoc_ttr(4, 1)) == VTOC_E_TTR && both_release("FLT.A", vtoc_ttr(1, 0)) == VTOC_E_TTR);
+    CHECK(both_release("FLT.A", vtoc_ttr(0, 256)) == VTOC_E_TTR);
+
+    for (unsigned extents = 1; extents < 16; extents++)
+        CHECK(both_extend("FLT.B") == VTOC_OK);
+    CHECK(both_extend("FLT.B") == VTOC_E_EXTENTS);
+    CHECK(both_allocate(VTOC_ALX, "FLT.D", VTOC_TRACKS, 0, 1, 0) == VTOC_OK && both_extend("FLT.A") == VTOC_E_NO_SPACE);
+}
+
+/* A volume without a free record, and with 26 free extents, as many as a format 5 holds. EDGE has tracks 1 to 6, GROW three
+   extents. */
+static void full_vtoc(void)
+{
+    static const char *const stay[2] = {"STAY1", "STAY2"}, *const go[2] = {"GO1", "GO2"};
+    char filler[] = "FILL.A";
+    CHECK(initialise() == VTOC_OK && allocate("EDGE", VTOC_ABSOLUTE, 1, 6, 0) == VTOC_OK);
+    CHECK(allocate("GROW", VTOC_TRACKS, 0, 1, 1) == VTOC_OK && extend("GROW") == VTOC_OK && extend("GROW") == VTOC_OK);
+    /* Two by two they have every other track, 13 each; what goes leaves 13 gaps. */
+    for (unsigned i = 0; i < 2; i++) {
+        CHECK(allocate(stay[i], VTOC_TRACKS, 0, 1, 1) == VTOC_OK && allocate(go[i], VTOC_TRACKS, 0, 1, 1) == VTOC_OK);
+        for (unsigned extents = 1; extents < 13; extents++)
+            CHECK(extend(stay[i]) == VTOC_OK && extend(go[i]) == VTOC_OK);
+    }
+    CHECK(both_scratch("GO1") == VTOC_OK && both_scratch("GO2") == VTOC_OK);
+    for (uint32_t track = 199; track > 187; track--, filler[5]++)
+        CHECK(allocate(filler, VTOC_ABSOLUTE, track, 1, 0) == VTOC_OK);
+    CHECK(vtoc_lspace(table, LENGTH, answer, sizeof answer) == VTOC_OK);
+    CHECK(vtoc_answer_space(answer, VTOC_SPACE_EXTENTS) == 26 && vtoc_answer_space(answer, VTOC_SPACE_RECORDS) == 0);
+}
+
+/* 11: the records decide, though there are tracks. Scratch is never refused for them. */
+static void previews_of_a_full_vtoc(void)
+{
+    full_vtoc();
+    CHECK(both_allocate(VTOC_NO_OPTION, "NEW", VTOC_TRACKS, 0, 1, 0) == VTOC_E_VTOC_FULL);
+    CHECK(both_extend("GROW") == VTOC_E_VTOC_FULL);                  /* a fourth extent needs a format 3 */
+    CHECK(both_release("EDGE", vtoc_ttr(2, 1)) == VTOC_E_VTOC_FULL); /* a free extent more needs a format 5 */
+    CHECK(both_release("STAY1", vtoc_ttr(11, 1)) == VTOC_OK);        /* one less needs none */
+    CHECK(both_scratch("FILL.A") == VTOC_OK);
+    CHECK(both_extend("GROW") == VTOC_OK && both_release("EDGE", vtoc_ttr(2, 1)) == VTOC_OK);
+}
+
 /* ---- Labels of sixteen extents, geometries, limits ----------------------------------------------------------------------- */
 
 static void sixteen_extents(void)
@@ -474,6 +655,10 @@ int main(void)
     options_apart();
     releases();
     releases_by_list();
+    previews();
+    previews_of_parts();
+    previews_refused();
+    previews_of_a_full_vtoc();
     sixteen_extents();
     geometries();
     limits();

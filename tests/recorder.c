@@ -1,6 +1,7 @@
 /*
  * recorder.c: records the calls of a host, as docs/REPLAY.md says ('How to record'), without a change to the host. The linker puts
- * it between the two, with -Wl,--wrap=vtoc_initialise and so on for the eight calls.
+ * it between the two, with -Wl,--wrap=vtoc_initialise and so on for each call and preview. A recording is of one volume, here that
+ * of the first call: calls on another table are made and not recorded.
  *   RECORD       the file to which a record is appended before each call
  *   COPY         the file to which a copy of the table is written, once
  *   COPY_AFTER   after so many records
@@ -13,6 +14,7 @@
 #include "vtoc.h"
 
 enum { RECORD_LENGTH = 128, NUMBERS_AT = 8, NAME_AT = 28, SECOND_AT = 74 };
+enum { PREVIEW = 128 }; /* added to the operation of the call */
 
 static const char *setting(const char *name)
 {
@@ -49,8 +51,13 @@ static const struct buffer none = {NULL, 0};
 static void note(uint8_t operation, struct buffer table, size_t answer, size_t labels, struct buffer name, struct buffer second,
                  const uint32_t numbers[5])
 {
+    static const uint8_t *recorded = NULL; /* the table of the first call */
     static long records = 0;
     uint8_t record[RECORD_LENGTH] = {0};
+    if (recorded == NULL)
+        recorded = table.bytes;
+    if (table.bytes != recorded)
+        return;
     if (name.length > 46 || second.length > 54 || answer > 32 || labels > 288 || table.length > 65535) {
         fprintf(stderr, "recorder: no record can lend so much\n");
         exit(2);
@@ -141,4 +148,37 @@ uint32_t __wrap_vtoc_lspace(const uint8_t *t, size_t tn, uint8_t *a, size_t an)
 {
     note(8, lent(t, tn), an, 0, none, none, NULL);
     return __real_vtoc_lspace(t, tn, a, an);
+}
+
+uint32_t __real_vtoc_preview_allocate(const uint8_t *, size_t, const uint8_t *, size_t, const uint8_t *, size_t, uint32_t, uint32_t,
+                                      uint32_t, uint32_t, uint32_t, uint8_t *, size_t);
+uint32_t __wrap_vtoc_preview_allocate(const uint8_t *t, size_t tn, const uint8_t *n, size_t nn, const uint8_t *x, size_t xn,
+                                      uint32_t kind, uint32_t start, uint32_t amount, uint32_t secondary, uint32_t option,
+                                      uint8_t *a, size_t an)
+{
+    const uint32_t numbers[5] = {kind, start, amount, secondary, option};
+    note(PREVIEW + 2, lent(t, tn), an, 0, lent(n, nn), lent(x, xn), numbers);
+    return __real_vtoc_preview_allocate(t, tn, n, nn, x, xn, kind, start, amount, secondary, option, a, an);
+}
+
+uint32_t __real_vtoc_preview_extend(const uint8_t *, size_t, const uint8_t *, size_t, uint8_t *, size_t);
+uint32_t __wrap_vtoc_preview_extend(const uint8_t *t, size_t tn, const uint8_t *n, size_t nn, uint8_t *a, size_t an)
+{
+    note(PREVIEW + 3, lent(t, tn), an, 0, lent(n, nn), none, NULL);
+    return __real_vtoc_preview_extend(t, tn, n, nn, a, an);
+}
+
+uint32_t __real_vtoc_preview_release(const uint8_t *, size_t, const uint8_t *, size_t, uint32_t, uint8_t *, size_t);
+uint32_t __wrap_vtoc_preview_release(const uint8_t *t, size_t tn, const uint8_t *n, size_t nn, uint32_t ttr, uint8_t *a, size_t an)
+{
+    const uint32_t numbers[5] = {ttr, 0, 0, 0, 0};
+    note(PREVIEW + 4, lent(t, tn), an, 0, lent(n, nn), none, numbers);
+    return __real_vtoc_preview_release(t, tn, n, nn, ttr, a, an);
+}
+
+uint32_t __real_vtoc_preview_scratch(const uint8_t *, size_t, const uint8_t *, size_t, uint8_t *, size_t);
+uint32_t __wrap_vtoc_preview_scratch(const uint8_t *t, size_t tn, const uint8_t *n, size_t nn, uint8_t *a, size_t an)
+{
+    note(PREVIEW + 5, lent(t, tn), an, 0, lent(n, nn), none, NULL);
+    return __real_vtoc_preview_scratch(t, tn, n, nn, a, an);
 }

@@ -133,6 +133,31 @@ static void *do_lspace(void *unused)
     return unused;
 }
 
+static void *do_preview_allocate(void *unused)
+{
+    result = vtoc_preview_allocate(table, sizeof table, other, sizeof other, attributes, sizeof attributes, VTOC_TRACKS, 0, 1, 1,
+                                   VTOC_ALX, answer, sizeof answer);
+    return unused;
+}
+
+static void *do_preview_extend(void *unused)
+{
+    result = vtoc_preview_extend(table, sizeof table, one, sizeof one, answer, sizeof answer);
+    return unused;
+}
+
+static void *do_preview_release(void *unused)
+{
+    result = vtoc_preview_release(table, sizeof table, plot, sizeof plot, 0x0101, answer, sizeof answer);
+    return unused;
+}
+
+static void *do_preview_scratch(void *unused)
+{
+    result = vtoc_preview_scratch(table, sizeof table, one, sizeof one, answer, sizeof answer);
+    return unused;
+}
+
 /* Bytes of stack that a thread with this work uses. */
 static size_t used(void *(*work)(void *))
 {
@@ -160,7 +185,9 @@ int main(void)
     } calls[] = {{"lspace", do_lspace},   {"obtain", do_obtain},   {"rename", do_rename},     {"extend", do_extend},
                  {"release", do_release}, {"scratch", do_scratch}, {"allocate", do_allocate}, {"CONTIG", do_contig},
                  {"MXIG", do_mxig},       {"ALX", do_alx},         {"cylinders", do_release_plot},
-                 {"initialise", do_initialise}};
+                 {"initialise", do_initialise},
+                 {"preview allocate", do_preview_allocate},        {"preview extend", do_preview_extend},
+                 {"preview release", do_preview_release},          {"preview scratch", do_preview_scratch}};
     static uint8_t before[sizeof table];
     size_t base = used(nothing), most = 0;
 
@@ -186,7 +213,7 @@ int main(void)
         size_t need;
         memcpy(table, before, sizeof table);
         need = used(calls[i].work) - base;
-        printf("%-10s result %lu, stack %lu bytes\n", calls[i].name, (unsigned long)result, (unsigned long)need);
+        printf("%-16s result %lu, stack %lu bytes\n", calls[i].name, (unsigned long)result, (unsigned long)need);
         if (result != VTOC_OK && calls[i].work != do_allocate)
             return 2;
         most = need > most ? need : most;

@@ -18,6 +18,11 @@ void ignored(uint8_t *t, const uint8_t *n, const uint8_t *x, uint8_t *l, uint8_t
     vtoc_rename(t, 420, n, 44, x, 44, a, 24);                  /* unused-result */
     vtoc_obtain(t, 420, n, 44, l, 280, a, 24);                 /* unused-result */
     vtoc_lspace(t, 420, a, 24);                                /* unused-result */
+
+    vtoc_preview_allocate(t, 420, n, 44, x, 52, 0, 0, 1, 0, 0, a, 24); /* unused-result */
+    vtoc_preview_extend(t, 420, n, 44, a, 24);                         /* unused-result */
+    vtoc_preview_release(t, 420, n, 44, 1, a, 24);                     /* unused-result */
+    vtoc_preview_scratch(t, 420, n, 44, a, 24);                        /* unused-result */
 }
 
 /* Each buffer that a call may write, handed over as another one too; and the pairs that it only reads, of which none warns. */
@@ -47,5 +52,19 @@ uint32_t shared(uint8_t *t, const uint8_t *n, const uint8_t *x, uint8_t *l, uint
     r += vtoc_obtain(t, 420, a, 44, l, 280, a, 24);                 /* restrict 7 */
     r += vtoc_obtain(t, 420, t, 44, l, 280, a, 24);
     r += vtoc_lspace(a, 420, a, 24);                                /* restrict 3 */
+
+    r += vtoc_preview_allocate(a, 420, n, 44, x, 52, 0, 0, 1, 0, 0, a, 24); /* restrict 12 */
+    r += vtoc_preview_allocate(t, 420, a, 44, x, 52, 0, 0, 1, 0, 0, a, 24); /* restrict 12 */
+    r += vtoc_preview_allocate(t, 420, n, 44, a, 52, 0, 0, 1, 0, 0, a, 24); /* restrict 12 */
+    r += vtoc_preview_allocate(t, 420, t, 44, t, 52, 0, 0, 1, 0, 0, a, 24);
+    r += vtoc_preview_extend(a, 420, n, 44, a, 24);                         /* restrict 5 */
+    r += vtoc_preview_extend(t, 420, a, 44, a, 24);                         /* restrict 5 */
+    r += vtoc_preview_extend(t, 420, t, 44, a, 24);
+    r += vtoc_preview_release(a, 420, n, 44, 1, a, 24);                     /* restrict 6 */
+    r += vtoc_preview_release(t, 420, a, 44, 1, a, 24);                     /* restrict 6 */
+    r += vtoc_preview_release(t, 420, t, 44, 1, a, 24);
+    r += vtoc_preview_scratch(a, 420, n, 44, a, 24);                        /* restrict 5 */
+    r += vtoc_preview_scratch(t, 420, a, 44, a, 24);                        /* restrict 5 */
+    r += vtoc_preview_scratch(t, 420, t, 44, a, 24);
     return r;
 }
