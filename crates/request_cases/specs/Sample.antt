@@ -4,14 +4,14 @@ use lib.Dec.{T}
 use Rattle.model.specs.Choice.{choose}
 use Rattle.model.specs.Model.{format0s, free, gaps, held, unused, used}
 use Rattle.model.specs.Tracks.{tracksKept}
-use Rattle.rules.specs.Calls.{allocate, extend, grant, obtain, release, request, rule, scratch}
+use Rattle.rules.specs.Calls.{allocate, extend, grant, obtain, preview, release, request, rule, scratch}
 use Rattle.rules.specs.Entries.{goodLengths, initialise, perform}
 use Rattle.rules.specs.Layout.{encode, extentPart, format1, format3, format4, format5, records}
 use Rattle.rules.specs.Listing.{listing, printable}
 use Rattle.rules.specs.Reading.{read, readExtents, readGeometry, readLabel, readRecords}
 use Rattle.rules.specs.Slots.{settle}
 use Rattle.rules.specs.Table.{goodLabel, goodLength, goodName, limits, taken, valid}
-use Rattle.case_rows.specs.Check.{Row, attr, begin, nm, no, ok, okLabels, put, right}
+use Rattle.case_rows.specs.Check.{Row, attr, attrN, begin, hurt, nm, no, ok, okLabels, put, raw, right, sized}
 
 -- CONTIG, MXIG and ALX of tracks
 
@@ -218,3 +218,108 @@ sequence36 =
 pub case36 : T (right [] sequence36)
 unfolding held gaps free used unused format0s choose extentPart format4 format5 format1 format3 records encode readGeometry readExtents readLabel readRecords read goodName limits goodLabel valid taken goodLength settle grant tracksKept rule goodLengths perform initialise printable listing
 case36 = tt
+
+-- What each call would answer, and then the call
+
+abbrev pub sequence37 : List Row
+sequence37 =
+    no (preview (allocate (request (nm (0xC1 ∷ [])) (attr 7) 0 0 4 0 0))) 2
+    ∷ begin 4 5 4 1 2 0 0xDA248CF69B83C5C
+    ∷ ok (preview (allocate (request (nm (0xC1 ∷ [])) (attr 7) 0 0 4 0 0))) 0x401000300040000000000000000000000000000000000 0xDA248CF69B83C5C
+    ∷ ok (allocate (request (nm (0xC1 ∷ [])) (attr 7) 0 0 4 0 0)) 0x401000300040000000000000000000000000000000000 0xE1BF53223E12311
+    ∷ ok (preview (allocate (request (nm (0xC2 ∷ [])) (attr 7) 1 0 1 1 0))) 0x501000A00050000000000000000000000000000000000 0xE1BF53223E12311
+    ∷ ok (allocate (request (nm (0xC2 ∷ [])) (attr 7) 1 0 1 1 0)) 0x501000A00050000000000000000000000000000000000 0xCCB72D5587090C0
+    ∷ ok (preview (allocate (request (nm (0xC3 ∷ [])) (attr 7) 2 16 2 0 0))) 0x201001000020000000000000000000000000000000000 0xCCB72D5587090C0
+    ∷ ok (preview (allocate (request (nm (0xC3 ∷ [])) (attr 7) 0 0 3 0 1))) 0x301000700030000000000000000000000000000000000 0xCCB72D5587090C0
+    ∷ ok (preview (allocate (request (nm (0xC3 ∷ [])) (attr 7) 0 0 1 0 2))) 0x501000F00050000000000000000000000000000000000 0xCCB72D5587090C0
+    ∷ ok (preview (allocate (request (nm (0xC3 ∷ [])) (attr 7) 0 0 3 0 3))) 0x802000F00050007000300000000000000000000000000 0xCCB72D5587090C0
+    ∷ ok (preview (allocate (request (nm (0xC3 ∷ [])) (attr 7) 0 0 7 2 0))) 0x702000F00050007000200000000000000000000000000 0xCCB72D5587090C0
+    ∷ ok (allocate (request (nm (0xC3 ∷ [])) (attr 7) 0 0 7 2 0)) 0x702000F00050007000200000000000000000000000000 0xB6A802A5D56A1E5
+    ∷ no (preview (allocate (request (nm []) (attr 7) 0 0 1 0 0))) 4
+    ∷ no (preview (allocate (request (nm (0xC4 ∷ [])) (attr 7) 2 19 2 0 0))) 7
+    ∷ no (preview (allocate (request (nm (0xC1 ∷ [])) (attr 7) 0 0 1 0 0))) 6
+    ∷ no (preview (allocate (request (nm (0xC4 ∷ [])) (attr 7) 0 0 2 0 0))) 9
+    ∷ no (allocate (request (nm (0xC4 ∷ [])) (attr 7) 0 0 2 0 0)) 9
+    ∷ no (preview (extend (nm (0xC3 ∷ 0x4B ∷ [])))) 4
+    ∷ no (preview (extend (nm (0xC4 ∷ [])))) 5
+    ∷ no (preview (extend (nm (0xC1 ∷ [])))) 8
+    ∷ no (preview (extend (nm (0xC2 ∷ [])))) 9
+    ∷ no (extend (nm (0xC2 ∷ []))) 9
+    ∷ no (preview (release (nm (0xF9 ∷ [])) 0x1)) 4
+    ∷ no (preview (release (nm (0xC4 ∷ [])) 0x1)) 5
+    ∷ no (preview (release (nm (0xC3 ∷ [])) 0x701)) 12
+    ∷ no (release (nm (0xC3 ∷ [])) 0x701) 12
+    ∷ no (preview (scratch (nm (0x60 ∷ [])))) 4
+    ∷ no (preview (scratch (nm (0xC4 ∷ [])))) 5
+    ∷ no (scratch (nm (0xC4 ∷ []))) 5
+    ∷ ok (preview (release (nm (0xC2 ∷ [])) 0x1)) 0x0 0xB6A802A5D56A1E5
+    ∷ ok (release (nm (0xC2 ∷ [])) 0x1) 0x0 0xA05994277AD7C7D
+    ∷ ok (preview (release (nm (0xC3 ∷ [])) 0x401)) 0x200000000000000000000000000000000000000000000 0xA05994277AD7C7D
+    ∷ ok (release (nm (0xC3 ∷ [])) 0x401) 0x200000000000000000000000000000000000000000000 0x8BA465BA27A6073
+    ∷ ok (preview (scratch (nm (0xC2 ∷ [])))) 0x500000000000000000000000000000000000000000000 0x8BA465BA27A6073
+    ∷ no (preview (extend (nm (0xC2 ∷ [])))) 9
+    ∷ ok (preview (scratch (nm (0xC3 ∷ [])))) 0x500000000000000000000000000000000000000000000 0x8BA465BA27A6073
+    ∷ ok (scratch (nm (0xC3 ∷ []))) 0x500000000000000000000000000000000000000000000 0xB668BED72C76B58
+    ∷ ok (preview (extend (nm (0xC2 ∷ [])))) 0x501000F00050000000000000000000000000000000000 0xB668BED72C76B58
+    ∷ ok (extend (nm (0xC2 ∷ []))) 0x501000F00050000000000000000000000000000000000 0x18163ABED15CCDD5
+    ∷ ok (preview (release (nm (0xC2 ∷ [])) 0x101)) 0x500000000000000000000000000000000000000000000 0x18163ABED15CCDD5
+    ∷ ok (release (nm (0xC2 ∷ [])) 0x101) 0x500000000000000000000000000000000000000000000 0x51ABD1FE3F8DDE5
+    ∷ ok (preview (allocate (request (nm (0xC4 ∷ [])) (attr 7) 1 0 1 0 1))) 0x501000F00050000000000000000000000000000000000 0x51ABD1FE3F8DDE5
+    ∷ ok (preview (allocate (request (nm (0xC4 ∷ [])) (attr 7) 1 0 1 0 2))) 0x501000F00050000000000000000000000000000000000 0x51ABD1FE3F8DDE5
+    ∷ ok (preview (allocate (request (nm (0xC4 ∷ [])) (attr 7) 1 0 1 0 3))) 0x501000F00050000000000000000000000000000000000 0x51ABD1FE3F8DDE5
+    ∷ []
+
+pub case37 : T (right [] sequence37)
+unfolding held gaps free used unused format0s choose extentPart format4 format5 format1 format3 records encode readGeometry readExtents readLabel readRecords read goodName limits goodLabel valid taken goodLength settle grant tracksKept rule goodLengths perform initialise printable listing
+case37 = tt
+
+-- Previews where slots decide; damaged tables, and every length
+
+abbrev pub sequence38 : List Row
+sequence38 =
+    begin 5 4 3 1 1 0 0x81D3C6547556D5E
+    ∷ ok (allocate (request (nm (0xC1 ∷ [])) (attr 1) 0 0 1 1 0)) 0x101000200010000000000000000000000000000000000 0xBBA6FE782B3B8D5
+    ∷ no (preview (allocate (request (nm (0xC2 ∷ [])) (attr 7) 0 0 1 0 0))) 11
+    ∷ no (allocate (request (nm (0xC2 ∷ [])) (attr 7) 0 0 1 0 0)) 11
+    ∷ ok (extend (nm (0xC1 ∷ []))) 0x101000300010000000000000000000000000000000000 0x17B2B0A23C5B6D8E
+    ∷ ok (extend (nm (0xC1 ∷ []))) 0x101000400010000000000000000000000000000000000 0x751B4F73B47406F
+    ∷ no (preview (extend (nm (0xC1 ∷ [])))) 11
+    ∷ no (extend (nm (0xC1 ∷ []))) 11
+    ∷ sized 419 24 0 (preview (allocate (request (nm (0xC2 ∷ [])) (attr 7) 0 0 1 0 0))) 2
+    ∷ sized 420 23 0 (preview (allocate (request (nm (0xC2 ∷ [])) (attr 7) 0 0 1 0 0))) 2
+    ∷ sized 420 24 0 (preview (allocate (request (raw 43 (0xC2 ∷ [])) (attr 7) 0 0 1 0 0))) 2
+    ∷ sized 421 24 0 (preview (extend (nm (0xC1 ∷ [])))) 2
+    ∷ sized 420 25 0 (preview (extend (nm (0xC1 ∷ [])))) 2
+    ∷ sized 420 24 0 (preview (extend (raw 45 (0xC1 ∷ [])))) 2
+    ∷ sized 280 24 0 (preview (release (nm (0xC1 ∷ [])) 0x1)) 2
+    ∷ sized 420 0 0 (preview (release (nm (0xC1 ∷ [])) 0x1)) 2
+    ∷ sized 420 24 0 (preview (release (raw 0 []) 0x1)) 2
+    ∷ sized 0 24 0 (preview (scratch (nm (0xC1 ∷ [])))) 2
+    ∷ sized 420 48 0 (preview (scratch (nm (0xC1 ∷ [])))) 2
+    ∷ sized 420 24 0 (preview (scratch (raw 88 (0xC1 ∷ [])))) 2
+    ∷ sized 420 24 0 (preview (allocate (request (nm (0xC2 ∷ [])) (attrN 51 7) 0 0 1 0 0))) 2
+    ∷ sized 560 24 0 (preview (extend (nm (0xC1 ∷ [])))) 3
+    ∷ sized 420 24 0 (preview (scratch (nm (0xC1 ∷ [])))) 0
+    ∷ hurt ((60, 0x01) ∷ []) (preview (allocate (request (nm []) (attr 7) 0 0 1 0 0))) 3
+    ∷ hurt ((60, 0x01) ∷ []) (preview (extend (nm (0xF9 ∷ [])))) 3
+    ∷ hurt ((60, 0x01) ∷ []) (preview (release (nm []) 0x1)) 3
+    ∷ hurt ((60, 0x01) ∷ []) (preview (scratch (nm (0xF9 ∷ [])))) 3
+    ∷ begin 20 3 8 2 1 0 0x60BE185D90FDC31
+    ∷ ok (allocate (request (nm (0xC3 ∷ 0xD6 ∷ 0xD4 ∷ 0xC2 ∷ [])) (attr 28) 0 0 1 1 0)) 0x101000100010000000000000000000000000000000000 0x1D5F6774870FE531
+    ∷ ok (allocate (request (nm (0xD9 ∷ 0xC5 ∷ 0xE2 ∷ 0xE3 ∷ [])) (attr 29) 0 0 1 1 0)) 0x101000300010000000000000000000000000000000000 0xFE567EF460AD991
+    ∷ ok (allocate (request (nm (0xC1 ∷ [])) (attr 30) 0 0 1 1 0)) 0x101000400010000000000000000000000000000000000 0x15962B7959BCD456
+    ∷ put ((51, 0x00) ∷ (145, 0x01) ∷ (147, 0x00) ∷ (150, 0x03) ∷ (153, 0x01) ∷ (155, 0x05) ∷ (158, 0x01) ∷ (160, 0x07) ∷ (163, 0x01) ∷ (165, 0x09) ∷ (168, 0x01) ∷ (170, 0x0B) ∷ (173, 0x01) ∷ (175, 0x0D) ∷ (178, 0x01) ∷ (180, 0x0F) ∷ (183, 0x01) ∷ (186, 0x11) ∷ (189, 0x01) ∷ (191, 0x13) ∷ (194, 0x01) ∷ (196, 0x15) ∷ (199, 0x01) ∷ (201, 0x17) ∷ (204, 0x01) ∷ (206, 0x19) ∷ (209, 0x01) ∷ (211, 0x1B) ∷ (214, 0x01) ∷ (216, 0x1D) ∷ (219, 0x01) ∷ (221, 0x1F) ∷ (224, 0x01) ∷ (226, 0x21) ∷ (229, 0x01) ∷ (231, 0x2B) ∷ (234, 0x01) ∷ (236, 0x2D) ∷ (239, 0x01) ∷ (241, 0x2F) ∷ (244, 0x01) ∷ (246, 0x31) ∷ (249, 0x01) ∷ (251, 0x33) ∷ (254, 0x01) ∷ (256, 0x35) ∷ (259, 0x01) ∷ (261, 0x37) ∷ (264, 0x01) ∷ (266, 0x39) ∷ (269, 0x01) ∷ (271, 0x3B) ∷ (274, 0x01) ∷ (339, 0x10) ∷ (388, 0x01) ∷ (392, 0x01) ∷ (395, 0x01) ∷ (396, 0x01) ∷ (398, 0x02) ∷ (402, 0x02) ∷ (405, 0x01) ∷ (406, 0x02) ∷ (408, 0x02) ∷ (410, 0x02) ∷ (412, 0x02) ∷ (414, 0x02) ∷ (418, 0x02) ∷ (419, 0x06) ∷ (479, 0x0A) ∷ (517, 0x03) ∷ (528, 0x0D) ∷ (530, 0x01) ∷ (532, 0x0D) ∷ (534, 0x01) ∷ (535, 0x01) ∷ (536, 0x01) ∷ (538, 0x0E) ∷ (542, 0x0E) ∷ (545, 0x01) ∷ (546, 0x02) ∷ (548, 0x0E) ∷ (550, 0x02) ∷ (552, 0x0E) ∷ (554, 0x02) ∷ (558, 0x02) ∷ (559, 0x07) ∷ (619, 0x05) ∷ (654, 0xC0) ∷ (668, 0x0B) ∷ (670, 0x02) ∷ (672, 0x0C) ∷ (674, 0x00) ∷ (675, 0x01) ∷ (676, 0x01) ∷ (678, 0x0C) ∷ (680, 0x01) ∷ (682, 0x0C) ∷ (684, 0x01) ∷ (685, 0x01) ∷ (686, 0x02) ∷ (688, 0x0C) ∷ (690, 0x02) ∷ (692, 0x0C) ∷ (694, 0x02) ∷ (698, 0x02) ∷ (699, 0x08) ∷ (700, 0x03) ∷ (701, 0x03) ∷ (702, 0x03) ∷ (703, 0x03) ∷ (704, 0x01) ∷ (705, 0x03) ∷ (707, 0x03) ∷ (709, 0x01) ∷ (711, 0x03) ∷ (713, 0x01) ∷ (714, 0x01) ∷ (715, 0x04) ∷ (717, 0x04) ∷ (721, 0x04) ∷ (724, 0x01) ∷ (725, 0x05) ∷ (727, 0x04) ∷ (729, 0x02) ∷ (731, 0x04) ∷ (733, 0x02) ∷ (734, 0x01) ∷ (735, 0x06) ∷ (737, 0x05) ∷ (739, 0x01) ∷ (741, 0x05) ∷ (743, 0x01) ∷ (744, 0xF3) ∷ (745, 0x01) ∷ (746, 0x07) ∷ (748, 0x06) ∷ (752, 0x06) ∷ (755, 0x01) ∷ (756, 0x08) ∷ (758, 0x06) ∷ (760, 0x02) ∷ (762, 0x06) ∷ (764, 0x02) ∷ (765, 0x01) ∷ (766, 0x09) ∷ (768, 0x07) ∷ (770, 0x01) ∷ (772, 0x07) ∷ (774, 0x01) ∷ (775, 0x01) ∷ (776, 0x0A) ∷ (778, 0x08) ∷ (782, 0x08) ∷ (785, 0x01) ∷ (786, 0x0B) ∷ (788, 0x08) ∷ (790, 0x02) ∷ (792, 0x08) ∷ (794, 0x02) ∷ (795, 0x01) ∷ (796, 0x0C) ∷ (798, 0x09) ∷ (800, 0x01) ∷ (802, 0x09) ∷ (804, 0x01) ∷ (805, 0x01) ∷ (806, 0x0D) ∷ (808, 0x0A) ∷ (812, 0x0A) ∷ (815, 0x01) ∷ (816, 0x0E) ∷ (818, 0x0A) ∷ (820, 0x02) ∷ (822, 0x0A) ∷ (824, 0x02) ∷ (825, 0x01) ∷ (826, 0x0F) ∷ (828, 0x0B) ∷ (830, 0x01) ∷ (832, 0x0B) ∷ (834, 0x01) ∷ (840, 0x03) ∷ (841, 0x03) ∷ (842, 0x03) ∷ (843, 0x03) ∷ (844, 0x01) ∷ (845, 0x03) ∷ (847, 0x0F) ∷ (849, 0x01) ∷ (851, 0x0F) ∷ (853, 0x01) ∷ (854, 0x01) ∷ (855, 0x04) ∷ (857, 0x10) ∷ (861, 0x10) ∷ (864, 0x01) ∷ (865, 0x05) ∷ (867, 0x10) ∷ (869, 0x02) ∷ (871, 0x10) ∷ (873, 0x02) ∷ (874, 0x01) ∷ (875, 0x06) ∷ (877, 0x11) ∷ (879, 0x01) ∷ (881, 0x11) ∷ (883, 0x01) ∷ (884, 0xF3) ∷ (885, 0x01) ∷ (886, 0x07) ∷ (888, 0x12) ∷ (892, 0x12) ∷ (895, 0x01) ∷ (896, 0x08) ∷ (898, 0x12) ∷ (900, 0x02) ∷ (902, 0x12) ∷ (904, 0x02) ∷ (905, 0x01) ∷ (906, 0x09) ∷ (908, 0x13) ∷ (910, 0x01) ∷ (912, 0x13) ∷ (914, 0x01) ∷ (980, 0x03) ∷ (981, 0x03) ∷ (982, 0x03) ∷ (983, 0x03) ∷ (984, 0x01) ∷ (985, 0x03) ∷ (987, 0x0D) ∷ (991, 0x0D) ∷ (994, 0x01) ∷ (995, 0x04) ∷ (997, 0x0D) ∷ (999, 0x02) ∷ (1001, 0x0D) ∷ (1003, 0x02) ∷ (1024, 0xF3) ∷ [])
+    ∷ no (preview (extend (nm (0xC3 ∷ 0xD6 ∷ 0xD4 ∷ 0xC2 ∷ [])))) 10
+    ∷ no (extend (nm (0xC3 ∷ 0xD6 ∷ 0xD4 ∷ 0xC2 ∷ []))) 10
+    ∷ no (preview (release (nm (0xC1 ∷ [])) 0x401)) 11
+    ∷ no (release (nm (0xC1 ∷ [])) 0x401) 11
+    ∷ ok (preview (scratch (nm (0xC3 ∷ 0xD6 ∷ 0xD4 ∷ 0xC2 ∷ [])))) 0x1000000000000000000000000000000000000000000000 0x8163C55FDB6614A
+    ∷ ok (preview (release (nm (0xC1 ∷ [])) 0x101)) 0x200000000000000000000000000000000000000000000 0x8163C55FDB6614A
+    ∷ ok (release (nm (0xC1 ∷ [])) 0x101) 0x200000000000000000000000000000000000000000000 0x1392295E657743B9
+    ∷ ok (preview (extend (nm (0xD9 ∷ 0xC5 ∷ 0xE2 ∷ 0xE3 ∷ [])))) 0x303000100010003000100050001000000000000000000 0x1392295E657743B9
+    ∷ ok (extend (nm (0xD9 ∷ 0xC5 ∷ 0xE2 ∷ 0xE3 ∷ []))) 0x303000100010003000100050001000000000000000000 0x1554AEC8BB8097C2
+    ∷ []
+
+pub case38 : T (right [] sequence38)
+unfolding held gaps free used unused format0s choose extentPart format4 format5 format1 format3 records encode readGeometry readExtents readLabel readRecords read goodName limits goodLabel valid taken goodLength settle grant tracksKept rule goodLengths perform initialise printable listing
+case38 = tt
