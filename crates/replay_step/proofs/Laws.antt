@@ -1,17 +1,20 @@
 -- From the calls' equations, on lent bytes, to the buffers whole. Assumes nothing.
 use mathlib.Core.Path.{_≡_, refl, sym, ap, ap₂, _∙_}
 use mathlib.Core.List.{List, [], _++_}
-use Prim.Native.Nat.{ℕ, _≤_}
+use Prim.Native.Nat.{ℕ, _+_, _≤_}
 use native.Mathlib.Omega.{arith}
 use borrow.Author.Tests.{ne-eqb}
+use lib.Dec.{leb, leb→le}
+use mathlib.Core.Bool.{true, false}
+use Rattle.model.proofs.Lists.{and-l, and-r, by, true-is}
 use lib.ListN.{length, take, drop, getD, take-append-drop}
 use lib.Seq.{length-take-le}
-use Rattle.rules.specs.Calls.{Call, allocate, extend, lspace, obtain, release, rename, request, scratch}
+use Rattle.rules.specs.Calls.{Call, allocate, extend, lspace, obtain, preview, release, rename, request, scratch}
 use Rattle.rules.specs.Contracts.{geometry}
 use Rattle.rules.specs.Entries.{Lent, Result, initialise, lent, perform, result}
 use Rattle.replay_record.specs.Asked.{answerLent, bytesOf, get4, labelsLent, nameAsked, otherOf, overAt, tableLent}
 use Rattle.replay_record.specs.Line.{digest, lineOf}
-use Rattle.replay_step.specs.Play.{Does, Loads, bothLent, called, playDone, freshAnswer, freshLabels, initialised, laterOp, lentOf, lineFor, loaded, obtained, operated, played, requestOf, wholeTable}
+use Rattle.replay_step.specs.Play.{Does, Loads, bothLent, called, playDone, freshAnswer, freshLabels, initialised, isPreview, laterOp, lentOf, lineFor, loaded, obtained, operated, played, previewOp, requestOf, wholeTable}
 
 -- whatever call was made with the first n bytes of the table and k of the answer
 put-back : {r : ℕ} {t′ a′ : List ℕ} {p : Result} (asked t a l : List ℕ) (n k : ℕ) → n ≡ tableLent asked → k ≡ answerLent asked
@@ -29,10 +32,10 @@ does-call {c} {r} {t′} {a′} c′ asked t a n k d e f h = λ l.
     ∙ ap₂ (λ (i j : ℕ). perform (lent (take i t) (take j a) []) c′) e f)
 
 -- the table is only read
-pub reads-call : {r : ℕ} {a′ : List ℕ} (c : Call) (asked t a : List ℕ) (n k : ℕ) → n ≡ tableLent asked → k ≡ answerLent asked
-    → result r (lent (take n t) a′ []) ≡ perform (lent (take n t) (take k a) []) c → Does (λ b. called asked b c) t a r t (a′ ++ drop k a)
-reads-call {r} {a′} c asked t a n k e f h = λ l.
-    ap (λ (u : List ℕ). result r (lent u (a′ ++ drop k a) l)) (sym (take-append-drop n t)) ∙ does-call c asked t a n k refl e f h l
+pub reads-call : {c : Call} {r : ℕ} {a′ : List ℕ} (c′ : Call) (asked t a : List ℕ) (n k : ℕ) → c ≡ c′ → n ≡ tableLent asked → k ≡ answerLent asked
+    → result r (lent (take n t) a′ []) ≡ perform (lent (take n t) (take k a) []) c → Does (λ b. called asked b c′) t a r t (a′ ++ drop k a)
+reads-call {c} {r} {a′} c′ asked t a n k d e f h = λ l.
+    ap (λ (u : List ℕ). result r (lent u (a′ ++ drop k a) l)) (sym (take-append-drop n t)) ∙ does-call c′ asked t a n k d e f h l
 
 pub obtains : {r : ℕ} {a′ l′ : List ℕ} (name asked t a l : List ℕ) (n k m : ℕ) → n ≡ tableLent asked → k ≡ answerLent asked → m ≡ labelsLent asked
     → name ≡ nameAsked asked → result r (lent (take n t) a′ l′) ≡ perform (lent (take n t) (take k a) (take m l)) (obtain name)
@@ -57,6 +60,13 @@ initialises {r} {t′} {a′} asked t a n k c h d s v e f g₁ g₂ g₃ g₄ g�
     ∙ ap (λ (i : ℕ). initialise (geometry (get4 asked 8) (get4 asked 12) (get4 asked 16) (get4 asked 20) i) (lentOf asked (lent t a l) [])) g₅)
 
 -- ---- by the operation
+
+-- past a number that it is not
+pub beyond : (k n : ℕ) → k ≤ n → (n ≡ k → ⊥) → k + 1 ≤ n
+beyond k n h e = omega (arith, e)
+
+not-both : (n : ℕ) → n ≤ 133 → 134 ≤ n → ⊥
+not-both n a b = absurd (omega arith)
 
 module _ (r : List ℕ) (b : Lent) {x : Result} (op : ℕ) where
   pub op-1 : op ≡ 1 → x ≡ initialised r b → x ≡ operated op r b
@@ -99,9 +109,34 @@ module _ (r : List ℕ) (b : Lent) {x : Result} (op : ℕ) where
   unfolding operated
   op-later e₁ e₂ e₃ e₄ h = rw (ne-eqb op 1 e₁, ne-eqb op 2 e₂, ne-eqb op 3 e₃, ne-eqb op 4 e₄) h
 
-  pub op-other : (op ≡ 5 → ⊥) → (op ≡ 6 → ⊥) → (op ≡ 7 → ⊥) → (op ≡ 8 → ⊥) → (op ≡ 9 → ⊥) → x ≡ result 99 b → x ≡ laterOp op r b
+  pub op-preview : (op ≡ 5 → ⊥) → (op ≡ 6 → ⊥) → (op ≡ 7 → ⊥) → (op ≡ 8 → ⊥) → (op ≡ 9 → ⊥) → x ≡ previewOp op r b → x ≡ laterOp op r b
   unfolding laterOp
-  op-other e₁ e₂ e₃ e₄ e₅ h = rw (ne-eqb op 5 e₁, ne-eqb op 6 e₂, ne-eqb op 7 e₃, ne-eqb op 8 e₄, ne-eqb op 9 e₅) h
+  op-preview e₁ e₂ e₃ e₄ e₅ h = rw (ne-eqb op 5 e₁, ne-eqb op 6 e₂, ne-eqb op 7 e₃, ne-eqb op 8 e₄, ne-eqb op 9 e₅) h
+
+  pub op-130 : op ≡ 130 → x ≡ called r b (preview (allocate (requestOf r))) → x ≡ previewOp op r b
+  unfolding previewOp
+  op-130 e h = rw e h
+
+  pub op-131 : op ≡ 131 → x ≡ called r b (preview (extend (nameAsked r))) → x ≡ previewOp op r b
+  unfolding previewOp
+  op-131 e h = rw e h
+
+  pub op-132 : op ≡ 132 → x ≡ called r b (preview (release (nameAsked r) (get4 r 8))) → x ≡ previewOp op r b
+  unfolding previewOp
+  op-132 e h = rw e h
+
+  pub op-133 : op ≡ 133 → x ≡ called r b (preview (scratch (nameAsked r))) → x ≡ previewOp op r b
+  unfolding previewOp
+  op-133 e h = rw e h
+
+  pub op-other : (op ≡ 130 → ⊥) → (op ≡ 131 → ⊥) → (op ≡ 132 → ⊥) → (op ≡ 133 → ⊥) → x ≡ result 99 b → x ≡ previewOp op r b
+  unfolding previewOp
+  op-other e₁ e₂ e₃ e₄ h = by (isPreview op) (λ k. absurd (none k)) (λ k. rw k h)
+    where
+      none : isPreview op ≡ true → ⊥
+      none k =
+          not-both op (leb→le op 133 (and-r (leb 130 op) (leb op 133) (true-is k)))
+          (beyond 133 op (beyond 132 op (beyond 131 op (beyond 130 op (leb→le 130 op (and-l (leb 130 op) (leb op 133) (true-is k))) e₁) e₂) e₃) e₄)
 
 -- ---- put, and the line
 

@@ -1,16 +1,17 @@
 -- The records of a recording make a list of demand 3, so that the table which replay leaves has the theorem's facts.
 -- Assumes nothing.
 use mathlib.Core.Path.{_≡_, refl, sym, ap, _∙_, subst}
-use mathlib.Core.Bool.{true, false, _&&_}
+use mathlib.Core.Bool.{true, false, _&&_, _||_}
 use mathlib.Core.List.{List, [], _∷_, _++_}
-use Prim.Native.Nat.{ℕ, _+_, _*_, _≤_}
+use Prim.Native.Nat.{ℕ, _+_, _*_, _≤_, _<_}
 use native.Mathlib.Omega.{arith}
-use borrow.Author.Tests.{eq-eqb, eqb-false, ne-eqb}
+use borrow.Author.Tests.{eqb-false, ne-eqb}
 use lib.Dec.{T, eqb, leb, eqb→eq, leb→le}
 use lib.ListN.{length, take, drop, length-append, length-drop}
 use lib.Seq.{length-take-le, take-at}
+use Rattle.model.specs.Basics.{within}
 use Rattle.model.specs.Model.{Geometry, slots}
-use Rattle.model.proofs.Lists.{and-l, and-r, by, true-is}
+use Rattle.model.proofs.Lists.{and-l, and-r, by, is-true, true-is}
 use Rattle.model.specs.Predicates.{All}
 use Rattle.rules.specs.Demand3.{Demand3, Did, Ran, initialises, tableAfter, tableThen}
 use Rattle.rules.specs.Entries.{Lent, initialise}
@@ -18,32 +19,41 @@ use Rattle.rules.specs.Table.{limits}
 use Rattle.rules.proofs.Performed.{initialise-length, perform-length}
 use Rattle.rules.proofs.Theorem.{any-list}
 use Rattle.replay_record.specs.Asked.{tableLent}
-use Rattle.replay_step.specs.Play.{called, playDone, initialised, laterOp, obtained, operated, played}
+use Rattle.replay_step.proofs.Laws.{beyond}
+use Rattle.replay_step.specs.Play.{called, playDone, initialised, isPreview, laterOp, obtained, operated, played, previewOp}
 use Rattle.replay_step.specs.Recording.{MakesCall, buffers, callOf, deedOf, eventOf, eventsOf, geometryAsked, made, operation, tableLeft}
 
 -- ---- one record
 
 -- past a number that it is not
 past : (k n : ℕ) → k ≤ n → eqb n k ≡ false → k + 1 ≤ n
-past k n h e = let z = eqb-false n k e in omega arith
+past k n h e = beyond k n h (eqb-false n k e)
 
 -- no other number is 7
 not-seven : (n k : ℕ) → eqb n k ≡ true → (k ≡ 7 → ⊥) → eqb n 7 ≡ false
 not-seven n k e h = ne-eqb n 7 (λ q. h (sym (eqb→eq n k (true-is e)) ∙ q))
 
-module _ (r t : List ℕ) (some : T (leb 1 (operation r) && leb (operation r) 8)) where
-  eight : eqb (operation r) 1 ≡ false → eqb (operation r) 2 ≡ false → eqb (operation r) 3 ≡ false → eqb (operation r) 4 ≡ false
-      → eqb (operation r) 5 ≡ false → eqb (operation r) 6 ≡ false → eqb (operation r) 7 ≡ false → eqb (operation r) 8 ≡ true
-  eight e₁ e₂ e₃ e₄ e₅ e₆ e₇ =
+-- a preview is none of the others
+not-later : (n k : ℕ) → isPreview n ≡ true → k < 130 → eqb n k ≡ false
+not-later n k e h = ne-eqb n k (λ q. let a : 130 ≤ n = leb→le 130 n (and-l (leb 130 n) (leb n 133) (true-is e)) in omega arith)
+
+module _ (r t : List ℕ) (some : T (within 1 8 (operation r) || isPreview (operation r))) where
+  -- what is none of 1 to 8 is a preview
+  the-rest : eqb (operation r) 1 ≡ false → eqb (operation r) 2 ≡ false → eqb (operation r) 3 ≡ false → eqb (operation r) 4 ≡ false
+      → eqb (operation r) 5 ≡ false → eqb (operation r) 6 ≡ false → eqb (operation r) 7 ≡ false → eqb (operation r) 8 ≡ false → isPreview (operation r) ≡ true
+  the-rest e₁ e₂ e₃ e₄ e₅ e₆ e₇ e₈ =
       let n = operation r in
-      let a : 1 ≤ n = leb→le 1 n (and-l (leb 1 n) (leb n 8) some) in
-      let b : n ≤ 8 = leb→le n 8 (and-r (leb 1 n) (leb n 8) some) in
-      let c : 8 ≤ n = past 7 n (past 6 n (past 5 n (past 4 n (past 3 n (past 2 n (past 1 n a e₁) e₂) e₃) e₄) e₅) e₆) e₇ in
-      eq-eqb n 8 (omega arith)
+      by (within 1 8 n)
+      (λ k.
+      let a : 1 ≤ n = leb→le 1 n (and-l (leb 1 n) (leb n 8) (true-is k)) in
+      let b : n ≤ 8 = leb→le n 8 (and-r (leb 1 n) (leb n 8) (true-is k)) in
+      let c : 9 ≤ n = past 8 n (past 7 n (past 6 n (past 5 n (past 4 n (past 3 n (past 2 n (past 1 n a e₁) e₂) e₃) e₄) e₅) e₆) e₇) e₈ in
+      absurd (omega arith))
+      (λ k. is-true (rw k at some))
 
   -- what the record does with the table is what its call does with the lent bytes
   done-table : playDone r t .after .table ≡ made r t .after .table ++ drop (tableLent r) t
-  unfolding playDone operated laterOp initialised called obtained
+  unfolding playDone operated laterOp previewOp initialised called obtained
   done-table =
       let n = operation r in
       by (eqb n 1) (λ e. rw (e, not-seven n 1 e (λ z. omega arith)))
@@ -53,7 +63,11 @@ module _ (r t : List ℕ) (some : T (leb 1 (operation r) && leb (operation r) 8)
       (λ e₄. by (eqb n 5) (λ e. rw (e₁, e₂, e₃, e₄, e, not-seven n 5 e (λ z. omega arith)))
       (λ e₅. by (eqb n 6) (λ e. rw (e₁, e₂, e₃, e₄, e₅, e, not-seven n 6 e (λ z. omega arith)))
       (λ e₆. by (eqb n 7) (λ e. rw (e₁, e₂, e₃, e₄, e₅, e₆, e))
-      (λ e₇. rw (e₁, e₂, e₃, e₄, e₅, e₆, e₇, eight e₁ e₂ e₃ e₄ e₅ e₆ e₇))))))))
+      (λ e₇. by (eqb n 8) (λ e. rw (e₁, e₂, e₃, e₄, e₅, e₆, e₇, e))
+      (λ e₈.
+      let p = the-rest e₁ e₂ e₃ e₄ e₅ e₆ e₇ e₈ in
+      let e₉ = not-later n 9 p (omega arith) in
+      rw (e₁, e₂, e₃, e₄, e₅, e₆, e₇, e₈, e₉, p)))))))))
 
 did : (r t : List ℕ) → Did (deedOf r t) (take (tableLent r) t) (eventOf r t)
 did r t = by (eqb (operation r) 1) (λ e. rw e) (λ e. rw e)

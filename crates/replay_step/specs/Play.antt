@@ -2,11 +2,12 @@
 -- buffers whole here: the table, the answer and the labels. Assumes nothing.
 use mathlib.Core.Path.{_≡_}
 use Prim.Native.Nat.{ℕ}
-use mathlib.Core.Bool.{cond}
+use mathlib.Core.Bool.{Bool, cond}
 use mathlib.Core.List.{List, [], _++_}
 use lib.Dec.{eqb}
 use lib.ListN.{getD, take, drop, replicate}
-use Rattle.rules.specs.Calls.{Call, Request, allocate, extend, lspace, obtain, release, rename, request, scratch}
+use Rattle.model.specs.Basics.{within}
+use Rattle.rules.specs.Calls.{Call, Request, allocate, extend, lspace, obtain, preview, release, rename, request, scratch}
 use Rattle.rules.specs.Contracts.{geometry}
 use Rattle.rules.specs.Entries.{Lent, Result, initialise, lent, perform, result}
 use Rattle.replay_record.specs.Asked.{answerLent, bytesOf, get4, labelsLent, nameAsked, otherOf, overAt, tableLent}
@@ -51,7 +52,20 @@ loaded r b = result 0 (lent (overAt (get4 r 8) (bytesOf r) (b .table)) (b .answe
 abbrev pub Loads : (asked t : List ℕ) (r : ℕ) (t′ : List ℕ) → Type 0
 Loads asked t r t′ = (a l : List ℕ) → result r (lent t′ a l) ≡ loaded asked (lent t a l)
 
--- ---- by the operation: 1 initialise, 2 allocate, 3 extend, 4 release, 5 scratch, 6 rename, 7 obtain, 8 LSPACE, 9 put
+-- ---- by the operation: 1 initialise, 2 allocate, 3 extend, 4 release, 5 scratch, 6 rename, 7 obtain, 8 LSPACE, 9 put; 128 and 2 to 5
+-- a preview of operation 2 to 5
+
+abbrev pub isPreview : ℕ → Bool
+isPreview op = within 130 133 op
+
+-- the call of which there is to be a preview
+abbrev pub previewed : ℕ → List ℕ → Call
+previewed op r =
+    cond (eqb op 130) (allocate (requestOf r))
+    (cond (eqb op 131) (extend (nameAsked r)) (cond (eqb op 132) (release (nameAsked r) (get4 r 8)) (scratch (nameAsked r))))
+
+unfoldable pub previewOp : ℕ → List ℕ → Lent → Result
+previewOp op r b = cond (isPreview op) (called r b (preview (previewed op r))) (result 99 b)
 
 unfoldable pub laterOp : ℕ → List ℕ → Lent → Result
 laterOp op r b =
@@ -59,7 +73,7 @@ laterOp op r b =
     (cond (eqb op 6) (called r b (rename (nameAsked r) (otherOf r)))
     (cond (eqb op 7) (obtained r b)
     (cond (eqb op 8) (called r b lspace)
-    (cond (eqb op 9) (loaded r b) (result 99 b)))))
+    (cond (eqb op 9) (loaded r b) (previewOp op r b)))))
 
 unfoldable pub operated : ℕ → List ℕ → Lent → Result
 operated op r b =

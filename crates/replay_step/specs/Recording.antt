@@ -2,20 +2,20 @@
 -- after the list. Assumes nothing.
 use mathlib.Core.Path.{_≡_}
 use Prim.Native.Nat.{ℕ}
-use mathlib.Core.Bool.{cond}
+use mathlib.Core.Bool.{cond, _||_}
 use mathlib.Core.List.{List, [], _∷_}
 use lib.Dec.{T, eqb}
 use lib.ListN.{getD, take}
 use Rattle.model.specs.Basics.{within}
 use Rattle.model.specs.Model.{Geometry}
-use Rattle.rules.specs.Calls.{Call, allocate, extend, lspace, obtain, release, rename, scratch}
+use Rattle.rules.specs.Calls.{Call, allocate, extend, lspace, obtain, preview, release, rename, scratch}
 use Rattle.rules.specs.Contracts.{geometry}
 use Rattle.rules.specs.Demand3.{Deed, Event, initialises, performs}
 use Rattle.rules.specs.Entries.{Lent, Result, initialise, lent, perform}
 use Rattle.replay_record.specs.Asked.{answerLent, get4, labelsLent, nameAsked, otherOf, tableLent}
-use Rattle.replay_step.specs.Play.{freshAnswer, freshLabels, played, requestOf}
+use Rattle.replay_step.specs.Play.{freshAnswer, freshLabels, isPreview, played, previewed, requestOf}
 
--- ---- one record that makes a call: operations 1 to 8
+-- ---- one record that makes a call: operations 1 to 8, and previews
 
 abbrev pub operation : List ℕ → ℕ
 operation r = getD r 0 0
@@ -23,14 +23,15 @@ operation r = getD r 0 0
 abbrev pub geometryAsked : List ℕ → Geometry
 geometryAsked r = geometry (get4 r 8) (get4 r 12) (get4 r 16) (get4 r 20) (get4 r 24)
 
--- operations 2 to 8
+-- operations 2 to 8, and previews
 abbrev pub callOf : ℕ → List ℕ → Call
 callOf op r =
     cond (eqb op 2) (allocate (requestOf r))
     (cond (eqb op 3) (extend (nameAsked r))
     (cond (eqb op 4) (release (nameAsked r) (get4 r 8))
     (cond (eqb op 5) (scratch (nameAsked r))
-    (cond (eqb op 6) (rename (nameAsked r) (otherOf r)) (cond (eqb op 7) (obtain (nameAsked r)) lspace)))))
+    (cond (eqb op 6) (rename (nameAsked r) (otherOf r))
+    (cond (eqb op 7) (obtain (nameAsked r)) (cond (eqb op 8) lspace (preview (previewed op r))))))))
 
 -- only obtain is lent labels
 abbrev pub labelsPlayed : ℕ → List ℕ → List ℕ
@@ -63,7 +64,7 @@ eventOf r t =
 -- ---- a recording: each record makes a call, with the first n bytes of the table
 
 abbrev pub MakesCall : ℕ → List ℕ → Type 0
-MakesCall n r = T (within 1 8 (operation r)) × (tableLent r ≡ n)
+MakesCall n r = T (within 1 8 (operation r) || isPreview (operation r)) × (tableLent r ≡ n)
 
 abbrev pub eventsOf : List (List ℕ) → List ℕ → List Event
 eventsOf [] t = []

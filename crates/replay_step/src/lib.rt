@@ -1,10 +1,10 @@
 // One record played (docs/REPLAY.md).
 ghost use mathlib.Core.Path.{_≡_};
 ghost use lib.ListN.{getD, length};
-ghost use Rattle.rules.specs.Calls.{allocate, extend, lspace, release, rename, scratch};
+ghost use Rattle.rules.specs.Calls.{allocate, extend, lspace, preview, release, rename, scratch};
 ghost use Rattle.rules.specs.Entries.{lent, result};
 ghost use Rattle.replay_record.specs.Asked.{get4, nameAsked, otherOf};
-ghost use Rattle.replay_step.specs.Play.{Does, Loads, bothLent, called, freshAnswer, freshLabels, initialised, laterOp, lineFor, obtained, operated, played, requestOf};
+ghost use Rattle.replay_step.specs.Play.{Does, Loads, bothLent, called, freshAnswer, freshLabels, initialised, laterOp, lineFor, obtained, operated, played, previewOp, requestOf};
 
 // ---- the calls, each with the lent first bytes of the buffers
 
@@ -136,7 +136,97 @@ fn do_put(asked: &[u8], table: &mut [u8]) -> u32
     0
 }
 
+// ---- previews
+
+fn do_preview_allocate(asked: &[u8], table: &[u8], answer: &mut [u8]) -> u32
+    requires { ⌜ (length (now asked) ≡ 128) × (length (now table) ≡ 65536) × (length (now answer) ≡ 32) ⌝ }
+    ensures { λ r. ⌜ Does (λ b. called (now (asked .entry)) b (preview (allocate (requestOf (now (asked .entry)))))) (now (table .entry)) (now (answer .entry)) r (now (table .entry)) (now (answer .exit)) ⌝ }
+{
+    let n = replay_record::table_lent(asked);
+    let k = replay_record::answer_lent(asked);
+    let kind = replay_record::four(asked, 8);
+    let start = replay_record::four(asked, 12);
+    let amount = replay_record::four(asked, 16);
+    let secondary = replay_record::four(asked, 20);
+    let option = replay_record::four(asked, 24);
+    let name = replay_record::name_of(asked);
+    let attributes = replay_record::other_of(asked);
+    vtoc::vtoc_preview_allocate(
+        &table[..n],
+        name,
+        attributes,
+        kind,
+        start,
+        amount,
+        secondary,
+        option,
+        &mut answer[..k],
+    )
+}
+
+fn do_preview_extend(asked: &[u8], table: &[u8], answer: &mut [u8]) -> u32
+    requires { ⌜ (length (now asked) ≡ 128) × (length (now table) ≡ 65536) × (length (now answer) ≡ 32) ⌝ }
+    ensures { λ r. ⌜ Does (λ b. called (now (asked .entry)) b (preview (extend (nameAsked (now (asked .entry)))))) (now (table .entry)) (now (answer .entry)) r (now (table .entry)) (now (answer .exit)) ⌝ }
+{
+    let n = replay_record::table_lent(asked);
+    let k = replay_record::answer_lent(asked);
+    vtoc::vtoc_preview_extend(
+        &table[..n],
+        replay_record::name_of(asked),
+        &mut answer[..k],
+    )
+}
+
+fn do_preview_release(asked: &[u8], table: &[u8], answer: &mut [u8]) -> u32
+    requires { ⌜ (length (now asked) ≡ 128) × (length (now table) ≡ 65536) × (length (now answer) ≡ 32) ⌝ }
+    ensures { λ r. ⌜ Does (λ b. called (now (asked .entry)) b (preview (release (nameAsked (now (asked .entry))) (get4 (now (asked .entry)) 8)))) (now (table .entry)) (now (answer .entry)) r (now (table .entry)) (now (answer .exit)) ⌝ }
+{
+    let n = replay_record::table_lent(asked);
+    let k = replay_record::answer_lent(asked);
+    let ttr = replay_record::four(asked, 8);
+    vtoc::vtoc_preview_release(
+        &table[..n],
+        replay_record::name_of(asked),
+        ttr,
+        &mut answer[..k],
+    )
+}
+
+fn do_preview_scratch(asked: &[u8], table: &[u8], answer: &mut [u8]) -> u32
+    requires { ⌜ (length (now asked) ≡ 128) × (length (now table) ≡ 65536) × (length (now answer) ≡ 32) ⌝ }
+    ensures { λ r. ⌜ Does (λ b. called (now (asked .entry)) b (preview (scratch (nameAsked (now (asked .entry)))))) (now (table .entry)) (now (answer .entry)) r (now (table .entry)) (now (answer .exit)) ⌝ }
+{
+    let n = replay_record::table_lent(asked);
+    let k = replay_record::answer_lent(asked);
+    vtoc::vtoc_preview_scratch(
+        &table[..n],
+        replay_record::name_of(asked),
+        &mut answer[..k],
+    )
+}
+
 // ---- by the operation
+
+// The previews: 128 more than the operation of their call.
+fn play_preview(asked: &[u8], table: &[u8], answer: &mut [u8]) -> u32
+    requires { ⌜ (length (now asked) ≡ 128) × (length (now table) ≡ 65536) × (length (now answer) ≡ 32) ⌝ }
+    ensures { λ r. ⌜ Does (previewOp (getD (now (asked .entry)) 0 0) (now (asked .entry))) (now (table .entry)) (now (answer .entry)) r (now (table .entry)) (now (answer .exit)) ⌝ }
+{
+    let op = asked[0];
+    if op == 130 {
+        return do_preview_allocate(asked, table, answer);
+    }
+    if op == 131 {
+        return do_preview_extend(asked, table, answer);
+    }
+    if op == 132 {
+        return do_preview_release(asked, table, answer);
+    }
+    if op == 133 {
+        return do_preview_scratch(asked, table, answer);
+    }
+    99
+}
 
 // The operations from 5 on.
 fn play_later(asked: &[u8], table: &mut [u8], answer: &mut [u8], labels: &mut [u8]) -> u32
@@ -159,7 +249,7 @@ fn play_later(asked: &[u8], table: &mut [u8], answer: &mut [u8], labels: &mut [u
     if op == 9 {
         return do_put(asked, table);
     }
-    99
+    play_preview(asked, table, answer)
 }
 
 fn play(asked: &[u8], table: &mut [u8], answer: &mut [u8], labels: &mut [u8]) -> u32

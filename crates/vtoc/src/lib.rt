@@ -1,8 +1,8 @@
-// The eight calls for hosts in C (include/vtoc.h). A slice is a pointer and a length; the result is 0 or the number of the
+// The twelve calls for hosts in C (include/vtoc.h). A slice is a pointer and a length; the result is 0 or the number of the
 // refusal. No call asks anything of its arguments. What each ensures is one equation of rules/specs/Contracts.antt: the
 // result and every lent byte afterwards are those that `initialise`, or `perform` with the call, gives for the lent bytes
 // and numbers before. It leaves nothing free. Where the result is not 0, these definitions leave every lent byte as it was.
-ghost use Rattle.rules.specs.Contracts.{Allocates, Extends, Initialises, Inquires, Obtains, Releases, Renames, Scratches};
+ghost use Rattle.rules.specs.Contracts.{Allocates, Extends, Initialises, Inquires, Obtains, PreviewsAllocate, PreviewsExtend, PreviewsRelease, PreviewsScratch, Releases, Renames, Scratches};
 
 // Initialises a volume of c cylinders with h tracks each, and a VTOC of v tracks from track s on with d records a track. The
 // result is that of `initialise`: 1 geometry, 2 length. The table is then `encode (fresh g)`, a volume with no data set, and
@@ -64,7 +64,7 @@ pub extern "C" fn vtoc_extend(table: &mut [u8], name: &[u8], answer: &mut [u8]) 
 
 // Releases the tracks behind the last block, ttr. The refusals, in the order of `perform` and `rule`: 2, 3, 4, 5 not
 // found, 12 TTR, 11 VTOC full. The extents are those that `keep` leaves, the table that of the volume which `changed`
-// leaves, the answer `answer (givenBack n)`, n being the tracks of the set less TT + 1.
+// leaves, the answer `answer (givenBack n)`, n being the tracks of the set less `tracksKeptOf`.
 #[no_mangle]
 pub extern "C" fn vtoc_release(table: &mut [u8], name: &[u8], ttr: u32, answer: &mut [u8]) -> u32
     ensures { λ r. ⌜ Releases (now (table .entry)) (now (name .entry)) ttr (now (answer .entry)) r (now (table .exit)) (now (answer .exit)) ⌝ }
@@ -113,4 +113,63 @@ pub extern "C" fn vtoc_lspace(table: &[u8], answer: &mut [u8]) -> u32
     ensures { λ r. ⌜ Inquires (now (table .entry)) (now (answer .entry)) r (now (answer .exit)) ⌝ }
 {
     call_lspace::lspace(table, answer)
+}
+
+// ---- previews: each answers as its call would on a copy of the table, refusals included, by `onCopy`; the table is only read
+
+// What `vtoc_allocate` would grant.
+#[no_mangle]
+pub extern "C" fn vtoc_preview_allocate(
+    table: &[u8],
+    name: &[u8],
+    attributes: &[u8],
+    kind: u32,
+    start: u32,
+    amount: u32,
+    secondary: u32,
+    option: u32,
+    answer: &mut [u8],
+) -> u32
+    ensures { λ r. ⌜ PreviewsAllocate (now (table .entry)) (now (name .entry)) (now (attributes .entry)) kind start amount secondary option (now (answer .entry)) r (now (answer .exit)) ⌝ }
+{
+    call_allocate::preview(
+        table,
+        name,
+        attributes,
+        kind,
+        start,
+        amount,
+        secondary,
+        option,
+        answer,
+    )
+}
+
+// What `vtoc_extend` would grant.
+#[no_mangle]
+pub extern "C" fn vtoc_preview_extend(table: &[u8], name: &[u8], answer: &mut [u8]) -> u32
+    ensures { λ r. ⌜ PreviewsExtend (now (table .entry)) (now (name .entry)) (now (answer .entry)) r (now (answer .exit)) ⌝ }
+{
+    call_extend::preview(table, name, answer)
+}
+
+// What `vtoc_release` would give back.
+#[no_mangle]
+pub extern "C" fn vtoc_preview_release(
+    table: &[u8],
+    name: &[u8],
+    ttr: u32,
+    answer: &mut [u8],
+) -> u32
+    ensures { λ r. ⌜ PreviewsRelease (now (table .entry)) (now (name .entry)) ttr (now (answer .entry)) r (now (answer .exit)) ⌝ }
+{
+    call_release::preview(table, name, ttr, answer)
+}
+
+// What `vtoc_scratch` would give back.
+#[no_mangle]
+pub extern "C" fn vtoc_preview_scratch(table: &[u8], name: &[u8], answer: &mut [u8]) -> u32
+    ensures { λ r. ⌜ PreviewsScratch (now (table .entry)) (now (name .entry)) (now (answer .entry)) r (now (answer .exit)) ⌝ }
+{
+    call_scratch::preview(table, name, answer)
 }

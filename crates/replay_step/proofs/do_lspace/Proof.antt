@@ -1,4 +1,5 @@
 use native.Mathlib.Omega.{arith}
+use mathlib.Core.Path.{refl}
 use Rattle.rules.specs.Calls.{lspace}
 use Rattle.replay_step.proofs.Laws.{reads-call, lent-long}
 use borrow.Author.Needs.{needs}
@@ -33,7 +34,7 @@ returns c =
     let at-answer-lent = c .before .before .before .before .before in
     let at-table-lent = at-answer-lent .before in
     let top = at-table-lent .before .before .before .before in
-    reads-call lspace (top .args .asked .now) (top .args .table .now) (top .args .answer .now) _ _ (at-table-lent .table-lent .ensures .0) (at-answer-lent .answer-lent .ensures .0) (c .before .before .vtoc-lspace .ensures)
+    reads-call lspace (top .args .asked .now) (top .args .table .now) (top .args .answer .now) _ _ refl (at-table-lent .table-lent .ensures .0) (at-answer-lent .answer-lent .ensures .0) (c .before .before .vtoc-lspace .ensures)
 
 pub do-lspace-spec : {M : Type 1} → statement M
 do-lspace-spec =

@@ -1,6 +1,6 @@
-use mathlib.Core.Path.{refl}
 use Rattle.rules.specs.Entries.{lent}
-use Rattle.replay_step.proofs.Laws.{op-5, op-6, op-7, op-8, op-9, op-other}
+use Rattle.replay_step.proofs.Laws.{op-5, op-6, op-7, op-8, op-9, op-preview}
+use native.Mathlib.Omega.{arith}
 use borrow.Author.Needs.{needs}
 use Rattle.replay_step.proofs.play_later.Statement.{statement}
 use Rattle.replay_step.proofs.play_later.Tie as tie
@@ -70,9 +70,10 @@ same-length-9 c = search needs
 
 returns-4 : tie.Need-returns-4
 returns-4 c =
-    let at-if4 = c .before .before .before .before .before in
+    let at-do-lspace = c .before .before in
+    let at-if4 = at-do-lspace .before .before .before in
     let top = at-if4 .before .before .before .before .before .before .before .before .before in
-    op-8 (top .args .asked .now) (lent (top .args .table .now) (top .args .answer .now) (top .args .labels .now)) _ (at-if4 .if4 .taken) (c .before .before .do-lspace .ensures (top .args .labels .now))
+    op-8 (top .args .asked .now) (lent (top .args .table .now) (top .args .answer .now) (top .args .labels .now)) _ (at-if4 .if4 .taken) (at-do-lspace .do-lspace .ensures (top .args .labels .now))
 
 do-put-requires : tie.Need-do-put-requires
 do-put-requires c κs = search needs
@@ -82,16 +83,30 @@ same-length-10 c = search needs
 
 returns-5 : tie.Need-returns-5
 returns-5 c =
-    let at-if5 = c .before .before .before .before in
+    let at-do-put = c .before .before in
+    let at-if5 = at-do-put .before .before in
     let top = at-if5 .before .before .before .before .before .before .before .before .before .before in
-    op-9 (top .args .asked .now) (lent (top .args .table .now) (top .args .answer .now) (top .args .labels .now)) _ (at-if5 .if5 .taken) (c .before .before .do-put .ensures (top .args .answer .now) (top .args .labels .now))
+    op-9 (top .args .asked .now) (lent (top .args .table .now) (top .args .answer .now) (top .args .labels .now)) _ (at-if5 .if5 .taken) (at-do-put .do-put .ensures (top .args .answer .now) (top .args .labels .now))
+
+play-preview-requires : tie.Need-play-preview-requires
+play-preview-requires c κs = search needs
+
+same-length-11 : tie.Need-same-length-11
+same-length-11 c = search needs
+
+same-length-12 : tie.Need-same-length-12
+same-length-12 c = search needs
 
 returns-6 : tie.Need-returns-6
 returns-6 c =
-    let at-if2 = c .before .before .before in
+    let at-play-preview = c .before .before in
+    let at-if5 = at-play-preview .before .before .before in
+    let at-if4 = at-if5 .before in
+    let at-if3 = at-if4 .before in
+    let at-if2 = at-if3 .before in
     let at-if1 = at-if2 .before in
     let top = at-if1 .before .before .before .before .before .before in
-    op-other (top .args .asked .now) (lent (top .args .table .now) (top .args .answer .now) (top .args .labels .now)) _ (at-if1 .if1 .left) (at-if2 .if2 .left) (c .before .before .if3 .left) (c .before .if4 .left) (c .if5 .left) refl
+    op-preview (top .args .asked .now) (lent (top .args .table .now) (top .args .answer .now) (top .args .labels .now)) _ (at-if1 .if1 .left) (at-if2 .if2 .left) (at-if3 .if3 .left) (at-if4 .if4 .left) (at-if5 .if5 .left) (at-play-preview .play-preview .ensures (top .args .labels .now))
 
 pub play-later-spec : {M : Type 1} → statement M
 play-later-spec =
@@ -118,4 +133,7 @@ play-later-spec =
     do-put-requires
     same-length-10
     returns-5
+    play-preview-requires
+    same-length-11
+    same-length-12
     returns-6)
