@@ -1,6 +1,4 @@
 // Extend: the secondary amount for a data set.
-use names::Found;
-use refusals::*;
 ghost use Rattle.rules.specs.Contracts.{Extends, PreviewsExtend};
 ghost use Rattle.check_table.specs.Check.{Roomy};
 
@@ -11,14 +9,12 @@ fn extend_in(table: &mut [u8], name: &[u8], answer: &mut [u8], free_tracks: &mut
 {
     let mut free_slots = [0u64; 8];
     let lengths = open_table::answer_and_name(answer.len(), name.len());
-    let opened = open_table::open_named(table, name, lengths, free_tracks, &mut free_slots);
+    let opened = open_table::open_set(table, name, lengths, free_tracks, &mut free_slots);
     if opened.refusal != 0 {
         return opened.refusal;
     }
     let g = opened.geometry;
-    let Found::Slot(k) = open_table::look_up(table, g, name) else {
-        return E_NOT_FOUND;
-    };
+    let k = opened.slot;
     grant_space::lengthen(table, g, free_tracks, &mut free_slots, k, answer)
 }
 
@@ -37,25 +33,18 @@ pub fn extend(table: &mut [u8], name: &[u8], answer: &mut [u8]) -> u32
 // ---- the preview: the call without the writing
 
 // The preview with a map to work in.
-fn preview_in(
-    table: &[u8],
-    name: &[u8],
-    answer: &mut [u8],
-    free_tracks: &mut [u64],
-) -> u32
+fn preview_in(table: &[u8], name: &[u8], answer: &mut [u8], free_tracks: &mut [u64]) -> u32
     requires { ⌜ Roomy (now table) (now «free_tracks») ⌝ }
     ensures { λ r. ⌜ PreviewsExtend (now (table .entry)) (now (name .entry)) (now (answer .entry)) r (now (answer .exit)) ⌝ }
 {
     let mut free_slots = [0u64; 8];
     let lengths = open_table::answer_and_name(answer.len(), name.len());
-    let opened = open_table::open_named(table, name, lengths, free_tracks, &mut free_slots);
+    let opened = open_table::open_set(table, name, lengths, free_tracks, &mut free_slots);
     if opened.refusal != 0 {
         return opened.refusal;
     }
     let g = opened.geometry;
-    let Found::Slot(k) = open_table::look_up(table, g, name) else {
-        return E_NOT_FOUND;
-    };
+    let k = opened.slot;
     grant_space::preview_longer(table, g, free_tracks, &mut free_slots, k, answer)
 }
 

@@ -1,6 +1,4 @@
 // Release: the tracks of a data set behind its last block given back.
-use names::Found;
-use refusals::*;
 ghost use Rattle.rules.specs.Contracts.{PreviewsRelease, Releases};
 ghost use Rattle.check_table.specs.Check.{Roomy};
 
@@ -17,14 +15,12 @@ fn release_in(
 {
     let mut free_slots = [0u64; 8];
     let lengths = open_table::answer_and_name(answer.len(), name.len());
-    let opened = open_table::open_named(table, name, lengths, free_tracks, &mut free_slots);
+    let opened = open_table::open_set(table, name, lengths, free_tracks, &mut free_slots);
     if opened.refusal != 0 {
         return opened.refusal;
     }
     let g = opened.geometry;
-    let Found::Slot(k) = open_table::look_up(table, g, name) else {
-        return E_NOT_FOUND;
-    };
+    let k = opened.slot;
     free_space::release_set(table, g, free_tracks, &mut free_slots, k, ttr, answer)
 }
 
@@ -55,14 +51,12 @@ fn preview_in(
 {
     let mut free_slots = [0u64; 8];
     let lengths = open_table::answer_and_name(answer.len(), name.len());
-    let opened = open_table::open_named(table, name, lengths, free_tracks, &mut free_slots);
+    let opened = open_table::open_set(table, name, lengths, free_tracks, &mut free_slots);
     if opened.refusal != 0 {
         return opened.refusal;
     }
     let g = opened.geometry;
-    let Found::Slot(k) = open_table::look_up(table, g, name) else {
-        return E_NOT_FOUND;
-    };
+    let k = opened.slot;
     free_space::preview_release(table, g, free_tracks, &mut free_slots, k, ttr, answer)
 }
 

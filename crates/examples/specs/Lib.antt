@@ -3,3 +3,4 @@ pub mod VolumeA
 pub mod Blunders
 pub mod Options
 pub mod Cylinders
+pub mod Previews

@@ -207,7 +207,11 @@ pub fn decide(
         return refused(E_VTOC_FULL, set);
     }
     answers::put_back(answer, set.tracks - keep);
-    Decision { refusal: 0, set, cut }
+    Decision {
+        refusal: 0,
+        set,
+        cut,
+    }
 }
 
 // Cuts the data set in slot k behind the block TTR and writes it: 0, 11 or 12.
@@ -225,7 +229,16 @@ pub fn release_set(
     ensures { λ r. ⌜ ((d : At (geometryOf g) (now (table .entry)) (now («free_tracks» .entry)) (now («free_slots» .entry)) k) → result r (lent (now (table .exit)) (now (answer .exit)) []) ≡ written (lent (now (table .entry)) (now (answer .entry)) []) (releaseSet (d .volume) (d .name) ttr (d .it .label))) ⌝ }
 {
     let mut chain = [0u16; 468];
-    let decision = decide(table, g, free_tracks, free_slots, &mut chain, k, ttr, answer);
+    let decision = decide(
+        table,
+        g,
+        free_tracks,
+        free_slots,
+        &mut chain,
+        k,
+        ttr,
+        answer,
+    );
     if decision.refusal != 0 {
         return decision.refusal;
     }
@@ -258,7 +271,16 @@ pub fn preview_release(
     ensures { λ r. ⌜ ((d : At (geometryOf g) (now (table .entry)) (now («free_tracks» .entry)) (now («free_slots» .entry)) k) → ForeseesAt d (releaseOf d ttr) (now (answer .entry)) r (now (answer .exit))) ⌝ }
 {
     let mut chain = [0u16; 468];
-    let decision = decide(table, g, free_tracks, free_slots, &mut chain, k, ttr, answer);
+    let decision = decide(
+        table,
+        g,
+        free_tracks,
+        free_slots,
+        &mut chain,
+        k,
+        ttr,
+        answer,
+    );
     decision.refusal
 }
 
@@ -321,7 +343,7 @@ pub fn preview_scratch(table: &[u8], g: Geometry, k: usize, answer: &mut [u8]) -
     requires { ⌜ ((m : List ℕ) × (s : List ℕ) × At (geometryOf g) (now table) m s k) ⌝ }
     ensures { λ r. ⌜ ((m s : List ℕ) (d : At (geometryOf g) (now (table .entry)) m s k) → ForeseesAt d (removeSet (d .volume) (d .name) (d .it .label)) (now (answer .entry)) r (now (answer .exit))) ⌝ }
 {
-    let set = measure(table, g, k);
-    answers::put_back(answer, set.tracks);
+    let gone = measure(table, g, k);
+    answers::put_back(answer, gone.tracks);
     0
 }

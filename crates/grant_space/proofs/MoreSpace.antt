@@ -9,10 +9,10 @@ use borrow.Author.Tests.{le-leb, lt-leb}
 use lib.Dec.{eqb, leb}
 use lib.ListN.{length, take, getD}
 use Rattle.model.specs.Basics.{get3}
-use Rattle.model.specs.Choice.{noOption}
+use Rattle.model.specs.Choice.{SpaceOption, noOption}
 use Rattle.model.specs.Model.{Extent, Geometry, Label, Volume, free, held, overs, runsOf, slots, times, tracks}
 use Rattle.rules.specs.Calls.{Amount, Outcome, accept, extendPieces, extendSet, given, granted, inCylinders, inTracks, onCopy, secondaryOf, grant as granting}
-use Rattle.rules.specs.Entries.{lent, written}
+use Rattle.rules.specs.Entries.{lent, result, written}
 use Rattle.rules.specs.Ledger.{appends}
 use Rattle.rules.specs.Reading.{read}
 use Rattle.rules.specs.Slots.{settleWith, withExtents, without}
@@ -39,8 +39,19 @@ use Rattle.grant_space.specs.declared.Decision.{Decision}
 use Rattle.grant_space.specs.declared.Holder.{Holder}
 use Rattle.grant_space.specs.Granting.{GrantWrites, grown}
 use Rattle.grant_space.specs.Deciding.{Decides, Planned, Seeks, sought, withPieces}
-use Rattle.grant_space.specs.Longer.{ExtendForeseen, Extended, Longer}
+use Rattle.grant_space.specs.Longer.{AsksMore, ExtendForeseen, Extended, Longer}
 use Rattle.grant_space.proofs.Decided.{declined, put, writes}
+
+-- the cases of `asked_more`
+module _ (f1 : List ℕ) (sec : ℕ) (es : sec ≡ get3 f1 95) (unit : ℕ) (eu : unit ≡ getD f1 94 0) (q : Amount) (eq : q ≡ cond (eqb unit 0xC0) (inCylinders sec) (inTracks sec)) where
+  asked-is : q ≡ cond (eqb (getD f1 94 0) 0xC0) (inCylinders (get3 f1 95)) (inTracks (get3 f1 95))
+  asked-is = eq ∙ ap₂ (λ (u n : ℕ). cond (eqb u 0xC0) (inCylinders n) (inTracks n)) eu es
+
+  pub asks-none : sec ≡ 0 → AsksMore f1 8 q noOption
+  asks-none z = record { none = λ _. (refl, sym es ∙ z); some = λ e. absurd (omega arith); amountIs = asked-is; optionIs = refl }
+
+  pub asks-some : (sec ≡ 0 → ⊥) → AsksMore f1 0 q noOption
+  asks-some n = record { none = λ e. absurd (e refl); some = λ _. omega (arith, n); amountIs = asked-is; optionIs = refl }
 
 module _ {t m s a : List ℕ} {g : Geometry} {k : ℕ} (d : Longer t m s a g k) where
   abbrev v : Volume
@@ -101,46 +112,46 @@ module _ {t m s a : List ℕ} {g : Geometry} {k : ℕ} (d : Longer t m s a g k) 
     pub extents-most : count ≤ 16
     extents-most = let a = it .many in let b = good .most in omega arith
 
-    module _ (sec : ℕ) (es : sec ≡ get3 one 95) where
-      sec-is : sec ≡ l .secondary
-      sec-is = es ∙ secondary-is g l good one three (it .records .one .bytes) (it .set .long3) (λ _. it .records .three)
+    sec-is : get3 one 95 ≡ l .secondary
+    sec-is = secondary-is g l good one three (it .records .one .bytes) (it .set .long3) (λ _. it .records .three)
 
-      pub no-secondary : sec ≡ 0 → Extended d 8 t a
-      no-secondary z = let e : leb 1 (l .secondary) ≡ false = lt-leb 1 (l .secondary) (let q = sec-is in omega arith) in rw e
+    module _ {no : ℕ} {q : Amount} {o : SpaceOption} (more : AsksMore one no q o) where
+      pub no-secondary : (no ≡ 0 → ⊥) → Extended d no t a
+      no-secondary nz =
+          let n = more .none nz in
+          let e : leb 1 (l .secondary) ≡ false = lt-leb 1 (l .secondary) (let i = sec-is in let j = n .1 in omega arith) in
+          ap (λ (k : ℕ). result k (lent t a [])) (n .0) ∙ rw e
 
-      pub no-secondary-foreseen : sec ≡ 0 → ExtendForeseen d 8 a
-      no-secondary-foreseen z = copied v (lent t a []) (lent t a []) 8 (λ n. absurd (omega arith)) (extendSet v name l) (no-secondary z)
+      pub no-secondary-foreseen : (no ≡ 0 → ⊥) → ExtendForeseen d no a
+      no-secondary-foreseen nz = copied v (lent t a []) (lent t a []) no nz (extendSet v name l) (no-secondary nz)
 
-      module _ (ns : sec ≡ 0 → ⊥) (unit : ℕ) (eu : unit ≡ getD one 94 0) (q : Amount) (eq : q ≡ cond (eqb unit 0xC0) (inCylinders sec) (inTracks sec)) where
+      module _ (z : no ≡ 0) where
         amount-is : q ≡ secondaryOf l
         amount-is =
-            eq
+            more .amountIs
             ∙ ap₂ (λ (u n : ℕ). cond (eqb u 0xC0) (inCylinders n) (inTracks n))
-            (eu ∙ unit-is g l good one three (it .records .one .bytes) (it .set .long3) (λ _. it .records .three)) sec-is
-
-        positive : 1 ≤ sec
-        positive = omega (arith, ns)
+            (unit-is g l good one three (it .records .one .bytes) (it .set .long3) (λ _. it .records .three)) sec-is
 
         pub asks : Asks g q
-        asks = subst (Asks g) (sym eq) (secondary-asks g unit sec positive)
+        asks = subst (Asks g) (sym (more .amountIs)) (secondary-asks g (getD one 94 0) (get3 one 95) (more .some z))
 
         abbrev chosen : Option (List Extent)
-        chosen = granting (v .geometry) (v .labels) noOption q
+        chosen = granting (v .geometry) (v .labels) o q
 
         rule-is : extendSet v name l ≡ given chosen 9 (withPieces v others l)
         rule-is =
-            let e : leb 1 (l .secondary) ≡ true = le-leb 1 (l .secondary) (let z = sec-is in let w = positive in omega arith) in
-            rw e (ap (λ (y : Amount). given (granting (v .geometry) (v .labels) noOption y) 9 (extendPieces v name l)) (sym amount-is))
+            let e : leb 1 (l .secondary) ≡ true = le-leb 1 (l .secondary) (let i = sec-is in let w = more .some z in omega arith) in
+            rw e (ap₂ (λ (x : SpaceOption) (y : Amount). given (granting (v .geometry) (v .labels) x y) 9 (extendPieces v name l)) (sym (more .optionIs)) (sym amount-is))
 
         new-valid : (es : List Extent) → chosen ≡ some es → length (l .extents) + length es ≤ 16
             → (w : Volume) → settleWith v others (withExtents (l .extents ++ es) (l .ttr) l) ≡ some w → Valid w
         new-valid es c u w e =
             let few : leb (length (l .extents) + length es) 16 ≡ true = le-leb (length (l .extents) + length es) 16 u in
             let done : withPieces v others l es ≡ accept (granted (overs es)) w = rw (few, e) in
-            subst (Keeps v (appends name)) (rule-is ∙ ap (λ (o : Option (List Extent)). given o 9 (withPieces v others l)) c ∙ done)
+            subst (Keeps v (appends name)) (rule-is ∙ ap (λ (x : Option (List Extent)). given x 9 (withPieces v others l)) c ∙ done)
             (extend-keeps v (is-ready .valid) name l (d .there .same)) .valid
 
-        module _ {p : List (List ℕ)} (f : (ls : List Label) → Shows m (tracks g) (held g ls) → Listed g t (free g ls) → p ≡ grantOf (piecesOf g ls noOption q))
+        module _ {p : List (List ℕ)} (f : (ls : List Label) → Shows m (tracks g) (held g ls) → Listed g t (free g ls) → p ≡ grantOf (piecesOf g ls o q))
             (h : Holder) (eh : (h .slot ≡ k) × (h .slot3 ≡ third) × (h .extents ≡ count) × (h .«type_byte» ≡ typeOf q)) where
           pub seeks : Seeks g t m s h p
           seeks =
@@ -148,7 +159,7 @@ module _ {t m s a : List ℕ} {g : Geometry} {k : ℕ} (d : Longer t m s a g k) 
                 volume = v;
                 others = others;
                 label = l;
-                option = noOption;
+                option = o;
                 amount = q;
                 ready = is-ready;
                 geometryIs = sym (d .geometryIs);
@@ -159,7 +170,7 @@ module _ {t m s a : List ℕ} {g : Geometry} {k : ℕ} (d : Longer t m s a g k) 
                 few = good .few;
                 asks = subst (λ (y : Geometry). Asks y q) (d .geometryIs) asks;
                 typeIs = eh .3;
-                chosen = f (v .labels) shows lists ∙ ap (λ (y : Geometry). grantOf (piecesOf y (v .labels) noOption q)) (d .geometryIs);
+                chosen = f (v .labels) shows lists ∙ ap (λ (y : Geometry). grantOf (piecesOf y (v .labels) o q)) (d .geometryIs);
                 heldApart = held-there;
                 usedSame = slots-same v (is-ready .valid) name l (d .there .same) l refl refl;
                 stays = others-stay v (is-ready .valid) name l (d .there .same) l refl refl;
@@ -176,16 +187,16 @@ module _ {t m s a : List ℕ} {g : Geometry} {k : ℕ} (d : Longer t m s a g k) 
 
           -- ---- what is decided, and what is written
 
-          module _ {m′ c a′ : List ℕ} {r : Decision} (y : (z : Seeks g t m s h p) → Decides z a m′ c a′ r) where
+          module _ {m′ c a′ : List ℕ} {r : Decision} (y : (u : Seeks g t m s h p) → Decides u a m′ c a′ r) where
             pub foreseen : ExtendForeseen d (r .refusal) a′
-            foreseen = y seeks .replied ∙ ap₂ (λ (w : Volume) (o : Outcome). written (lent t a []) (onCopy w o)) volume-is sought-is
+            foreseen = y seeks .replied ∙ ap₂ (λ (w : Volume) (u : Outcome). written (lent t a []) (onCopy w u)) volume-is sought-is
 
             pub declines : (r .refusal ≡ 0 → ⊥) → Extended d (r .refusal) t a′
             declines nz = declined seeks (y seeks) nz ∙ ap (written (lent t a [])) sought-is
 
-            module _ (z : r .refusal ≡ 0) where
+            module _ (rz : r .refusal ≡ 0) where
               pub planned : Planned seeks m′ c a′ r
-              planned = y seeks .planned z
+              planned = y seeks .planned rz
 
               records : InRecords g (seeks .label) one three
               unfolding seeks
@@ -193,7 +204,7 @@ module _ {t m s a : List ℕ} {g : Geometry} {k : ℕ} (d : Longer t m s a g k) 
 
               -- what `write_grant` asks
               pub grant-writes : GrantWrites g t m′ c (r .plan) (r .set) (take (r .set .count) p) one three
-              grant-writes = writes seeks (y seeks) z records
+              grant-writes = writes seeks (y seeks) rz records
 
               pub lengthened : (t′ : List ℕ) → ((w : GrantWrites g t m′ c (r .plan) (r .set) (take (r .set .count) p) one three) → Leaves (grown (w .grants)) t′) → Extended d 0 t′ a′
-              lengthened t′ w = put seeks (y seeks) z records t′ w ∙ ap (written (lent t a [])) sought-is
+              lengthened t′ w = put seeks (y seeks) rz records t′ w ∙ ap (written (lent t a [])) sought-is

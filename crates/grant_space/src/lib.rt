@@ -20,7 +20,7 @@ ghost use Rattle.grant_space.specs.Granting.{GrantPlans, GrantWrites, Gr
 ghost use Rattle.choose_pieces.specs.Options.{toOption};
 ghost use Rattle.request.specs.Request.{toAmount, typeOf};
 ghost use Rattle.grant_space.specs.Asking.{Asking, Chooses, Foresees};
-ghost use Rattle.grant_space.specs.Longer.{ExtendForeseen, Extended, Longer};
+ghost use Rattle.grant_space.specs.Longer.{AsksMore, ExtendForeseen, Extended, Longer};
 ghost use Rattle.grant_space.specs.Deciding.{Decides, Seeks};
 
 // A data set that is granted pieces: the slots of its format 1 and its format 3, 0 for none, how many extents it has, how many
@@ -141,7 +141,11 @@ pub fn decide(
         return refused(E_VTOC_FULL, set);
     }
     answers::put_granted(answer, pieces, got.count, got.tracks);
-    Decision { refusal: 0, set, plan }
+    Decision {
+        refusal: 0,
+        set,
+        plan,
+    }
 }
 
 // A data set that seeks an amount: the slots of its format 1 and its format 3, 0 for none, and how many extents it has.
@@ -178,14 +182,33 @@ pub fn place(
     let pieces = request::fulfil(table, free_tracks, g, option, amount);
     let seeker = seeker_of(0, 0, 0, amount);
     let mut chain = [0u16; 468];
-    let decision = decide(table, g, free_tracks, free_slots, &mut chain, seeker, pieces, answer);
+    let decision = decide(
+        table,
+        g,
+        free_tracks,
+        free_slots,
+        &mut chain,
+        seeker,
+        pieces,
+        answer,
+    );
     if decision.refusal != 0 {
         return decision.refusal;
     }
     let unit = request::unit_byte(amount);
     let f1 = &mut dscb_write::new_label(name, attributes, unit, request.secondary);
     let f3 = &mut dscb_write::empty_three();
-    write_grant(table, g, free_tracks, &chain, decision.plan, decision.set, pieces, f1, f3);
+    write_grant(
+        table,
+        g,
+        free_tracks,
+        &chain,
+        decision.plan,
+        decision.set,
+        pieces,
+        f1,
+        f3,
+    );
     0
 }
 
@@ -208,11 +231,50 @@ pub fn preview_place(
     let pieces = request::fulfil(table, free_tracks, g, option, amount);
     let seeker = seeker_of(0, 0, 0, amount);
     let mut chain = [0u16; 468];
-    let decision = decide(table, g, free_tracks, free_slots, &mut chain, seeker, pieces, answer);
+    let decision = decide(
+        table,
+        g,
+        free_tracks,
+        free_slots,
+        &mut chain,
+        seeker,
+        pieces,
+        answer,
+    );
     decision.refusal
 }
 
 // ---- extend
+
+// What an extend asks for, by the format 1: the refusal, 8 or 0 for none, and where it is 0 the secondary amount. No label keeps an
+// option.
+pub struct More {
+    pub refusal: u32,
+    pub amount: Amount,
+    pub option: SpaceOption,
+}
+
+// The same.
+fn asked_more(f1: &[u8; 140]) -> More
+    requires { ⌜ length (now f1) ≡ 140 ⌝ }
+    ensures { λ r. ⌜ AsksMore (now (f1 .entry)) (r .refusal) (toAmount (r .amount)) (toOption (r .option)) ⌝ }
+{
+    let secondary = rows::three(f1, SECONDARY);
+    let amount = request::secondary_of(f1[DS1SCALO], secondary);
+    let option = SpaceOption::NoOption;
+    if secondary == 0 {
+        return More {
+            refusal: E_NO_SECONDARY,
+            amount,
+            option,
+        };
+    }
+    More {
+        refusal: 0,
+        amount,
+        option,
+    }
+}
 
 // Grants the data set whose format 1 is in slot k its secondary amount: 0, 8, 9, 10 or 11.
 pub fn lengthen(
@@ -229,21 +291,41 @@ pub fn lengthen(
     let held = data_set::set_at(table, g, k);
     let mut f1 = held.f1;
     let mut f3 = held.f3;
-    let secondary = rows::three(&f1, SECONDARY);
-    if secondary == 0 {
-        return E_NO_SECONDARY;
+    let more = asked_more(&f1);
+    if more.refusal != 0 {
+        return more.refusal;
     }
-    let amount = request::secondary_of(f1[DS1SCALO], secondary);
-    let pieces = request::fulfil(table, free_tracks, g, SpaceOption::NoOption, amount);
+    let amount = more.amount;
+    let option = more.option;
+    let pieces = request::fulfil(table, free_tracks, g, option, amount);
     let seeker = seeker_of(k, held.slot3, held.count, amount);
     let mut chain = [0u16; 468];
-    let decision = decide(table, g, free_tracks, free_slots, &mut chain, seeker, pieces, answer);
+    let decision = decide(
+        table,
+        g,
+        free_tracks,
+        free_slots,
+        &mut chain,
+        seeker,
+        pieces,
+        answer,
+    );
     if decision.refusal != 0 {
         return decision.refusal;
     }
     let f1 = &mut f1;
     let f3 = &mut f3;
-    write_grant(table, g, free_tracks, &chain, decision.plan, decision.set, pieces, f1, f3);
+    write_grant(
+        table,
+        g,
+        free_tracks,
+        &chain,
+        decision.plan,
+        decision.set,
+        pieces,
+        f1,
+        f3,
+    );
     0
 }
 
@@ -261,14 +343,24 @@ pub fn preview_longer(
 {
     let held = data_set::set_at(table, g, k);
     let f1 = held.f1;
-    let secondary = rows::three(&f1, SECONDARY);
-    if secondary == 0 {
-        return E_NO_SECONDARY;
+    let more = asked_more(&f1);
+    if more.refusal != 0 {
+        return more.refusal;
     }
-    let amount = request::secondary_of(f1[DS1SCALO], secondary);
-    let pieces = request::fulfil(table, free_tracks, g, SpaceOption::NoOption, amount);
+    let amount = more.amount;
+    let option = more.option;
+    let pieces = request::fulfil(table, free_tracks, g, option, amount);
     let seeker = seeker_of(k, held.slot3, held.count, amount);
     let mut chain = [0u16; 468];
-    let decision = decide(table, g, free_tracks, free_slots, &mut chain, seeker, pieces, answer);
+    let decision = decide(
+        table,
+        g,
+        free_tracks,
+        free_slots,
+        &mut chain,
+        seeker,
+        pieces,
+        answer,
+    );
     decision.refusal
 }

@@ -1,16 +1,19 @@
 -- A call as a whole: where it is refused when it opens the table it answers as the rule does and writes nothing, and where it is
 -- not the rule behind that decides. Assumes nothing.
-use mathlib.Core.Path.{_≡_, refl, sym, ap, ap₂, _∙_}
+use mathlib.Core.Path.{_≡_, refl, sym, ap, ap₂, _∙_, subst}
 use mathlib.Core.Bool.{Bool, true, false, cond, _&&_}
 use mathlib.Core.Option.{Option, none, some}
 use mathlib.Core.List.{List}
 use Prim.Native.Nat.{ℕ, zero, suc, _+_, _*_, _≤_, _<_}
 use native.Mathlib.Omega.{arith}
+use borrow.Author.Tests.{eqb-false, eqb-true}
 use lib.Dec.{T, eqb, eqb→eq}
 use lib.ListN.{length}
 use Rattle.open_table.specs.declared.Opening.{Opening}
-use Rattle.model.specs.Model.{Label, Volume, slots}
-use Rattle.model.proofs.Lists.{and-l, and-r, true-is}
+use Rattle.open_table.specs.declared.SetOpening.{SetOpening}
+use Rattle.model.specs.Model.{Geometry, Label, Volume, slots}
+use Rattle.model.proofs.Lists.{and-l, and-r, by, true-is}
+use Rattle.rules.specs.Predicates.{Limits}
 use Rattle.rules.specs.Calls.{Call, Outcome, given, onCopy, preview, refuse, rule, unless}
 use Rattle.rules.specs.Entries.{Lent, callLengths, goodLengths, otherLengths, perform, result, unlessRefused, written}
 use Rattle.rules.specs.Reading.{read}
@@ -18,9 +21,10 @@ use Rattle.rules.specs.Slots.{found}
 use Rattle.rules.specs.Table.{goodLength, tableRefusal}
 use Rattle.names.specs.Find.{findSlot, inSlot, notFound}
 use Rattle.dscb.specs.Forms.{geometryOf}
-use Rattle.open_table.specs.Opening.{FoundAt, Opened, firstRefusal, nameRefusal}
+use Rattle.check_table.specs.Check.{Roomy}
+use Rattle.open_table.specs.Opening.{FoundAt, KnownAt, KnownMaps, Mapped, Opened, OpenedSet, firstRefusal, nameRefusal}
 use Rattle.open_table.proofs.Lookup.{not-there, there, there-inside}
-use Rattle.open_table.proofs.Numbers.{known}
+use Rattle.open_table.proofs.Numbers.{known, known-maps}
 
 -- the call c on the buffers b: `ok` are its other lengths, `good` its names, and `own` is its rule behind those
 pub record AsksTable (b : Lent) (c : Call) (ok good : Bool) (own : Volume → Outcome) : Type 0 where
@@ -129,3 +133,57 @@ module _ {b : Lent} {c : Call} {ok good : Bool} {name : List ℕ} {own : Volume 
 
     pub done : {k : ℕ} (f : FoundAt (b .table) (read (b .table)) name k) (n : ℕ) (b′ : Lent) → result n b′ ≡ written b (own (read (b .table)) (f .label)) → result n b′ ≡ perform b c
     done f n b′ q = passed asks x z n b′ (q ∙ sym (ap (λ (u : Option Label). written b (given u 5 (own (read (b .table))))) (f .same)))
+
+-- ---- opened and looked up in one
+
+module _ (t : List ℕ) (ok good : Bool) (name m m′ s s′ : List ℕ) (o : Opening) (x : Opened t ok good o) (w : Mapped t m m′ s s′ (o .refusal)) where
+  -- the cases of `open_set`
+  pub opened-early : (o .refusal ≡ 0 → ⊥) → (r : SetOpening) → r .refusal ≡ o .refusal → OpenedSet t ok good name m m′ s s′ r
+  opened-early n r e =
+      record { opening = o; opened = x; mapped = w; early = λ _. e; absent = λ z _. absurd (n z); there = λ z. absurd (n (sym e ∙ z)) }
+
+  module _ (z : o .refusal ≡ 0) where
+    pub opened-absent : notFound ≡ findSlot t name (slots (geometryOf (o .geometry))) → (r : SetOpening) → r .refusal ≡ 5 → OpenedSet t ok good name m m′ s s′ r
+    opened-absent f r e =
+        record { opening = o; opened = x; mapped = w; early = λ n. absurd (n z); absent = λ _ _. (e, f); there = λ q. absurd (omega arith) }
+
+    pub opened-there : (r : SetOpening) → r .refusal ≡ 0 → r .geometry ≡ o .geometry → inSlot (r .slot) ≡ findSlot t name (slots (geometryOf (o .geometry)))
+        → OpenedSet t ok good name m m′ s s′ r
+    opened-there r e g f =
+        record { opening = o; opened = x; mapped = w; early = λ n. absurd (n z); absent = λ _ n. absurd (n e); there = λ _. (z, g, f) }
+
+module _ {b : Lent} {c : Call} {ok good : Bool} {name : List ℕ} {own : Volume → Label → Outcome} (y : AsksSet b c ok good name own)
+    {m m′ s s′ : List ℕ} {r : SetOpening} (x : OpenedSet (b .table) ok good name m m′ s s′ r) where
+  pub set-refused : (r .refusal ≡ 0 → ⊥) → result (r .refusal) b ≡ perform b c
+  set-refused n =
+      by (eqb (x .opening .refusal) 0)
+      (λ k.
+      let z : x .opening .refusal ≡ 0 = eqb-true _ 0 k in
+      let a = x .absent z n in
+      ap (λ (i : ℕ). result i b) (a .0) ∙ not-found y (x .opened) z (a .1))
+      (λ k.
+      let nz : x .opening .refusal ≡ 0 → ⊥ = eqb-false _ 0 k in
+      ap (λ (i : ℕ). result i b) (x .early nz) ∙ refused (asks y) (x .opened) nz)
+
+  module _ (z : r .refusal ≡ 0) where
+    pub set-known : Roomy (b .table) m → length s ≡ 8 → KnownAt (b .table) name m′ s′ r
+    set-known room eight =
+        let f = x .there z in
+        let w = known (x .opened) (f .0) in
+        let e = sym (ap geometryOf (f .1)) in
+        record {
+          isTaken = w .isTaken;
+          ready = w .ready;
+          geometryIs = sym e ∙ w .geometryIs;
+          limits = subst Limits e (w .limits);
+          long = subst (λ (i : Geometry). length (b .table) ≡ 140 * slots i) e (w .long);
+          maps = subst (KnownMaps (b .table) m′ s′) e (known-maps (x .opened) (f .0) (x .mapped) room eight);
+          it = found-at y (x .opened) (f .0) (r .slot) (f .2);
+          inside = subst (λ (i : Geometry). r .slot < slots i) e (slot-inside y (x .opened) (f .0) (r .slot) (f .2));
+        }
+
+    pub set-answer-long : length (b .answer) ≡ 24
+    set-answer-long = answer-long (asks y) (x .opened) (x .there z .0)
+
+    pub set-done : (f : FoundAt (b .table) (read (b .table)) name (r .slot)) (n : ℕ) (b′ : Lent) → result n b′ ≡ written b (own (read (b .table)) (f .label)) → result n b′ ≡ perform b c
+    set-done f n b′ q = done y (x .opened) (x .there z .0) f n b′ q

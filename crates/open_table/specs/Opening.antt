@@ -7,6 +7,7 @@ use mathlib.Core.List.{List}
 use lib.Dec.{T}
 use lib.ListN.{length}
 use Rattle.open_table.specs.declared.Opening.{Opening}
+use Rattle.open_table.specs.declared.SetOpening.{SetOpening}
 use Rattle.model.specs.Model.{Geometry, Label, Volume, format0s, label, slots, tracks}
 use Rattle.rules.specs.Layout.{encode, format1, format3}
 use Rattle.rules.specs.Reading.{chop, read, readGeometry}
@@ -15,7 +16,7 @@ use Rattle.rules.specs.Table.{goodLength, tableRefusal, taken}
 use Rattle.rules.specs.Predicates.{GoodLabel, Limits, Valid}
 use Rattle.rules.specs.Sound.{Sound}
 use Rattle.dscb.specs.Records.{slotBytes}
-use Rattle.names.specs.Find.{Answer, inSlot, notFound}
+use Rattle.names.specs.Find.{Answer, findSlot, inSlot, notFound}
 use Rattle.dscb.specs.Forms.{geometryOf}
 use Rattle.check_table.specs.Check.{Shown, TellsVolume}
 
@@ -102,3 +103,25 @@ pub record FoundAt (t : List ℕ) (v : Volume) (name : List ℕ) (k : ℕ) : Typ
 abbrev pub foundSlot : Option Label → Answer
 foundSlot none = notFound
 foundSlot (some l) = inSlot (l .slot)
+
+-- ---- a call on one data set
+
+-- the table was opened, as `opening` tells, and then the name was looked up
+pub record OpenedSet (t : List ℕ) (ok good : Bool) (name m m′ s s′ : List ℕ) (r : SetOpening) : Type 0 where
+  pub opening : Opening
+  pub opened : Opened t ok good opening
+  pub mapped : Mapped t m m′ s s′ (opening .refusal)
+  pub early : (opening .refusal ≡ 0 → ⊥) → r .refusal ≡ opening .refusal
+  pub absent : opening .refusal ≡ 0 → (r .refusal ≡ 0 → ⊥) → (r .refusal ≡ 5) × (notFound ≡ findSlot t name (slots (geometryOf (opening .geometry))))
+  pub there : r .refusal ≡ 0 → (opening .refusal ≡ 0) × (r .geometry ≡ opening .geometry) × (inSlot (r .slot) ≡ findSlot t name (slots (geometryOf (opening .geometry))))
+
+-- NOTHING HAS REFUSED the call: the data set of this name is in the slot that is told, in a table of the geometry that is told
+pub record KnownAt (t name m s : List ℕ) (r : SetOpening) : Type 0 where
+  pub isTaken : T (taken t)
+  pub ready : Ready t (read t)
+  pub geometryIs : geometryOf (r .geometry) ≡ read t .geometry
+  pub limits : Limits (geometryOf (r .geometry))
+  pub long : length t ≡ 140 * slots (geometryOf (r .geometry))
+  pub maps : KnownMaps t m s (geometryOf (r .geometry))
+  pub it : FoundAt t (read t) name (r .slot)
+  pub inside : r .slot < slots (geometryOf (r .geometry))

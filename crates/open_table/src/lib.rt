@@ -17,7 +17,7 @@ ghost use Rattle.dscb.specs.Records.{slotBytes};
 ghost use Rattle.names.specs.Find.{answerOf, findSlot, isNothing};
 ghost use Rattle.dscb.specs.Forms.{geometryOf};
 ghost use Rattle.check_table.specs.Check.{Roomy};
-ghost use Rattle.open_table.specs.Opening.{AndNamed, Mapped, Opened};
+ghost use Rattle.open_table.specs.Opening.{AndNamed, Mapped, Opened, OpenedSet};
 
 // Whether the answer and a name have the lengths that they must have.
 pub fn answer_and_name(answer: usize, name: usize) -> bool
@@ -162,4 +162,46 @@ pub fn on_volume(table: &[u8], g: Geometry, name: &[u8]) -> bool
         return false;
     };
     true
+}
+
+// What a call on one data set is told: the refusal, 0 for none, and where it is 0 the table's geometry and the slot of the data set's
+// format 1. Where the call is refused these are any numbers.
+pub struct SetOpening {
+    pub refusal: u32,
+    pub geometry: Geometry,
+    pub slot: usize,
+}
+
+// 0, 2, 3, 4 or 5, for a call that changes one data set: the table opened under its name, and the data set looked up.
+pub fn open_set(
+    table: &[u8],
+    name: &[u8],
+    lengths: bool,
+    free_tracks: &mut [u64],
+    free_slots: &mut [u64],
+) -> SetOpening
+    requires { ⌜ Roomy (now table) (now «free_tracks») × (length (now «free_slots») ≡ 8) ⌝ }
+    ensures { λ r. ⌜ OpenedSet (now (table .entry)) lengths (goodName (now (name .entry))) (now (name .entry)) (now («free_tracks» .entry)) (now («free_tracks» .exit)) (now («free_slots» .entry)) (now («free_slots» .exit)) r ⌝ }
+{
+    let opening = open_named(table, name, lengths, free_tracks, free_slots);
+    let geometry = opening.geometry;
+    if opening.refusal != 0 {
+        return SetOpening {
+            refusal: opening.refusal,
+            geometry,
+            slot: 0,
+        };
+    }
+    let Found::Slot(slot) = look_up(table, geometry, name) else {
+        return SetOpening {
+            refusal: E_NOT_FOUND,
+            geometry,
+            slot: 0,
+        };
+    };
+    SetOpening {
+        refusal: 0,
+        geometry,
+        slot,
+    }
 }

@@ -144,22 +144,15 @@ fn do_preview_allocate(asked: &[u8], table: &[u8], answer: &mut [u8]) -> u32
 {
     let n = replay_record::table_lent(asked);
     let k = replay_record::answer_lent(asked);
-    let kind = replay_record::four(asked, 8);
-    let start = replay_record::four(asked, 12);
-    let amount = replay_record::four(asked, 16);
-    let secondary = replay_record::four(asked, 20);
-    let option = replay_record::four(asked, 24);
-    let name = replay_record::name_of(asked);
-    let attributes = replay_record::other_of(asked);
     vtoc::vtoc_preview_allocate(
         &table[..n],
-        name,
-        attributes,
-        kind,
-        start,
-        amount,
-        secondary,
-        option,
+        replay_record::name_of(asked),
+        replay_record::other_of(asked),
+        replay_record::four(asked, 8),
+        replay_record::four(asked, 12),
+        replay_record::four(asked, 16),
+        replay_record::four(asked, 20),
+        replay_record::four(asked, 24),
         &mut answer[..k],
     )
 }
@@ -170,11 +163,7 @@ fn do_preview_extend(asked: &[u8], table: &[u8], answer: &mut [u8]) -> u32
 {
     let n = replay_record::table_lent(asked);
     let k = replay_record::answer_lent(asked);
-    vtoc::vtoc_preview_extend(
-        &table[..n],
-        replay_record::name_of(asked),
-        &mut answer[..k],
-    )
+    vtoc::vtoc_preview_extend(&table[..n], replay_record::name_of(asked), &mut answer[..k])
 }
 
 fn do_preview_release(asked: &[u8], table: &[u8], answer: &mut [u8]) -> u32
@@ -183,11 +172,10 @@ fn do_preview_release(asked: &[u8], table: &[u8], answer: &mut [u8]) -> u32
 {
     let n = replay_record::table_lent(asked);
     let k = replay_record::answer_lent(asked);
-    let ttr = replay_record::four(asked, 8);
     vtoc::vtoc_preview_release(
         &table[..n],
         replay_record::name_of(asked),
-        ttr,
+        replay_record::four(asked, 8),
         &mut answer[..k],
     )
 }
@@ -198,11 +186,7 @@ fn do_preview_scratch(asked: &[u8], table: &[u8], answer: &mut [u8]) -> u32
 {
     let n = replay_record::table_lent(asked);
     let k = replay_record::answer_lent(asked);
-    vtoc::vtoc_preview_scratch(
-        &table[..n],
-        replay_record::name_of(asked),
-        &mut answer[..k],
-    )
+    vtoc::vtoc_preview_scratch(&table[..n], replay_record::name_of(asked), &mut answer[..k])
 }
 
 // ---- by the operation

@@ -143,9 +143,9 @@ none-noticed t (e ∷ es) rest r (inl o) =
     let c : Call = o .0 .0 in
     let d : Did (performs (preview c)) t e = subst (λ (z : Deed). Did z t e) (o .0 .1) (r .0) in
     let same : tableThen (e .deed) (e .number) t (e .table′) ≡ t =
-        ap (λ (z : Deed). tableThen z (e .number) t (e .table′)) (o .0 .1) ∙ preview-table c t e d in
+    ap (λ (z : Deed). tableThen z (e .number) t (e .table′)) (o .0 .1) ∙ preview-table c t e d in
     let books : (b : Option Books) → booked (e .deed) (e .number) (e .answer′) b ≡ b =
-        λ b. ap (λ (z : Deed). booked z (e .number) (e .answer′) b) (o .0 .1) ∙ preview-books c (e .number) (e .answer′) b in
+    λ b. ap (λ (z : Deed). booked z (e .number) (e .answer′) b) (o .0 .1) ∙ preview-books c (e .number) (e .answer′) b in
     let u : Unnoticed t es rest = none-noticed t es rest (subst (λ (z : List ℕ). Ran z es) same (r .1)) (o .1) in
     record {
       ran = u .ran;

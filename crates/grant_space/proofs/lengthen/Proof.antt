@@ -10,11 +10,8 @@ set-at-requires c κs =
     let top = c .before .before .before .before .before in
     (limits (top .pre), long (top .pre), inside (top .pre))
 
-slice-aggregate-three : tie.Need-slice-aggregate-three
-slice-aggregate-three c = search needs
-
-three-requires : tie.Need-three-requires
-three-requires c κs = search needs
+asked-more-requires : tie.Need-asked-more-requires
+asked-more-requires c κs = search needs
 
 same-length : tie.Need-same-length
 same-length c = search needs
@@ -22,24 +19,17 @@ same-length c = search needs
 returns : tie.Need-returns
 returns c =
     let at-if1 = c in
-    let at-three = at-if1 .before in
-    let at-set-at = at-three .before .before .before .before in
-    λ d. no-secondary d (at-set-at .set-at .ensures) _ (at-three .three .ensures .0) (at-if1 .if1 .taken)
-
-array-read-secondary-of : tie.Need-array-read-secondary-of
-array-read-secondary-of c = search needs
-
-secondary-of-requires : tie.Need-secondary-of-requires
-secondary-of-requires c κs = search needs
+    let at-asked-more = at-if1 .before .before in
+    let at-set-at = at-asked-more .before .before .before .before in
+    λ d. no-secondary d (at-set-at .set-at .ensures) (at-asked-more .asked-more .ensures) (at-if1 .if1 .taken)
 
 fulfil-requires : tie.Need-fulfil-requires
 fulfil-requires c κs =
-    let at-secondary-of = c .before .before in
-    let at-if1 = at-secondary-of .before in
-    let at-three = at-if1 .before in
-    let at-set-at = at-three .before .before .before .before in
+    let at-if1 = c .before .before in
+    let at-asked-more = at-if1 .before .before in
+    let at-set-at = at-asked-more .before .before .before .before in
     let top = at-set-at .before .before .before .before .before .before in
-    (limits (top .pre), top .pre .mapFits, asks (top .pre) (at-set-at .set-at .ensures) _ (at-three .three .ensures .0) (at-if1 .if1 .left) _ refl _ (at-secondary-of .secondary-of .ensures), long (top .pre), (_, lists (top .pre)))
+    (limits (top .pre), top .pre .mapFits, asks (top .pre) (at-set-at .set-at .ensures) (at-asked-more .asked-more .ensures) (at-if1 .if1 .left), long (top .pre), (_, lists (top .pre)))
 
 seeker-of-requires : tie.Need-seeker-of-requires
 seeker-of-requires c κs = search needs
@@ -51,14 +41,13 @@ decide-requires : tie.Need-decide-requires
 decide-requires c κs =
     let at-seeker-of = c .before .before .before .before .before in
     let at-fulfil = at-seeker-of .before in
-    let at-secondary-of = at-fulfil .before .before .before in
-    let at-if1 = at-secondary-of .before in
-    let at-three = at-if1 .before in
-    let at-set-at = at-three .before .before .before .before in
+    let at-if1 = at-fulfil .before .before .before in
+    let at-asked-more = at-if1 .before .before in
+    let at-set-at = at-asked-more .before .before .before .before in
     let top = at-set-at .before .before .before .before .before .before in
     let many = at-seeker-of .seeker-of .ensures .2 in (
       (limits (top .pre), long (top .pre), top .pre .mapFits, top .pre .longSlots, refl, omega (arith, extents-most (top .pre) (at-set-at .set-at .ensures)), top .pre .longAnswer),
-      seeks (top .pre) (at-set-at .set-at .ensures) _ (at-three .three .ensures .0) (at-if1 .if1 .left) _ refl _ (at-secondary-of .secondary-of .ensures) (at-fulfil .fulfil .ensures) _ (at-seeker-of .seeker-of .ensures),
+      seeks (top .pre) (at-set-at .set-at .ensures) (at-asked-more .asked-more .ensures) (at-if1 .if1 .left) (at-fulfil .fulfil .ensures) _ (at-seeker-of .seeker-of .ensures),
     )
 
 same-length-2 : tie.Need-same-length-2
@@ -79,11 +68,10 @@ returns-2 c =
     let at-decide = at-if2 .before .before .before .before .before .before .before .before .before in
     let at-seeker-of = at-decide .before .before .before .before .before .before in
     let at-fulfil = at-seeker-of .before in
-    let at-secondary-of = at-fulfil .before .before .before in
-    let at-if1 = at-secondary-of .before in
-    let at-three = at-if1 .before in
-    let at-set-at = at-three .before .before .before .before in
-    λ d. declines d (at-set-at .set-at .ensures) _ (at-three .three .ensures .0) (at-if1 .if1 .left) _ refl _ (at-secondary-of .secondary-of .ensures) (at-fulfil .fulfil .ensures) _ (at-seeker-of .seeker-of .ensures) (at-decide .decide .ensures) (at-if2 .if2 .taken)
+    let at-if1 = at-fulfil .before .before .before in
+    let at-asked-more = at-if1 .before .before in
+    let at-set-at = at-asked-more .before .before .before .before in
+    λ d. declines d (at-set-at .set-at .ensures) (at-asked-more .asked-more .ensures) (at-if1 .if1 .left) (at-fulfil .fulfil .ensures) _ (at-seeker-of .seeker-of .ensures) (at-decide .decide .ensures) (at-if2 .if2 .taken)
 
 slice-aggregate-write-grant : tie.Need-slice-aggregate-write-grant
 slice-aggregate-write-grant c = search needs
@@ -94,17 +82,16 @@ write-grant-requires c κs =
     let at-decide = at-if2 .before .before .before .before .before .before .before .before .before in
     let at-seeker-of = at-decide .before .before .before .before .before .before in
     let at-fulfil = at-seeker-of .before in
-    let at-secondary-of = at-fulfil .before .before .before in
-    let at-if1 = at-secondary-of .before in
-    let at-three = at-if1 .before in
-    let at-set-at = at-three .before .before .before .before in
+    let at-if1 = at-fulfil .before .before .before in
+    let at-asked-more = at-if1 .before .before in
+    let at-set-at = at-asked-more .before .before .before .before in
     let top = at-set-at .before .before .before .before .before .before in
     let found = at-seeker-of .seeker-of .ensures in
-    let x = planned (top .pre) (at-set-at .set-at .ensures) _ (at-three .three .ensures .0) (at-if1 .if1 .left) _ refl _ (at-secondary-of .secondary-of .ensures) (at-fulfil .fulfil .ensures) _ (at-seeker-of .seeker-of .ensures) (at-decide .decide .ensures) (at-if2 .if2 .left) in
+    let x = planned (top .pre) (at-set-at .set-at .ensures) (at-asked-more .asked-more .ensures) (at-if1 .if1 .left) (at-fulfil .fulfil .ensures) _ (at-seeker-of .seeker-of .ensures) (at-decide .decide .ensures) (at-if2 .if2 .left) in
     let same = x .slotSame in
     let same3 = x .slot3Same in (
       (limits (top .pre), long (top .pre), map-fits (top .pre) _ (x .plans .took .long), omega (arith, found .0, inside (top .pre)), omega (arith, found .1, third-inside (top .pre) (at-set-at .set-at .ensures)), x .few, x .most, one-long (top .pre) (at-set-at .set-at .ensures), three-long (top .pre) (at-set-at .set-at .ensures)),
-      grant-writes (top .pre) (at-set-at .set-at .ensures) _ (at-three .three .ensures .0) (at-if1 .if1 .left) _ refl _ (at-secondary-of .secondary-of .ensures) (at-fulfil .fulfil .ensures) _ (at-seeker-of .seeker-of .ensures) (at-decide .decide .ensures) (at-if2 .if2 .left),
+      grant-writes (top .pre) (at-set-at .set-at .ensures) (at-asked-more .asked-more .ensures) (at-if1 .if1 .left) (at-fulfil .fulfil .ensures) _ (at-seeker-of .seeker-of .ensures) (at-decide .decide .ensures) (at-if2 .if2 .left),
     )
 
 same-length-6 : tie.Need-same-length-6
@@ -126,23 +113,19 @@ returns-3 c =
     let at-decide = at-if2 .before .before .before .before .before .before .before .before .before in
     let at-seeker-of = at-decide .before .before .before .before .before .before in
     let at-fulfil = at-seeker-of .before in
-    let at-secondary-of = at-fulfil .before .before .before in
-    let at-if1 = at-secondary-of .before in
-    let at-three = at-if1 .before in
-    let at-set-at = at-three .before .before .before .before in
-    λ d. lengthened d (at-set-at .set-at .ensures) _ (at-three .three .ensures .0) (at-if1 .if1 .left) _ refl _ (at-secondary-of .secondary-of .ensures) (at-fulfil .fulfil .ensures) _ (at-seeker-of .seeker-of .ensures) (at-decide .decide .ensures) (at-if2 .if2 .left) _ (at-write-grant .write-grant .ensures)
+    let at-if1 = at-fulfil .before .before .before in
+    let at-asked-more = at-if1 .before .before in
+    let at-set-at = at-asked-more .before .before .before .before in
+    λ d. lengthened d (at-set-at .set-at .ensures) (at-asked-more .asked-more .ensures) (at-if1 .if1 .left) (at-fulfil .fulfil .ensures) _ (at-seeker-of .seeker-of .ensures) (at-decide .decide .ensures) (at-if2 .if2 .left) _ (at-write-grant .write-grant .ensures)
 
 pub lengthen-spec : {M : Type 1} → statement M
 lengthen-spec =
     tie.close
     (tie.spec
     set-at-requires
-    slice-aggregate-three
-    three-requires
+    asked-more-requires
     same-length
     returns
-    array-read-secondary-of
-    secondary-of-requires
     fulfil-requires
     seeker-of-requires
     slice-aggregate-decide

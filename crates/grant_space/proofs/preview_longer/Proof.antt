@@ -10,33 +10,23 @@ set-at-requires c κs =
     let top = c .before .before .before .before in
     (limits (top .pre), long (top .pre), inside (top .pre))
 
-slice-aggregate-three : tie.Need-slice-aggregate-three
-slice-aggregate-three c = search needs
-
-three-requires : tie.Need-three-requires
-three-requires c κs = search needs
+asked-more-requires : tie.Need-asked-more-requires
+asked-more-requires c κs = search needs
 
 returns : tie.Need-returns
 returns c =
     let at-if1 = c in
-    let at-three = at-if1 .before in
-    let at-set-at = at-three .before .before .before in
-    λ d. no-secondary-foreseen d (at-set-at .set-at .ensures) _ (at-three .three .ensures .0) (at-if1 .if1 .taken)
-
-array-read-secondary-of : tie.Need-array-read-secondary-of
-array-read-secondary-of c = search needs
-
-secondary-of-requires : tie.Need-secondary-of-requires
-secondary-of-requires c κs = search needs
+    let at-asked-more = at-if1 .before .before in
+    let at-set-at = at-asked-more .before .before .before in
+    λ d. no-secondary-foreseen d (at-set-at .set-at .ensures) (at-asked-more .asked-more .ensures) (at-if1 .if1 .taken)
 
 fulfil-requires : tie.Need-fulfil-requires
 fulfil-requires c κs =
-    let at-secondary-of = c .before in
-    let at-if1 = at-secondary-of .before in
-    let at-three = at-if1 .before in
-    let at-set-at = at-three .before .before .before in
+    let at-if1 = c .before in
+    let at-asked-more = at-if1 .before .before in
+    let at-set-at = at-asked-more .before .before .before in
     let top = at-set-at .before .before .before .before .before in
-    (limits (top .pre), top .pre .mapFits, asks (top .pre) (at-set-at .set-at .ensures) _ (at-three .three .ensures .0) (at-if1 .if1 .left) _ refl _ (at-secondary-of .secondary-of .ensures), long (top .pre), (_, lists (top .pre)))
+    (limits (top .pre), top .pre .mapFits, asks (top .pre) (at-set-at .set-at .ensures) (at-asked-more .asked-more .ensures) (at-if1 .if1 .left), long (top .pre), (_, lists (top .pre)))
 
 seeker-of-requires : tie.Need-seeker-of-requires
 seeker-of-requires c κs = search needs
@@ -48,14 +38,13 @@ decide-requires : tie.Need-decide-requires
 decide-requires c κs =
     let at-seeker-of = c .before .before .before .before in
     let at-fulfil = at-seeker-of .before in
-    let at-secondary-of = at-fulfil .before .before in
-    let at-if1 = at-secondary-of .before in
-    let at-three = at-if1 .before in
-    let at-set-at = at-three .before .before .before in
+    let at-if1 = at-fulfil .before .before in
+    let at-asked-more = at-if1 .before .before in
+    let at-set-at = at-asked-more .before .before .before in
     let top = at-set-at .before .before .before .before .before in
     let many = at-seeker-of .seeker-of .ensures .2 in (
       (limits (top .pre), long (top .pre), top .pre .mapFits, top .pre .longSlots, refl, omega (arith, extents-most (top .pre) (at-set-at .set-at .ensures)), top .pre .longAnswer),
-      seeks (top .pre) (at-set-at .set-at .ensures) _ (at-three .three .ensures .0) (at-if1 .if1 .left) _ refl _ (at-secondary-of .secondary-of .ensures) (at-fulfil .fulfil .ensures) _ (at-seeker-of .seeker-of .ensures),
+      seeks (top .pre) (at-set-at .set-at .ensures) (at-asked-more .asked-more .ensures) (at-if1 .if1 .left) (at-fulfil .fulfil .ensures) _ (at-seeker-of .seeker-of .ensures),
     )
 
 same-length : tie.Need-same-length
@@ -72,22 +61,18 @@ returns-2 c =
     let at-decide = c .before .before .before .before .before .before .before in
     let at-seeker-of = at-decide .before .before .before .before .before in
     let at-fulfil = at-seeker-of .before in
-    let at-secondary-of = at-fulfil .before .before in
-    let at-if1 = at-secondary-of .before in
-    let at-three = at-if1 .before in
-    let at-set-at = at-three .before .before .before in
-    λ d. foreseen d (at-set-at .set-at .ensures) _ (at-three .three .ensures .0) (at-if1 .if1 .left) _ refl _ (at-secondary-of .secondary-of .ensures) (at-fulfil .fulfil .ensures) _ (at-seeker-of .seeker-of .ensures) (at-decide .decide .ensures)
+    let at-if1 = at-fulfil .before .before in
+    let at-asked-more = at-if1 .before .before in
+    let at-set-at = at-asked-more .before .before .before in
+    λ d. foreseen d (at-set-at .set-at .ensures) (at-asked-more .asked-more .ensures) (at-if1 .if1 .left) (at-fulfil .fulfil .ensures) _ (at-seeker-of .seeker-of .ensures) (at-decide .decide .ensures)
 
 pub preview-longer-spec : {M : Type 1} → statement M
 preview-longer-spec =
     tie.close
     (tie.spec
     set-at-requires
-    slice-aggregate-three
-    three-requires
+    asked-more-requires
     returns
-    array-read-secondary-of
-    secondary-of-requires
     fulfil-requires
     seeker-of-requires
     slice-aggregate-decide

@@ -13,6 +13,18 @@ table-lent-requires c κs = search needs
 answer-lent-requires : tie.Need-answer-lent-requires
 answer-lent-requires c κs = search needs
 
+slice-aggregate-vtoc-preview-allocate : tie.Need-slice-aggregate-vtoc-preview-allocate
+slice-aggregate-vtoc-preview-allocate c =
+    let at-table-lent = c .before .before in
+    let top = at-table-lent .before .before .before .before in
+    lent-long _ 65536 (top .args .table .now) (top .pre .1) (let h = at-table-lent .table-lent .ensures .1 in omega arith)
+
+name-of-requires : tie.Need-name-of-requires
+name-of-requires c κs = search needs
+
+other-of-requires : tie.Need-other-of-requires
+other-of-requires c κs = search needs
+
 four-requires : tie.Need-four-requires
 four-requires c κs = search needs
 
@@ -27,18 +39,6 @@ four-requires-4 c κs = search needs
 
 four-requires-5 : tie.Need-four-requires-5
 four-requires-5 c κs = search needs
-
-name-of-requires : tie.Need-name-of-requires
-name-of-requires c κs = search needs
-
-other-of-requires : tie.Need-other-of-requires
-other-of-requires c κs = search needs
-
-slice-aggregate-vtoc-preview-allocate : tie.Need-slice-aggregate-vtoc-preview-allocate
-slice-aggregate-vtoc-preview-allocate c =
-    let at-table-lent = c .before .before .before .before .before .before .before .before .before in
-    let top = at-table-lent .before .before .before .before in
-    lent-long _ 65536 (top .args .table .now) (top .pre .1) (let h = at-table-lent .table-lent .ensures .1 in omega arith)
 
 slice-relend-prefix-vtoc-preview-allocate : tie.Need-slice-relend-prefix-vtoc-preview-allocate
 slice-relend-prefix-vtoc-preview-allocate c = search needs
@@ -58,14 +58,14 @@ same-length c = search needs
 returns : tie.Need-returns
 returns c =
     let at-vtoc-preview-allocate = c .before .before in
-    let at-other-of = at-vtoc-preview-allocate .before .before .before in
-    let at-name-of = at-other-of .before in
-    let at-four5 = at-name-of .before in
+    let at-four5 = at-vtoc-preview-allocate .before .before in
     let at-four4 = at-four5 .before in
     let at-four3 = at-four4 .before in
     let at-four2 = at-four3 .before in
     let at-four = at-four2 .before in
-    let at-answer-lent = at-four .before in
+    let at-other-of = at-four .before in
+    let at-name-of = at-other-of .before in
+    let at-answer-lent = at-name-of .before .before in
     let at-table-lent = at-answer-lent .before in
     let top = at-table-lent .before .before .before .before in
     reads-call (preview (allocate (requestOf (top .args .asked .now)))) (top .args .asked .now) (top .args .table .now) (top .args .answer .now) _ _ (ap preview (same-request (at-name-of .name-of .ensures) (at-other-of .other-of .ensures) (at-four .four .ensures) (at-four2 .four2 .ensures) (at-four3 .four3 .ensures) (at-four4 .four4 .ensures) (at-four5 .four5 .ensures))) (at-table-lent .table-lent .ensures .0) (at-answer-lent .answer-lent .ensures .0) (at-vtoc-preview-allocate .vtoc-preview-allocate .ensures)
@@ -76,14 +76,14 @@ do-preview-allocate-spec =
     (tie.spec
     table-lent-requires
     answer-lent-requires
+    slice-aggregate-vtoc-preview-allocate
+    name-of-requires
+    other-of-requires
     four-requires
     four-requires-2
     four-requires-3
     four-requires-4
     four-requires-5
-    name-of-requires
-    other-of-requires
-    slice-aggregate-vtoc-preview-allocate
     slice-relend-prefix-vtoc-preview-allocate
     slice-aggregate-vtoc-preview-allocate-2
     vtoc-preview-allocate-requires

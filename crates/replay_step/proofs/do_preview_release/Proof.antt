@@ -15,17 +15,17 @@ table-lent-requires c κs = search needs
 answer-lent-requires : tie.Need-answer-lent-requires
 answer-lent-requires c κs = search needs
 
-four-requires : tie.Need-four-requires
-four-requires c κs = search needs
-
 slice-aggregate-vtoc-preview-release : tie.Need-slice-aggregate-vtoc-preview-release
 slice-aggregate-vtoc-preview-release c =
-    let at-table-lent = c .before .before .before in
+    let at-table-lent = c .before .before in
     let top = at-table-lent .before .before .before .before in
     lent-long _ 65536 (top .args .table .now) (top .pre .1) (let h = at-table-lent .table-lent .ensures .1 in omega arith)
 
 name-of-requires : tie.Need-name-of-requires
 name-of-requires c κs = search needs
+
+four-requires : tie.Need-four-requires
+four-requires c κs = search needs
 
 slice-relend-prefix-vtoc-preview-release : tie.Need-slice-relend-prefix-vtoc-preview-release
 slice-relend-prefix-vtoc-preview-release c = search needs
@@ -45,9 +45,9 @@ same-length c = search needs
 returns : tie.Need-returns
 returns c =
     let at-vtoc-preview-release = c .before .before in
-    let at-name-of = at-vtoc-preview-release .before .before in
-    let at-four = at-name-of .before .before in
-    let at-answer-lent = at-four .before in
+    let at-four = at-vtoc-preview-release .before .before in
+    let at-name-of = at-four .before in
+    let at-answer-lent = at-name-of .before .before in
     let at-table-lent = at-answer-lent .before in
     let top = at-table-lent .before .before .before .before in
     reads-call (preview (release (nameAsked (top .args .asked .now)) (get4 (top .args .asked .now) 8))) (top .args .asked .now) (top .args .table .now) (top .args .answer .now) _ _ (ap₂ (λ (n : List ℕ) (ttr : ℕ). preview (release n ttr)) (at-name-of .name-of .ensures) (at-four .four .ensures)) (at-table-lent .table-lent .ensures .0) (at-answer-lent .answer-lent .ensures .0) (at-vtoc-preview-release .vtoc-preview-release .ensures)
@@ -58,9 +58,9 @@ do-preview-release-spec =
     (tie.spec
     table-lent-requires
     answer-lent-requires
-    four-requires
     slice-aggregate-vtoc-preview-release
     name-of-requires
+    four-requires
     slice-relend-prefix-vtoc-preview-release
     slice-aggregate-vtoc-preview-release-2
     vtoc-preview-release-requires
