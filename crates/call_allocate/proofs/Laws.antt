@@ -1,6 +1,6 @@
 -- Allocate and its preview as a whole: their refusals in their order. Assumes nothing.
-use mathlib.Core.Path.{_≡_, refl, sym, ap, _∙_, subst}
-use mathlib.Core.Bool.{Bool, true, _&&_}
+use mathlib.Core.Path.{_≡_, refl, sym, ap, _∙_}
+use mathlib.Core.Bool.{Bool, _&&_}
 use mathlib.Core.Option.{some}
 use mathlib.Core.List.{List, []}
 use Prim.Native.Nat.{ℕ}
@@ -10,7 +10,7 @@ use Rattle.open_table.specs.declared.Opening.{Opening}
 use Rattle.model.specs.Choice.{SpaceOption}
 use Rattle.model.specs.Model.{Geometry, Volume}
 use Rattle.model.proofs.Lists.{and-l, and-r, true-is}
-use Rattle.rules.specs.Calls.{Amount, Call, Outcome, Request, allocate, allocateAmount, amountOf, given, inRange, onCopy, optionFor, preview, request, rule}
+use Rattle.rules.specs.Calls.{Amount, Call, Outcome, allocate, allocateAmount, amountOf, given, inRange, onCopy, optionFor, preview, request, rule}
 use Rattle.rules.specs.Entries.{lent, perform, result, written}
 use Rattle.rules.specs.Reading.{read}
 use Rattle.rules.specs.Table.{goodName}

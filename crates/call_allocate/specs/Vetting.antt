@@ -4,7 +4,6 @@ use Prim.Native.Nat.{ℕ}
 use mathlib.Core.Bool.{true, false}
 use mathlib.Core.Option.{some}
 use mathlib.Core.List.{List}
-use lib.Dec.{T}
 use Rattle.model.specs.Basics.{any}
 use Rattle.rules.specs.Calls.{Amount, Outcome, allocateAmount, amountOf, given, inRange, refuse, request}
 use Rattle.rules.specs.Reading.{read}

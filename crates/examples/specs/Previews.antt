@@ -1,6 +1,6 @@
 -- Document 02, [3], on Volume A of document 01: what previews of its steps say, and that they leave the table as it was. Assumes
 -- nothing.
-use Prim.Native.Nat.{ℕ, _+_, _*_}
+use Prim.Native.Nat.{_+_, _*_}
 use mathlib.Core.Bool.{Bool}
 use mathlib.Core.List.{List, [], _∷_}
 use lib.Dec.{T}

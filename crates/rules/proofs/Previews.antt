@@ -2,8 +2,8 @@
 use mathlib.Core.Path.{_≡_, refl, sym, ap, ap₂, _∙_, subst}
 use mathlib.Core.Bool.{Bool, _&&_}
 use mathlib.Core.Option.{Option, none, some}
-use mathlib.Core.List.{List, [], _∷_, _++_}
-use mathlib.Core.Logic.{_⊎_, inl, inr}
+use mathlib.Core.List.{List, [], _∷_}
+use mathlib.Core.Logic.{inl, inr}
 use Prim.Native.Nat.{ℕ, zero, suc}
 use native.Mathlib.Omega.{arith}
 use lib.ListN.{length}
@@ -16,7 +16,7 @@ use Rattle.rules.specs.Demand3.{Deed, Did, Event, Ran, booked, booksAfte
 use Rattle.rules.specs.Entries.{Lent, Result, goodLengths, lent, otherLengths, perform, result, ruled, written}
 use Rattle.rules.specs.Layout.{encode}
 use Rattle.rules.specs.Ledger.{Books, Effect, book, effect, stays}
-use Rattle.rules.specs.Previews.{AnyPlace, AsOnCopy, EachForetold, Foretells, NoneNoticed, SameReply, TakenOut, Unnoticed, withTable}
+use Rattle.rules.specs.Previews.{AnyPlace, AsOnCopy, EachForetold, Foretells, NoneNoticed, SameReply, Unnoticed, withTable}
 use Rattle.rules.specs.Reading.{read}
 use Rattle.rules.specs.Table.{goodLength, taken}
 use Rattle.rules.proofs.Kept.{Keeps, unless-keeps}

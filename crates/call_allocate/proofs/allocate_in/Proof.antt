@@ -4,7 +4,6 @@ use Rattle.request.specs.Request.{toAmount}
 use Rattle.open_table.proofs.Calls.{refused}
 use Rattle.open_table.proofs.Numbers.{known, known-maps}
 use Rattle.call_allocate.proofs.Laws.{allocates, asking, placed, refused-so}
-use native.Mathlib.Omega.{arith}
 use borrow.Author.Needs.{needs}
 use Rattle.call_allocate.proofs.allocate_in.Statement.{statement}
 use Rattle.call_allocate.proofs.allocate_in.Tie as tie

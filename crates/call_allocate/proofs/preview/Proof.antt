@@ -1,6 +1,5 @@
 use Rattle.check_table.proofs.Room.{roomy-large, roomy-small}
 use mathlib.Core.Path.{refl}
-use native.Mathlib.Omega.{arith}
 use borrow.Author.Needs.{needs}
 use Rattle.call_allocate.proofs.preview.Statement.{statement}
 use Rattle.call_allocate.proofs.preview.Tie as tie

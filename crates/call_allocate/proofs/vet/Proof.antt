@@ -2,7 +2,6 @@ use mathlib.Core.Path.{sym, _∙_}
 use Rattle.choose_pieces.specs.Options.{toOption}
 use Rattle.request.specs.Request.{toAmount}
 use Rattle.call_allocate.proofs.Vetted.{duplicate, out-of-range, unknown, vetted}
-use native.Mathlib.Omega.{arith}
 use borrow.Author.Needs.{needs}
 use Rattle.call_allocate.proofs.vet.Statement.{statement}
 use Rattle.call_allocate.proofs.vet.Tie as tie

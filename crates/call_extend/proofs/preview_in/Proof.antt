@@ -1,7 +1,6 @@
 use mathlib.Core.Path.{refl}
 use Rattle.open_table.proofs.Calls.{set-answer-long, set-done, set-known, set-refused}
 use Rattle.call_extend.proofs.Laws.{longer, previews}
-use native.Mathlib.Omega.{arith}
 use borrow.Author.Needs.{needs}
 use Rattle.call_extend.proofs.preview_in.Statement.{statement}
 use Rattle.call_extend.proofs.preview_in.Tie as tie

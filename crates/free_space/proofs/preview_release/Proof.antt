@@ -1,5 +1,3 @@
-use mathlib.Core.Path.{refl}
-use native.Mathlib.Omega.{arith}
 use borrow.Author.Needs.{needs}
 use Rattle.free_space.proofs.preview_release.Statement.{statement}
 use Rattle.free_space.proofs.preview_release.Tie as tie

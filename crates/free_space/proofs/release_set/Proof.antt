@@ -1,7 +1,7 @@
 use Rattle.free_space.proofs.Decided.{declined}
 use Rattle.free_space.proofs.Release.{cut-done, cut-fits, puts, ttr-fits}
 use Rattle.free_space.proofs.Laws.{slot-inside, slot3-inside}
-use mathlib.Core.Path.{ap, refl, _∙_}
+use mathlib.Core.Path.{ap, _∙_}
 use lib.ListN.{length}
 use native.Mathlib.Omega.{arith}
 use borrow.Author.Needs.{needs}

@@ -1,6 +1,5 @@
 use mathlib.Core.Path.{refl}
 use Rattle.grant_space.proofs.MoreSpace.{asks-none, asks-some}
-use native.Mathlib.Omega.{arith}
 use borrow.Author.Needs.{needs}
 use Rattle.grant_space.proofs.asked_more.Statement.{statement}
 use Rattle.grant_space.proofs.asked_more.Tie as tie

@@ -2,7 +2,6 @@ use mathlib.Core.Path.{refl, sym, ap, _∙_}
 use Rattle.names.specs.Find.{answerOf}
 use Rattle.open_table.proofs.Calls.{opened-absent, opened-early, opened-there}
 use Rattle.open_table.proofs.Numbers.{known}
-use native.Mathlib.Omega.{arith}
 use borrow.Author.Needs.{needs}
 use Rattle.open_table.proofs.open_set.Statement.{statement}
 use Rattle.open_table.proofs.open_set.Tie as tie

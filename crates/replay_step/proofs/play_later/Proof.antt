@@ -1,6 +1,5 @@
 use Rattle.rules.specs.Entries.{lent}
 use Rattle.replay_step.proofs.Laws.{op-5, op-6, op-7, op-8, op-9, op-preview}
-use native.Mathlib.Omega.{arith}
 use borrow.Author.Needs.{needs}
 use Rattle.replay_step.proofs.play_later.Statement.{statement}
 use Rattle.replay_step.proofs.play_later.Tie as tie

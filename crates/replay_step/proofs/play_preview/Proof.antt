@@ -1,7 +1,6 @@
 use mathlib.Core.Path.{refl}
 use Rattle.rules.specs.Entries.{lent}
 use Rattle.replay_step.proofs.Laws.{op-130, op-131, op-132, op-133, op-other}
-use native.Mathlib.Omega.{arith}
 use borrow.Author.Needs.{needs}
 use Rattle.replay_step.proofs.play_preview.Statement.{statement}
 use Rattle.replay_step.proofs.play_preview.Tie as tie
