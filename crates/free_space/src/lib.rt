@@ -206,7 +206,8 @@ pub fn decide(
     if plan.fits {} else {
         return refused(E_VTOC_FULL, set);
     }
-    answers::put_back(answer, set.tracks - keep);
+    let back = set.tracks - keep;
+    answers::put_back(answer, back);
     Decision {
         refusal: 0,
         set,

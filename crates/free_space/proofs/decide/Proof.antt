@@ -69,9 +69,9 @@ returns-2 c =
     let top = at-measure .before .before .before .before .before .before in
     λ d. full-refused d (top .args .ttr) (at-measure .measure .ensures _ _ d) (sym (at-good-ttr .good-ttr .ensures) ∙ at-if1 .if1 .taken) (kept-is (at-measure .measure .ensures _ _ d) (top .args .ttr) _ (at-kept-of .kept-of .ensures)) (at-plan-release .plan-release .ensures) _ _ (at-refused2 .refused2 .ensures) (at-if2 .if2 .left)
 
-sub-put-back : tie.Need-sub-put-back
-sub-put-back c =
-    let at-kept-of = c .before .before .before .before .before .before .before .before .before .before .before .before .before .before in
+sub-back : tie.Need-sub-back
+sub-back c =
+    let at-kept-of = c .before .before .before .before .before .before .before .before .before .before .before .before .before in
     let at-if1 = at-kept-of .before in
     let at-good-ttr = at-if1 .before in
     let at-measure = at-good-ttr .before in
@@ -127,7 +127,7 @@ decide-spec =
     same-length-2
     same-length-3
     returns-2
-    sub-put-back
+    sub-back
     put-back-requires
     same-length-4
     same-length-5
