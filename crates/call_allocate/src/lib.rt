@@ -155,16 +155,7 @@ fn preview_in(
         return refusal;
     }
     let request = request::read_request(kind, start, amount, secondary, option);
-    grant_space::preview_place(
-        table,
-        g,
-        free_tracks,
-        &mut free_slots,
-        name,
-        attributes,
-        request,
-        answer,
-    )
+    grant_space::preview_place(table, g, free_tracks, &mut free_slots, request, answer)
 }
 
 // The preview.

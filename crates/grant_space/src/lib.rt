@@ -9,7 +9,8 @@ use request::Request;
 use update::Home;
 use update::Plan;
 ghost use mathlib.Core.Path.{_≡_};
-ghost use Prim.Native.Nat.{_+_, _*_, _≤_, _<_};
+ghost use Prim.Native.Nat.{ℕ, _+_, _*_, _≤_, _<_};
+ghost use mathlib.Core.List.{List};
 ghost use lib.Dec.{leb};
 ghost use lib.ListN.{length, take};
 ghost use Rattle.model.specs.Model.{slots, tracks};
@@ -212,19 +213,17 @@ pub fn place(
     0
 }
 
-// The same without writing the table.
+// The same without writing the table. Whatever its name and attributes, the pieces are the same.
 pub fn preview_place(
     table: &[u8],
     g: Geometry,
     free_tracks: &mut [u64],
     free_slots: &mut [u64],
-    name: &[u8],
-    attributes: &[u8],
     request: Request,
     answer: &mut [u8],
 ) -> u32
-    requires { ⌜ Asking (now table) (now «free_tracks») (now «free_slots») (now name) (now attributes) (now answer) (geometryOf g) (toOption (request .option)) (toAmount (request .amount)) (request .secondary) ⌝ }
-    ensures { λ r. ⌜ Foresees (now (table .entry)) (now (name .entry)) (now (attributes .entry)) (now (answer .entry)) (toOption (request .option)) (toAmount (request .amount)) (request .secondary) r (now (answer .exit)) ⌝ }
+    requires { ⌜ ((name : List ℕ) × (at : List ℕ) × Asking (now table) (now «free_tracks») (now «free_slots») name at (now answer) (geometryOf g) (toOption (request .option)) (toAmount (request .amount)) (request .secondary)) ⌝ }
+    ensures { λ r. ⌜ ((name at : List ℕ) → Asking (now (table .entry)) (now («free_tracks» .entry)) (now («free_slots» .entry)) name at (now (answer .entry)) (geometryOf g) (toOption (request .option)) (toAmount (request .amount)) (request .secondary) → Foresees (now (table .entry)) name at (now (answer .entry)) (toOption (request .option)) (toAmount (request .amount)) (request .secondary) r (now (answer .exit))) ⌝ }
 {
     let amount = request.amount;
     let option = request.option;
@@ -254,7 +253,7 @@ pub struct More {
     pub option: SpaceOption,
 }
 
-// The same.
+// Reads it off the record.
 fn asked_more(f1: &[u8; 140]) -> More
     requires { ⌜ length (now f1) ≡ 140 ⌝ }
     ensures { λ r. ⌜ AsksMore (now (f1 .entry)) (r .refusal) (toAmount (r .amount)) (toOption (r .option)) ⌝ }

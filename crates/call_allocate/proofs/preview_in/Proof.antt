@@ -66,7 +66,7 @@ preview-place-requires c κs =
     let at-open-named = at-if1 .before .before .before .before .before in
     let at-and-another = at-open-named .before .before .before in
     let top = at-and-another .before .before .before .before .before .before in
-    asking (top .args .table .now) (top .args .name .now) (top .args .attributes .now) (top .args .kind) (top .args .start) (top .args .amount) (top .args .secondary) (top .args .option) (top .args .answer .now) _ (at-and-another .and-another .ensures) (at-open-named .open-named .ensures .0) (at-if1 .if1 .left) (at-vet .vet .ensures) (at-if2 .if2 .left) (toAmount (at-read-request .read-request .result .amount)) (at-read-request .read-request .ensures .0) (toOption (at-read-request .read-request .result .option)) (at-read-request .read-request .ensures .1) _ (at-read-request .read-request .ensures .2) (known-maps (at-open-named .open-named .ensures .0) (at-if1 .if1 .left) (at-open-named .open-named .ensures .1) (top .pre) refl)
+    (_, _, asking (top .args .table .now) (top .args .name .now) (top .args .attributes .now) (top .args .kind) (top .args .start) (top .args .amount) (top .args .secondary) (top .args .option) (top .args .answer .now) _ (at-and-another .and-another .ensures) (at-open-named .open-named .ensures .0) (at-if1 .if1 .left) (at-vet .vet .ensures) (at-if2 .if2 .left) (toAmount (at-read-request .read-request .result .amount)) (at-read-request .read-request .ensures .0) (toOption (at-read-request .read-request .result .option)) (at-read-request .read-request .ensures .1) _ (at-read-request .read-request .ensures .2) (known-maps (at-open-named .open-named .ensures .0) (at-if1 .if1 .left) (at-open-named .open-named .ensures .1) (top .pre) refl))
 
 same-length-3 : tie.Need-same-length-3
 same-length-3 c = search needs
@@ -84,7 +84,7 @@ returns-3 c =
     let at-open-named = at-if1 .before .before .before .before .before in
     let at-and-another = at-open-named .before .before .before in
     let top = at-and-another .before .before .before .before .before .before in
-    foreseen (top .args .table .now) (top .args .name .now) (top .args .attributes .now) (top .args .kind) (top .args .start) (top .args .amount) (top .args .secondary) (top .args .option) (top .args .answer .now) _ (at-and-another .and-another .ensures) (at-open-named .open-named .ensures .0) (at-if1 .if1 .left) (at-vet .vet .ensures) (at-if2 .if2 .left) (toAmount (at-read-request .read-request .result .amount)) (at-read-request .read-request .ensures .0) (toOption (at-read-request .read-request .result .option)) (at-read-request .read-request .ensures .1) _ (at-read-request .read-request .ensures .2) _ _ (at-preview-place .preview-place .ensures)
+    foreseen (top .args .table .now) (top .args .name .now) (top .args .attributes .now) (top .args .kind) (top .args .start) (top .args .amount) (top .args .secondary) (top .args .option) (top .args .answer .now) _ (at-and-another .and-another .ensures) (at-open-named .open-named .ensures .0) (at-if1 .if1 .left) (at-vet .vet .ensures) (at-if2 .if2 .left) (toAmount (at-read-request .read-request .result .amount)) (at-read-request .read-request .ensures .0) (toOption (at-read-request .read-request .result .option)) (at-read-request .read-request .ensures .1) _ (at-read-request .read-request .ensures .2) _ _ (at-preview-place .preview-place .ensures _ _ (asking (top .args .table .now) (top .args .name .now) (top .args .attributes .now) (top .args .kind) (top .args .start) (top .args .amount) (top .args .secondary) (top .args .option) (top .args .answer .now) _ (at-and-another .and-another .ensures) (at-open-named .open-named .ensures .0) (at-if1 .if1 .left) (at-vet .vet .ensures) (at-if2 .if2 .left) (toAmount (at-read-request .read-request .result .amount)) (at-read-request .read-request .ensures .0) (toOption (at-read-request .read-request .result .option)) (at-read-request .read-request .ensures .1) _ (at-read-request .read-request .ensures .2) (known-maps (at-open-named .open-named .ensures .0) (at-if1 .if1 .left) (at-open-named .open-named .ensures .1) (top .pre) refl)))
 
 pub preview-in-spec : {M : Type 1} → statement M
 preview-in-spec =

@@ -7,8 +7,9 @@ use Rattle.grant_space.proofs.preview_place.Tie as tie
 
 fulfil-requires : tie.Need-fulfil-requires
 fulfil-requires c κs =
-    let top = c .before .before .before .before .before .before .before in
-    (limits (top .pre), top .pre .mapFits, asks (top .pre), long (top .pre), (_, lists (top .pre)))
+    let top = c .before .before .before .before .before in
+    let d = top .pre .2 in
+    (limits d, d .mapFits, asks d, long d, (_, lists d))
 
 seeker-of-requires : tie.Need-seeker-of-requires
 seeker-of-requires c κs = search needs
@@ -20,10 +21,11 @@ decide-requires : tie.Need-decide-requires
 decide-requires c κs =
     let at-seeker-of = c .before .before .before .before in
     let at-fulfil = at-seeker-of .before in
-    let top = at-fulfil .before .before .before .before .before .before .before .before in
+    let top = at-fulfil .before .before .before .before .before .before in
+    let d = top .pre .2 in
     let none = at-seeker-of .seeker-of .ensures .2 in (
-      (limits (top .pre), long (top .pre), top .pre .mapFits, top .pre .longSlots, refl, omega arith, top .pre .longAnswer),
-      seeks (top .pre) (at-fulfil .fulfil .ensures) _ (at-seeker-of .seeker-of .ensures),
+      (limits d, long d, d .mapFits, d .longSlots, refl, omega arith, d .longAnswer),
+      seeks d (at-fulfil .fulfil .ensures) _ (at-seeker-of .seeker-of .ensures),
     )
 
 same-length : tie.Need-same-length
@@ -40,8 +42,7 @@ returns c =
     let at-decide = c .before .before .before .before .before .before .before in
     let at-seeker-of = at-decide .before .before .before .before .before in
     let at-fulfil = at-seeker-of .before in
-    let top = at-fulfil .before .before .before .before .before .before .before .before in
-    foreseen (top .pre) (at-fulfil .fulfil .ensures) _ (at-seeker-of .seeker-of .ensures) (at-decide .decide .ensures)
+    λ name at d. foreseen d (at-fulfil .fulfil .ensures) _ (at-seeker-of .seeker-of .ensures) (at-decide .decide .ensures)
 
 pub preview-place-spec : {M : Type 1} → statement M
 preview-place-spec =
