@@ -8,7 +8,7 @@ use native.Mathlib.Nat.{le-refl}
 use native.Mathlib.Omega.{arith}
 use borrow.Author.Tests.{eq-eqb, ne-eqb}
 use Rattle.model.specs.Basics.{bit}
-use Rattle.model.specs.Model.{Run, run, runs, joinIf, covers, Separate}
+use Rattle.model.specs.Model.{Run, run, runs, joinIf, covers, times, Separate}
 use Rattle.model.proofs.Runs.{canonical, runs-separate, runs-times, hit-in, hit-above, below}
 use Rattle.bitmap.specs.Map.{freeBit, isFree, freeFrom, NextRun}
 use Rattle.bitmap.specs.Steps.{First}
@@ -109,3 +109,19 @@ free-from-zero m n = let e : n - 0 ≡ n = omega arith in ap (runs (isFree m) 0)
 pub free-from-end : (m : List ℕ) (n : ℕ) → freeFrom m n n ≡ []
 unfolding freeFrom
 free-from-end m n = let e : n - n ≡ 0 = omega arith in ap (runs (isFree m) n) e
+
+-- ---- where track 0, the label track, is not free, no run begins there
+
+label-missed : (m : List ℕ) (n b : ℕ) → NextRun m n 0 0 b → 0 < n → freeBit m 0 ≡ 0 → ⊥
+unfolding freeFrom
+label-missed m n b r u off =
+    let e = ap (times 0) (r .more u .1) in
+    let free = runs-times (isFree m) 0 (n - 0) 0 (le-refl 0) (omega arith) in
+    let here = hit-in (run 0 (b - 0)) 0 (le-refl 0) (omega (arith, r .more u .0)) in
+    let none = ap bit (not-free m 0 off) in
+    absurd (omega arith)
+
+pub behind-label : (m : List ℕ) (n s a b : ℕ) → NextRun m n s a b → a < n → freeBit m 0 ≡ 0 → 1 ≤ a
+behind-label m n zero zero b r u off = absurd (label-missed m n b r u off)
+behind-label m n (suc s) zero b r u off = absurd (omega (arith, r .from))
+behind-label m n s (suc a) b r u off = omega arith

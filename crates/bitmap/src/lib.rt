@@ -1,5 +1,6 @@
 // A map of bits, 64 to a word: bit t is bit t % 64 of word t / 64, set where a track (or a slot of the table) is free.
-// No loop goes by bits: each turn does the rest of a word.
+// No loop goes by bits: each turn does the rest of a word. Tracks, and the ends of ranges, have 16 bits: no volume has 65,536 tracks. An
+// index of a word is made of one where the map is read.
 ghost use mathlib.Core.Path.{_≡_};
 ghost use mathlib.Core.Bool.{false, true};
 ghost use mathlib.Core.List.{List};
@@ -11,7 +12,7 @@ ghost use Rattle.bitmap.specs.Steps.{WordsAlike, Counts, Ending, First, 
 const ALL: u64 = 0xffff_ffff_ffff_ffff;
 
 // The n tracks of a word from its track `at` on.
-fn mask(at: usize, n: usize) -> u64
+fn mask(at: u16, n: u16) -> u64
     requires { ⌜ (0 < n) × (at + n ≤ 64) ⌝ }
     ensures { λ r. ⌜ r ≡ block at n ⌝ }
 {
@@ -19,7 +20,7 @@ fn mask(at: usize, n: usize) -> u64
 }
 
 // How many tracks from t on lie in t's word and below e.
-fn chunk(t: usize, e: usize) -> usize
+fn chunk(t: u16, e: u16) -> u16
     requires { ⌜ t < e ⌝ }
     ensures { λ r. ⌜ r ≡ min (64 - t % 64) (e - t) ⌝ }
 {
@@ -28,23 +29,23 @@ fn chunk(t: usize, e: usize) -> usize
 }
 
 // Makes the tracks below n free, by whole words: those from n on are not looked at. A small volume costs a few words.
-pub fn free_below(map: &mut [u64], n: usize)
+pub fn free_below(map: &mut [u64], n: u16)
     requires { ⌜ (length (now map) ≤ 1024) × (n ≤ 64 * length (now map)) ⌝ }
     ensures { λ _. ⌜ FreedBelow (now (map .entry)) (now (map .exit)) n ⌝ }
 {
-    let mut w = 0;
-    while w * 64 < n {
+    let mut w: usize = 0;
+    while w * 64 < n as usize {
         map[w] = ALL;
         w += 1;
     }
 }
 
 // Takes the tracks from s up to e, which lie in one word: true if all of them were free.
-fn take_near(map: &mut [u64], s: usize, e: usize) -> bool
+fn take_near(map: &mut [u64], s: u16, e: u16) -> bool
     requires { ⌜ (s < e) × (s % 64 + (e - s) ≤ 64) × (s / 64 < length (now map)) ⌝ }
     ensures { λ r. ⌜ Taken (now (map .entry)) (now (map .exit)) s e r ⌝ }
 {
-    let w = s / 64;
+    let w = (s / 64) as usize;
     let m = mask(s % 64, e - s);
     let x = map[w];
     if x & m != m {
@@ -72,12 +73,12 @@ fn take_words(map: &mut [u64], w: usize, v: usize) -> bool
 
 // Takes the tracks from s up to e, which do not lie in one word: those of the first word and of the last, then those between. Most
 // lie in two words.
-fn take_far(map: &mut [u64], s: usize, e: usize) -> bool
+fn take_far(map: &mut [u64], s: u16, e: u16) -> bool
     requires { ⌜ (s < e) × (s / 64 < (e - 1) / 64) × (e ≤ 64 * length (now map)) ⌝ }
     ensures { λ r. ⌜ Taken (now (map .entry)) (now (map .exit)) s e r ⌝ }
 {
-    let w = s / 64;
-    let v = (e - 1) / 64;
+    let w = (s / 64) as usize;
+    let v = ((e - 1) / 64) as usize;
     let a = mask(s % 64, 64 - s % 64);
     let b = mask(0, (e - 1) % 64 + 1);
     let x = map[w];
@@ -91,7 +92,7 @@ fn take_far(map: &mut [u64], s: usize, e: usize) -> bool
 }
 
 // Takes the tracks from s up to e: true if all of them were free. Most extents are short: they need no loop.
-pub fn take_range(map: &mut [u64], s: usize, e: usize) -> bool
+pub fn take_range(map: &mut [u64], s: u16, e: u16) -> bool
     requires { ⌜ (s ≤ e) × (e ≤ 64 * length (now map)) ⌝ }
     ensures { λ r. ⌜ Taken (now (map .entry)) (now (map .exit)) s e r ⌝ }
 {
@@ -105,30 +106,30 @@ pub fn take_range(map: &mut [u64], s: usize, e: usize) -> bool
 }
 
 // Makes the tracks from s up to e free, which lie in one word.
-fn give_near(map: &mut [u64], s: usize, e: usize)
+fn give_near(map: &mut [u64], s: u16, e: u16)
     requires { ⌜ (s < e) × (s % 64 + (e - s) ≤ 64) × (s / 64 < length (now map)) ⌝ }
     ensures { λ _. ⌜ Given (now (map .entry)) (now (map .exit)) s e ⌝ }
 {
-    let w = s / 64;
+    let w = (s / 64) as usize;
     map[w] = map[w] | mask(s % 64, e - s);
 }
 
 // The same for any number of tracks, word by word.
-fn give_far(map: &mut [u64], s: usize, e: usize)
+fn give_far(map: &mut [u64], s: u16, e: u16)
     requires { ⌜ (s ≤ e) × (e ≤ 64 * length (now map)) ⌝ }
     ensures { λ _. ⌜ Given (now (map .entry)) (now (map .exit)) s e ⌝ }
 {
     let mut t = s;
     while t < e {
         let n = chunk(t, e);
-        let w = t / 64;
+        let w = (t / 64) as usize;
         map[w] = map[w] | mask(t % 64, n);
         t += n;
     }
 }
 
 // Makes the tracks from s up to e free. One track, and most extents, need no loop.
-pub fn give_range(map: &mut [u64], s: usize, e: usize)
+pub fn give_range(map: &mut [u64], s: u16, e: u16)
     requires { ⌜ (s ≤ e) × (e ≤ 64 * length (now map)) ⌝ }
     ensures { λ _. ⌜ Given (now (map .entry)) (now (map .exit)) s e ⌝ }
 {
@@ -150,17 +151,17 @@ fn flip(x: u64, free: bool) -> u64
 
 // Tracks from the first up to the one behind the last.
 pub struct Span {
-    pub from: usize,
-    pub to: usize,
+    pub from: u16,
+    pub to: u16,
 }
 
 // The tracks from t on that lie in its word, at their places in it; the bits before t are clear.
-pub fn rest_of(map: &[u64], t: usize, n: usize) -> u64
+pub fn rest_of(map: &[u64], t: u16, n: u16) -> u64
     requires { ⌜ n ≤ 64 * length (now map) ⌝ }
     ensures { λ r. ⌜ RestOfWord (now (map .entry)) n t r ⌝ }
 {
     if t < n {
-        let w = t / 64;
+        let w = (t / 64) as usize;
         return map[w] & (ALL << (t % 64));
     }
     0
@@ -168,8 +169,8 @@ pub fn rest_of(map: &[u64], t: usize, n: usize) -> u64
 
 // A run of free tracks, and the tracks behind it that lie in the word of its end.
 pub struct Ahead {
-    pub from: usize,
-    pub to: usize,
+    pub from: u16,
+    pub to: u16,
     pub rest: u64,
 }
 
@@ -229,11 +230,11 @@ fn pass(map: &[u64], w: usize, e: usize, plain: u64) -> Place
 }
 
 // The first word from t's on and below word e in which a track from t on is free, and these tracks; x are those of t's own.
-fn word_ahead(map: &[u64], t: usize, e: usize, x: u64) -> Place
+fn word_ahead(map: &[u64], t: u16, e: usize, x: u64) -> Place
     requires { ⌜ (t / 64 < e) × (e ≤ length (now map)) ⌝ }
     ensures { λ r. ⌜ ((n : ℕ) → n ≤ 64 * e → RestOfWord (now (map .entry)) n t x → Word (now (map .entry)) n t e (r .at) (r .word)) ⌝ }
 {
-    let w = t / 64;
+    let w = (t / 64) as usize;
     if x != 0 {
         return Place { at: w, word: x };
     }
@@ -242,12 +243,12 @@ fn word_ahead(map: &[u64], t: usize, e: usize, x: u64) -> Place
 
 // The run from track `from` up to the first track of word w that is not free, the lowest bit that is not in `low`; y has the
 // tracks of word w. Behind the run y shows what is left.
-fn stop_at(n: usize, from: usize, w: usize, y: u64, low: u64) -> Ahead
+fn stop_at(n: u16, from: u16, w: usize, y: u64, low: u64) -> Ahead
     requires { ⌜ (64 * w < n) × (from < n) × (low ≡ 0xffff_ffff_ffff_ffff → ⊥) ⌝ }
     ensures { λ r. ⌜ (r .from ≡ from) × ((m : List ℕ) → Ending m n from w y low → First m false from n (r .to) × RestOfWord m n (r .to) (r .rest)) ⌝ }
 {
     let z = low + 1;
-    let to = 64 * w + u64::trailing_zeros(z) as usize;
+    let to = 64 * (w as u16) + u64::trailing_zeros(z) as u16;
     if to < n {
         return Ahead {
             from,
@@ -263,7 +264,7 @@ fn stop_at(n: usize, from: usize, w: usize, y: u64, low: u64) -> Ahead
 }
 
 // As run_ahead, for a run that leaves t's word: the words behind are passed over, and the one in which it starts or ends is kept.
-fn run_far(map: &[u64], t: usize, n: usize, x: u64) -> Ahead
+fn run_far(map: &[u64], t: u16, n: u16, x: u64) -> Ahead
     requires { ⌜ (t ≤ n) × (n ≤ 64 * length (now map)) × RestOfWord (now map) n t x ⌝ }
     ensures { λ r. ⌜ NextRun (now (map .entry)) n t (r .from) (r .to) × RestOfWord (now (map .entry)) n (r .to) (r .rest) ⌝ }
 {
@@ -274,7 +275,7 @@ fn run_far(map: &[u64], t: usize, n: usize, x: u64) -> Ahead
             rest: 0,
         };
     }
-    let e = (n - 1) / 64 + 1;
+    let e = ((n - 1) / 64) as usize + 1;
     let p = word_ahead(map, t, e, x);
     let w = p.at;
     let y = p.word;
@@ -285,7 +286,7 @@ fn run_far(map: &[u64], t: usize, n: usize, x: u64) -> Ahead
             rest: 0,
         };
     }
-    let from = 64 * w + u64::trailing_zeros(y) as usize;
+    let from = 64 * (w as u16) + u64::trailing_zeros(y) as u16;
     if from < n {} else {
         return Ahead {
             from: n,
@@ -310,7 +311,7 @@ fn run_far(map: &[u64], t: usize, n: usize, x: u64) -> Ahead
 }
 
 // The first run of free tracks from s on and below n; from n to n where there is none.
-pub fn next_run(map: &[u64], s: usize, n: usize) -> Span
+pub fn next_run(map: &[u64], s: u16, n: u16) -> Span
     requires { ⌜ (s ≤ n) × (n ≤ 64 * length (now map)) ⌝ }
     ensures { λ r. ⌜ NextRun (now (map .entry)) n s (r .from) (r .to) ⌝ }
 {
@@ -326,7 +327,7 @@ pub fn next_run(map: &[u64], s: usize, n: usize) -> Span
 // tracks from t on, so that the map is not read again, nor waited for, where the run ends in t's word. One less fills the bits
 // below the run, one more carries to the track behind it. x is kept in place, not shifted down: the next run then waits for
 // four simple operations and for no count of zeros. The map is lent on as a part: as it is, it would be stored at each call.
-pub fn run_ahead(map: &[u64], t: usize, n: usize, x: u64) -> Ahead
+pub fn run_ahead(map: &[u64], t: u16, n: u16, x: u64) -> Ahead
     requires { ⌜ (t ≤ n) × (n ≤ 64 * length (now map)) × RestOfWord (now map) n t x ⌝ }
     ensures { λ r. ⌜ NextRun (now (map .entry)) n t (r .from) (r .to) × RestOfWord (now (map .entry)) n (r .to) (r .rest) ⌝ }
 {
@@ -335,10 +336,10 @@ pub fn run_ahead(map: &[u64], t: usize, n: usize, x: u64) -> Ahead
         if y != ALL {
             let z = y + 1;
             let base = t - t % 64;
-            let to = base + u64::trailing_zeros(z) as usize;
+            let to = base + u64::trailing_zeros(z) as u16;
             if to < n {
                 return Ahead {
-                    from: base + u64::trailing_zeros(x) as usize,
+                    from: base + u64::trailing_zeros(x) as u16,
                     to,
                     rest: x & z,
                 };
@@ -437,11 +438,11 @@ fn count_rest(map: &[u64], w: usize, e: usize, from: Counted) -> Counted
 }
 
 // How many runs of free tracks there are below n: each has one start.
-pub fn count_runs(map: &[u64], n: usize) -> usize
+pub fn count_runs(map: &[u64], n: u16) -> usize
     requires { ⌜ n ≤ 64 * length (now map) ⌝ }
     ensures { λ r. ⌜ (r ≡ length (freeFrom (now (map .entry)) n 0)) × (r ≤ n) ⌝ }
 {
-    let e = n / 64;
+    let e = (n / 64) as usize;
     let c = count_rest(map, e / 8 * 8, e, count_eights(map, e));
     let k = n % 64;
     if k == 0 {
@@ -452,11 +453,11 @@ pub fn count_runs(map: &[u64], n: usize) -> usize
 }
 
 // Whether track t is free.
-pub fn is_free(map: &[u64], t: usize) -> bool
+pub fn is_free(map: &[u64], t: u16) -> bool
     requires { ⌜ t < 64 * length (now map) ⌝ }
     ensures { λ r. ⌜ r ≡ isFree (now (map .entry)) t ⌝ }
 {
-    let w = t / 64;
+    let w = (t / 64) as usize;
     let x = map[w];
     (x >> (t % 64)) % 2 == 1
 }

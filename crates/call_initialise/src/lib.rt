@@ -27,7 +27,7 @@ fn erase(table: &mut [u8])
 }
 
 // Puts an entry for `count` tracks from `start` on, if there are any, behind j others, and says how many there are then.
-fn put_some(rec: &mut [u8], j: usize, g: Geometry, start: u32, count: u32) -> usize
+fn put_some(rec: &mut [u8], j: usize, g: Geometry, start: u16, count: u16) -> usize
     requires { ⌜ (length (now rec) ≡ 140) × (j < 26) × (start + count ≤ 65535) × Limits (geometryOf g) ⌝ }
     ensures { λ r. ⌜ More (geometryOf g) (someRun start count) (now (rec .entry)) j (now (rec .exit)) r ⌝ }
 {
@@ -74,13 +74,7 @@ pub fn initialise(
 ) -> u32
     ensures { λ r. ⌜ Initialises (now (table .entry)) c h d s v (now (answer .entry)) r (now (table .exit)) (now (answer .exit)) ⌝ }
 {
-    let g = Geometry {
-        cylinders: c,
-        heads: h,
-        records: d,
-        vtoc_start: s,
-        vtoc_tracks: v,
-    };
+    let g = dscb::geometry_with(c, h, d, s, v);
     if dscb::limits(g) {} else {
         return E_GEOMETRY;
     }

@@ -67,7 +67,7 @@ fn add_all(table: &[u8], g: Geometry) -> Sums
         if k == 0 {
             return s;
         }
-        s = add_member(dscb::record_at(table, k), g.heads, s);
+        s = add_member(dscb::record_at(table, k), g.heads as u32, s);
         k = free_extents::member_after(table, g, k);
         left -= 1;
     }

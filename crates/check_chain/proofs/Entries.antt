@@ -5,12 +5,12 @@ use mathlib.Core.List.{List, [], _∷_, _++_}
 use Prim.Native.Nat.{ℕ, zero, suc, _+_, _-_, _*_, _/_, _%_, _≤_, _<_}
 use native.Mathlib.Nat.{div-add-mod', le-refl, mod-lt, sub-zero}
 use native.Mathlib.Omega.{arith}
-use borrow.Author.Tests.{eq-eqb, eqb-true, lt-ltb, ltb-true}
+use borrow.Author.Tests.{eq-eqb, eqb-true, lt-ltb, ltb-true, ne-eqb}
 use lib.Dec.{eqb, ltb}
 use lib.ListN.{drop, getD, length, length-drop, replicate, take, take-append-drop}
 use lib.Seq.{drop-cons, drop-drop, drop-nil, take-nil, take-take}
 use Rattle.model.specs.Basics.{be2, fill, flat, get2, part, zeros}
-use Rattle.model.specs.Model.{Geometry, Run, run}
+use Rattle.model.specs.Model.{Geometry, Run, run, tracks}
 use Rattle.model.proofs.Lists.{and-l, and-r, clash, drop-take, is-true, true-is}
 use Rattle.rules.specs.Layout.{entry, fields5, format5, whole}
 use Rattle.rules.proofs.Bytes.{be2-back}
@@ -20,12 +20,19 @@ use Rattle.bitmap.specs.Map.{NextRun, freeFrom}
 use Rattle.bitmap.proofs.Walk.{free-from-end}
 use Rattle.rows.specs.Words.{Bytes, allAre}
 use Rattle.dscb.proofs.Bytes10.{cyl-of, five-of, head-of, two-back}
-use Rattle.rows.proofs.Rows.{are→, →are}
+use Rattle.rows.proofs.Rows.{and-false, are→, →are}
+use Rattle.dscb.proofs.Stops.{cylinder-past}
 use Rattle.dscb.proofs.Records.{length-part}
 use Rattle.dscb.proofs.Cutting.{whole-cut}
 use Rattle.check_chain.specs.Entries.{HoldsRuns, Rows, entriesOf, entryOk}
 
 -- ---- one entry
+
+-- the stop: a free extent is not the whole volume, so an entry with all its cylinders is not its entry
+pub many-cylinders : (g : Geometry) (s c : ℕ) (x : List ℕ) → c < tracks g → g .cylinders ≤ get2 x 2 → false ≡ entryOk (g .heads) s c x
+many-cylinders g s c x u v =
+    let p = cylinder-past (g .cylinders) (g .heads) (get2 x 2) v in
+    rw (ne-eqb (get2 x 2 * g .heads + getD x 4 0) c (λ e. absurd (omega arith)), and-false, and-false)
 
 module _ (g : Geometry) (pos : 1 ≤ g .heads) (s c : ℕ) where
   abbrev H : ℕ

@@ -8,7 +8,7 @@ ghost use lib.ListN.{length};
 ghost use Rattle.model.specs.Basics.{part};
 ghost use Rattle.model.specs.Model.{slots, tracks};
 ghost use Rattle.rules.specs.Predicates.{Limits};
-ghost use Rattle.bitmap.specs.Map.{freeFrom};
+ghost use Rattle.bitmap.specs.Map.{freeBit, freeFrom};
 ghost use Rattle.dscb.specs.Forms.{geometryOf};
 ghost use Rattle.check_chain.specs.Chain.{ChainGone, Held};
 ghost use Rattle.check_chain.specs.Entries.{HoldsRuns, Rows, entryOk, linkOk};
@@ -19,7 +19,7 @@ pub struct Member {
     pub ok: bool,
     pub last: bool,
     pub slot: usize,
-    pub at: usize,
+    pub at: u16,
 }
 
 // No member of the chain.
@@ -37,34 +37,33 @@ fn refused() -> Member
 // How entries compare with the runs of free tracks: whether they are those, and the track from which the other runs go on.
 pub struct Compared {
     pub ok: bool,
-    pub next: usize,
+    pub next: u16,
 }
 
-// Whether the five bytes are the entry of the free extent of `count` tracks. It multiplies, since a division costs more.
-fn is_entry(x: &[u8], h: u32, start: u32, count: u32) -> bool
-    requires { ⌜ (length (now x) ≡ 5) × (h ≤ 255) ⌝ }
-    ensures { λ r. ⌜ r ≡ entryOk h start count (now (x .entry)) ⌝ }
+// Whether the five bytes are the entry of the free extent of `count` tracks, which is not the whole volume. It multiplies, since a division
+// costs more; an entry with as many cylinders as the volume has is none, and the product of any other fits.
+fn is_entry(x: &[u8], g: Geometry, start: u16, count: u16) -> bool
+    requires { ⌜ (length (now x) ≡ 5) × Limits (geometryOf g) × (count < tracks (geometryOf g)) ⌝ }
+    ensures { λ r. ⌜ r ≡ entryOk (g .heads) start count (now (x .entry)) ⌝ }
 {
     if rows::two(x, 0) != start {
         return false;
     }
-    let odd = rows::wide(x[4]);
-    if odd >= h {
+    let odd = rows::byte(x[4]);
+    if odd >= g.heads {
         return false;
     }
-    rows::two(x, 2) * h + odd == count
+    let whole = rows::two(x, 2);
+    if whole >= g.cylinders {
+        return false;
+    }
+    whole * g.heads + odd == count
 }
 
-// Whether the w entries of x are the first runs of free tracks from track `at` on, and zeros where there are fewer.
-fn entries_are(
-    x: &[u8],
-    w: usize,
-    free_tracks: &[u64],
-    n: usize,
-    at: usize,
-    g: Geometry,
-) -> Compared
-    requires { ⌜ (length (now x) ≡ 5 * w) × (w ≤ 26) × (at ≤ n) × (n ≤ 64 * length (now «free_tracks»)) × (n ≤ 65535) × Limits (geometryOf g) ⌝ }
+// Whether the w entries of x are the first runs of free tracks from track `at` on, and zeros where there are fewer. The label track is not
+// free, so no run is the whole volume.
+fn entries_are(x: &[u8], w: usize, free_tracks: &[u64], n: u16, at: u16, g: Geometry) -> Compared
+    requires { ⌜ (length (now x) ≡ 5 * w) × (w ≤ 26) × (at ≤ n) × (n ≤ 64 * length (now «free_tracks»)) × (n ≤ tracks (geometryOf g)) × Limits (geometryOf g) × (freeBit (now «free_tracks») 0 ≡ 0) ⌝ }
     ensures { λ r. ⌜ Rows (geometryOf g) (now («free_tracks» .entry)) n at w (now (x .entry)) (r .ok) (r .next) ⌝ }
 {
     let mut t = at;
@@ -80,7 +79,7 @@ fn entries_are(
             return Compared { ok, next: n };
         }
         let e = p + 5;
-        if is_entry(&x[p..e], g.heads, from as u32, (to - from) as u32) {
+        if is_entry(&x[p..e], g, from, to - from) {
             t = to;
             seen = free.rest;
             j += 1;
@@ -92,8 +91,8 @@ fn entries_are(
 }
 
 // Whether the record is, but for its link, the format 5 of the first 26 runs of free tracks from track `at` on.
-fn compare(rec: &[u8], free_tracks: &[u64], n: usize, at: usize, g: Geometry) -> Compared
-    requires { ⌜ (length (now rec) ≡ 140) × (at ≤ n) × (n ≤ 64 * length (now «free_tracks»)) × (n ≤ 65535) × Limits (geometryOf g) ⌝ }
+fn compare(rec: &[u8], free_tracks: &[u64], n: u16, at: u16, g: Geometry) -> Compared
+    requires { ⌜ (length (now rec) ≡ 140) × (at ≤ n) × (n ≤ 64 * length (now «free_tracks»)) × (n ≤ tracks (geometryOf g)) × Limits (geometryOf g) × (freeBit (now «free_tracks») 0 ≡ 0) ⌝ }
     ensures { λ r. ⌜ HoldsRuns (geometryOf g) (now («free_tracks» .entry)) n at (now (rec .entry)) (r .ok) (r .next) ⌝ }
 {
     if rows::part_is(rec, 0, 4, 0x05) {} else {
@@ -127,16 +126,17 @@ fn take_member(
     k: usize,
     g: Geometry,
     free_tracks: &[u64],
-    at: usize,
+    at: u16,
     free_slots: &mut [u64],
 ) -> Member
-    requires { ⌜ Limits (geometryOf g) × (length (now table) ≡ 140 * slots (geometryOf g)) × (k < slots (geometryOf g)) × (at ≤ tracks (geometryOf g)) × (tracks (geometryOf g) ≤ 64 * length (now «free_tracks»)) × (length (now «free_slots») ≡ 8) ⌝ }
+    requires { ⌜ Limits (geometryOf g) × (length (now table) ≡ 140 * slots (geometryOf g)) × (k < slots (geometryOf g)) × (at ≤ tracks (geometryOf g)) × (tracks (geometryOf g) ≤ 64 * length (now «free_tracks»)) × (length (now «free_slots») ≡ 8) × (freeBit (now «free_tracks») 0 ≡ 0) ⌝ }
     ensures { λ r. ⌜ Held (geometryOf g) (now (table .entry)) (now («free_tracks» .entry)) (freeFrom (now («free_tracks» .entry)) (tracks (geometryOf g)) at) k (now («free_slots» .entry)) (now («free_slots» .exit)) r ⌝ }
 {
-    if bitmap::take_range(free_slots, k, k + 1) {} else {
+    let member = k as u16;
+    if bitmap::take_range(free_slots, member, member + 1) {} else {
         return refused();
     }
-    let t = dscb::tracks(g) as usize;
+    let t = dscb::tracks(g);
     let rec = dscb::record_at(table, k);
     let listed = compare(rec, free_tracks, t, at, g);
     if listed.ok {} else {
@@ -165,11 +165,11 @@ fn take_member(
 
 // Whether the chain from slot 1 on holds the free extents that the map shows. Its slots leave the map of free slots.
 pub fn take_chain(table: &[u8], g: Geometry, free_tracks: &[u64], free_slots: &mut [u64]) -> bool
-    requires { ⌜ Limits (geometryOf g) × (length (now table) ≡ 140 * slots (geometryOf g)) × (tracks (geometryOf g) ≤ 64 * length (now «free_tracks»)) × (length (now «free_slots») ≡ 8) ⌝ }
+    requires { ⌜ Limits (geometryOf g) × (length (now table) ≡ 140 * slots (geometryOf g)) × (tracks (geometryOf g) ≤ 64 * length (now «free_tracks»)) × (length (now «free_slots») ≡ 8) × (freeBit (now «free_tracks») 0 ≡ 0) ⌝ }
     ensures { λ r. ⌜ ChainGone (geometryOf g) (now (table .entry)) (freeFrom (now («free_tracks» .entry)) (tracks (geometryOf g)) 0) 1 (now («free_slots» .entry)) (now («free_slots» .exit)) r ⌝ }
 {
     let mut k: usize = 1;
-    let mut at: usize = 0;
+    let mut at: u16 = 0;
     loop {
         let m = take_member(table, k, g, free_tracks, at, free_slots);
         if m.ok {} else {

@@ -183,10 +183,6 @@ ten-order h t i x e =
     let q = and-l (ltb (trackAt h x 6) t) _ (and-r (leb (trackAt h x 2) (trackAt h x 6)) _ d) in
     (leb-true _ _ (is-true p), ltb-true _ _ (is-true q))
 
--- the test's answer, where the number of tracks was computed
-pub ten-told : (g : Geometry) (e t : ℕ) (x : List ℕ) (r b : Bool) → t ≡ tracks g → r ≡ goodTen (g .heads) t e x → r ≡ b → goodTen (g .heads) (tracks g) e x ≡ b
-ten-told g e t x r b q p s = subst (λ (u : ℕ). goodTen (g .heads) u e x ≡ b) q (sym p ∙ s)
-
 -- not good: nothing is taken
 pub ten-bad : (g : Geometry) (e : ℕ) (x m : List ℕ) → goodTen (g .heads) (tracks g) e x ≡ false → TookTen g e x m m false
 ten-bad g e x m q = record { long = refl; good = λ r. clash {b = false} r refl; taken = λ r. clash r q }

@@ -93,12 +93,11 @@ fn take_extent(x: &[u8], e: usize, g: Geometry, free_tracks: &mut [u64]) -> bool
     ensures { λ r. ⌜ TookTen (geometryOf g) e (now (x .entry)) (now («free_tracks» .entry)) (now («free_tracks» .exit)) r ⌝ }
 {
     let h = g.heads;
-    if dscb::good_ten(x, e as u32, h, dscb::tracks(g)) {} else {
+    if dscb::good_ten(x, e as u32, g) {} else {
         return false;
     }
-    let first = dscb::track_at(x, 2, h) as usize;
-    let last = dscb::track_at(x, 6, h) as usize;
-    let end = last + 1;
+    let first = dscb::track_at(x, 2, h);
+    let end = dscb::track_at(x, 6, h) + 1;
     bitmap::take_range(free_tracks, first, end)
 }
 
@@ -130,15 +129,15 @@ fn take_slots(free_slots: &mut [u64], k: usize, q: usize) -> bool
     requires { ⌜ (1 ≤ k) × (k < 512) × (q < 512) × (length (now «free_slots») ≡ 8) ⌝ }
     ensures { λ r. ⌜ TookSlots k q (now («free_slots» .entry)) (now («free_slots» .exit)) r ⌝ }
 {
-    let next = k + 1;
-    if bitmap::take_range(free_slots, k, next) {} else {
+    let slot = k as u16;
+    if bitmap::take_range(free_slots, slot, slot + 1) {} else {
         return false;
     }
     if q == 0 {
         return true;
     }
-    let end = q + 1;
-    bitmap::take_range(free_slots, q, end)
+    let slot3 = q as u16;
+    bitmap::take_range(free_slots, slot3, slot3 + 1)
 }
 
 // Tests the label in slot k and takes its slots and tracks out of the maps: false if it is not as the layout says, or if a

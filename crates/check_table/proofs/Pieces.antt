@@ -4,13 +4,14 @@ use mathlib.Core.Bool.{Bool, true, false}
 use mathlib.Core.List.{List, [], _∷_, _++_}
 use Prim.Native.Nat.{ℕ, zero, suc, _*_, _≤_, _<_}
 use native.Mathlib.Decide.{decLe}
-use native.Mathlib.Nat.{lt-of-not-le}
+use native.Mathlib.Nat.{le-refl, lt-of-not-le}
 use native.Mathlib.Omega.{arith}
 use borrow.Author.Tests.{eq-eqb, ne-eqb}
 use lib.ListN.{List·getD-eq-default, length}
 use Rattle.model.specs.Basics.{bit, flat}
 use Rattle.model.specs.Model.{Geometry, Label, Run, covers, format0s, free, held, oneSlot, run, runsOf, slots, slotsOf, tally, times, tracks, unused, used}
 use Rattle.model.proofs.Lists.{All-append, clash, sum-append}
+use Rattle.model.proofs.Runs.{hit-in}
 use Rattle.model.specs.Predicates.{All}
 use Rattle.rules.specs.Layout.{format4}
 use Rattle.rules.specs.Reading.{chop, recordAt}
@@ -18,7 +19,7 @@ use Rattle.rules.proofs.LabelBack.{length-1, length-3}
 use Rattle.rules.proofs.Settle.{used-tally}
 use Rattle.rules.specs.Predicates.{Limits}
 use Rattle.rules.specs.Sound.{LabelOk, Sound}
-use Rattle.bitmap.specs.Map.{Shows, freeFrom}
+use Rattle.bitmap.specs.Map.{Shows, freeBit, freeFrom}
 use Rattle.bitmap.proofs.Held.{free-gaps, shows-once, shows-same}
 use Rattle.dscb.proofs.Records.{chop-slot, length-chop}
 use Rattle.dscb.specs.Forms.{geometryOf}
@@ -142,6 +143,14 @@ module _ (g : Geometry) (limit : Limits g) (t : List ℕ) (len : length t ≡ 14
 
       tracks-shown : Shows m₂ T (held g ls)
       tracks-shown = shows-same m₂ T (flat runsOf ls ++ held g []) (held g ls) (λ j u. held-same j) (out .free e (held g []) (begun .freeTracks))
+
+      -- the label track is not free
+      pub label-held : freeBit m₂ 0 ≡ 0
+      unfolding held
+      label-held =
+          let shown = tracks-shown 0 (omega (arith, limit .start, limit .ends)) in
+          let here = hit-in (run 0 1) 0 (le-refl 0) (omega arith) in
+          omega arith
 
       slots-shown : Shows s₂ N before
       slots-shown = out .empty e (units (0 ∷ [])) (begun .freeSlots)

@@ -33,11 +33,12 @@ pub fn spare(table: &[u8], n: usize, free_slots: &[u64]) -> Spares
     let mut count: usize = 0;
     let mut at: usize = 0;
     while at < n {
-        let free = bitmap::next_run(free_slots, at, n);
-        let c = free.to - free.from;
-        if rows::part_is(table, 140 * free.from, 140 * c, 0) {
+        let free = bitmap::next_run(free_slots, at as u16, n as u16);
+        let from = free.from as usize;
+        let c = (free.to - free.from) as usize;
+        if rows::part_is(table, 140 * from, 140 * c, 0) {
             count += c;
-            at = free.to;
+            at = free.to as usize;
         } else {
             return Spares {
                 clear: false,
@@ -139,11 +140,10 @@ pub fn begin_maps(g: Geometry, free_tracks: &mut [u64], free_slots: &mut [u64])
     requires { ⌜ Limits (geometryOf g) × AllFree (now «free_tracks») 0 (tracks (geometryOf g)) × (tracks (geometryOf g) ≤ 64 * length (now «free_tracks»)) × (length (now «free_slots») ≡ 8) ⌝ }
     ensures { λ _. ⌜ MapsBegun (geometryOf g) (now («free_tracks» .entry)) (now («free_tracks» .exit)) (now («free_slots» .entry)) (now («free_slots» .exit)) ⌝ }
 {
-    let start = g.vtoc_start as usize;
-    let end = start + g.vtoc_tracks as usize;
-    let vtoc = bitmap::take_range(free_tracks, start, end);
+    let end = g.vtoc_start + g.vtoc_tracks;
+    let vtoc = bitmap::take_range(free_tracks, g.vtoc_start, end);
     let label = bitmap::take_range(free_tracks, 0, 1);
-    bitmap::free_below(free_slots, dscb::slots(g));
+    bitmap::free_below(free_slots, dscb::slots(g) as u16);
     let first = bitmap::take_range(free_slots, 0, 1);
 }
 
@@ -151,16 +151,9 @@ pub fn begin_maps(g: Geometry, free_tracks: &mut [u64], free_slots: &mut [u64])
 fn not_taken() -> Verdict
     ensures { λ r. ⌜ r .taken ≡ false ⌝ }
 {
-    let geometry = Geometry {
-        cylinders: 0,
-        heads: 0,
-        records: 0,
-        vtoc_start: 0,
-        vtoc_tracks: 0,
-    };
     Verdict {
         taken: false,
-        geometry,
+        geometry: dscb::nowhere(),
         format0s: 0,
         highest: 0,
     }

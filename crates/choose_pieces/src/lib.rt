@@ -208,7 +208,7 @@ fn survey(
         best = look_or_pass(
             dscb::record_at(table, k),
             pass && k != 1,
-            g.heads,
+            g.heads as u32,
             u,
             amount,
             best,

@@ -8,3 +8,4 @@ pub mod Cutting
 pub mod Blocks
 pub mod Written
 pub mod Linked
+pub mod Stops

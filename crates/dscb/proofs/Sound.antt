@@ -31,38 +31,6 @@ refuted b f n = by b (λ e. absurd (n (f (true-is e)))) (λ e. sym e)
 pub no-limits : (g : Geometry) → (Limits g → ⊥) → false ≡ limits g
 no-limits g n = refuted (limits g) (limits→ g) n
 
--- more than 65,535 cylinders are more tracks than that
-pub many-cylinders : (c h : ℕ) → 1 ≤ h → c * h ≤ 65535 → c ≤ 65535
-many-cylinders c h u v = let m : c * 1 ≤ c * h = mul-le-mul (le-refl c) u in omega arith
-
-pub few-tracks : (c h : ℕ) → c ≤ 65535 → h ≤ 255 → c * h ≤ 65535 * 255
-few-tracks c h u v = mul-le-mul u v
-
--- all but the last
-pub limits-last : (g : Geometry) → 1 ≤ g .cylinders → 1 ≤ g .heads → g .heads ≤ 255 → 1 ≤ g .records → g .records ≤ 255 → 1 ≤ g .vtocStart
-    → 1 ≤ g .vtocTracks → tracks g ≤ 65535 → g .vtocStart + g .vtocTracks ≤ tracks g → 3 ≤ slots g → leb (slots g) 468 ≡ limits g
-limits-last g a b c d e f i j k l =
-    by (leb (slots g) 468)
-    (λ p.
-    p
-    ∙ sym
-    (is-true
-    (→limits g
-    (record {
-      cylinders = a;
-      heads = b;
-      headsMost = c;
-      records = d;
-      recordsMost = e;
-      start = f;
-      vtoc = i;
-      tracksMost = j;
-      ends = k;
-      least = l;
-      most = leb-true _ _ p;
-    }))))
-    (λ p. p ∙ no-limits g (λ x. let q = leb-false (slots g) 468 p in absurd (omega (arith, x .most))))
-
 -- ---- a part of a record, read in the record
 
 pub byte-part : (i n j : ℕ) (r : List ℕ) → j < n → getD (part i n r) j 0 ≡ getD r (i + j) 0

@@ -2,37 +2,58 @@
 // addresses. Places of bytes have IBM's names.
 use places::*;
 ghost use mathlib.Core.Path.{_≡_};
-ghost use Prim.Native.Nat.{_+_, _-_, _*_, _≤_, _<_};
+ghost use mathlib.Core.Bool.{false, _&&_};
+ghost use Prim.Native.Nat.{_+_, _-_, _*_, _≤_, _<_, min};
+ghost use lib.Dec.{leb, ltb};
 ghost use lib.ListN.{length};
+ghost use Rattle.model.specs.Basics.{get2};
 ghost use Rattle.model.specs.Model.{slots, tracks};
 ghost use Rattle.rules.specs.Reading.{readGeometry, trackAt};
 ghost use Rattle.rules.specs.Table.{goodUnit, limits};
 ghost use Rattle.rules.specs.Predicates.{Limits};
-ghost use Rattle.dscb.specs.Forms.{geometryOf, linkedSlot, oneOk, threeOk};
+ghost use Rattle.rules.specs.Contracts.{geometry};
+ghost use Rattle.dscb.specs.Forms.{Gives, geometryOf, linkedSlot, oneOk, threeOk};
 ghost use Rattle.rules.specs.Layout.{extentPart};
 ghost use Rattle.dscb.specs.Records.{putRecord, slotBytes};
 ghost use Rattle.dscb.specs.Tests.{goodTen, slotNamed, typeOk};
 
 // ---- the geometry
 
-// C cylinders, H tracks in each (heads), D records a track, and the VTOC: V tracks from track S on.
+// C cylinders, H tracks in each (heads), D records a track, and the VTOC: V tracks from track S on. A volume has at most 65,535 tracks, so
+// 16 bits hold each of them, and every sum and product of tracks that a taken table has.
 pub struct Geometry {
-    pub cylinders: u32,
-    pub heads: u32,
-    pub records: u32,
-    pub vtoc_start: u32,
-    pub vtoc_tracks: u32,
+    pub cylinders: u16,
+    pub heads: u16,
+    pub records: u16,
+    pub vtoc_start: u16,
+    pub vtoc_tracks: u16,
 }
 
-// The number of tracks from a to b, both counted.
-fn span(a: u32, b: u32) -> u32
-    requires { ⌜ b + 1 < 4294967296 ⌝ }
-    ensures { λ r. ⌜ r ≡ b + 1 - a ⌝ }
+// No geometry: it breaks the limits.
+pub fn nowhere() -> Geometry
+    ensures { λ r. ⌜ limits (geometryOf r) ≡ false ⌝ }
 {
-    if b < a {
-        return 0;
+    Geometry {
+        cylinders: 0,
+        heads: 0,
+        records: 0,
+        vtoc_start: 0,
+        vtoc_tracks: 0,
     }
-    b + 1 - a
+}
+
+// Whether b is at most 255 and a × b at most `most`. The product may need 24 bits: it is made of a's two bytes, the high one first.
+pub fn product_within(a: u16, b: u16, most: u16) -> bool
+    ensures { λ r. ⌜ r ≡ (leb b 255 && leb (a * b) most) ⌝ }
+{
+    if b > 255 {
+        return false;
+    }
+    let high = a / 256 * b;
+    if high > most / 256 {
+        return false;
+    }
+    a % 256 * b <= most - 256 * high
 }
 
 // The first and the last track of the VTOC, as CCHH.
@@ -40,23 +61,77 @@ const VTOC_FIRST: usize = DS4VTOCE + 2;
 
 const VTOC_LAST: usize = DS4VTOCE + 6;
 
-// The geometry that a format 4 gives, blind: DS4DEVSZ, DS4DEVDT and the extent DS4VTOCE.
+// The track whose CCHH starts at place i, or the number of tracks, c × h, where it is not on the volume. HH may be h or more.
+fn track_or_end(s: &[u8], i: usize, c: u16, h: u16) -> u16
+    requires { ⌜ (i + 3 < length (now s)) × (c * h ≤ 65535) ⌝ }
+    ensures { λ r. ⌜ r ≡ min (c * h) (trackAt h (now (s .entry)) i) ⌝ }
+{
+    let t = c * h;
+    let cc = rows::two(s, i);
+    if cc >= c {
+        return t;
+    }
+    let first = cc * h;
+    let hh = rows::two(s, i + 2);
+    if hh >= t - first {
+        return t;
+    }
+    first + hh
+}
+
+// The geometry that a format 4 gives (DS4DEVSZ, DS4DEVDT and the extent DS4VTOCE); where it breaks the limits, one that does.
 pub fn geometry_of(rec: &[u8]) -> Geometry
     requires { ⌜ length (now rec) ≡ 140 ⌝ }
-    ensures { λ r. ⌜ geometryOf r ≡ readGeometry (now (rec .entry)) ⌝ }
+    ensures { λ r. ⌜ Gives (readGeometry (now (rec .entry))) r ⌝ }
 {
-    let heads = rows::two(rec, HEADS);
-    let vtoc_start = track_at(rec, VTOC_FIRST, heads);
-    let last = track_at(rec, VTOC_LAST, heads);
-    let vtoc_tracks = span(vtoc_start, last);
     let cylinders = rows::two(rec, DS4DEVSZ);
-    let records = rows::wide(rec[DS4DEVDT]);
+    let heads = rows::two(rec, HEADS);
+    if product_within(cylinders, heads, 65535) {} else {
+        return nowhere();
+    }
+    let first = track_or_end(rec, VTOC_FIRST, cylinders, heads);
+    let last = track_or_end(rec, VTOC_LAST, cylinders, heads);
+    if last < first {
+        return nowhere();
+    }
+    if last >= cylinders * heads {
+        return nowhere();
+    }
+    let records = rows::byte(rec[DS4DEVDT]);
     Geometry {
         cylinders,
         heads,
         records,
-        vtoc_start,
-        vtoc_tracks,
+        vtoc_start: first,
+        vtoc_tracks: last - first + 1,
+    }
+}
+
+// The geometry of these numbers; where they break the limits, one that does: no number that needs more than 16 bits meets them.
+pub fn geometry_with(c: u32, h: u32, d: u32, s: u32, v: u32) -> Geometry
+    ensures { λ r. ⌜ Gives (geometry c h d s v) r ⌝ }
+{
+    if c > 65535 {
+        return nowhere();
+    }
+    if h > 65535 {
+        return nowhere();
+    }
+    if d > 65535 {
+        return nowhere();
+    }
+    if s > 65535 {
+        return nowhere();
+    }
+    if v > 65535 {
+        return nowhere();
+    }
+    Geometry {
+        cylinders: c as u16,
+        heads: h as u16,
+        records: d as u16,
+        vtoc_start: s as u16,
+        vtoc_tracks: v as u16,
     }
 }
 
@@ -64,32 +139,11 @@ pub fn geometry_of(rec: &[u8]) -> Geometry
 pub fn limits(g: Geometry) -> bool
     ensures { λ r. ⌜ r ≡ limits (geometryOf g) ⌝ }
 {
-    if g.cylinders < 1 {
-        return false;
-    }
-    if g.cylinders > 65535 {
-        return false;
-    }
-    if g.heads < 1 {
-        return false;
-    }
-    if g.heads > 255 {
-        return false;
-    }
-    if g.records < 1 {
-        return false;
-    }
-    if g.records > 255 {
-        return false;
-    }
-    if g.vtoc_start < 1 {
-        return false;
-    }
-    if g.vtoc_tracks < 1 {
+    if product_within(g.cylinders, g.heads, 65535) {} else {
         return false;
     }
     let t = g.cylinders * g.heads;
-    if t > 65535 {
+    if g.vtoc_start < 1 {
         return false;
     }
     if g.vtoc_start > t {
@@ -98,11 +152,10 @@ pub fn limits(g: Geometry) -> bool
     if g.vtoc_tracks > t - g.vtoc_start {
         return false;
     }
-    let n = g.vtoc_tracks * g.records;
-    if n < 3 {
+    if product_within(g.vtoc_tracks, g.records, 468) {} else {
         return false;
     }
-    n <= 468
+    3 <= g.vtoc_tracks * g.records
 }
 
 // How many slots the VTOC has.
@@ -114,7 +167,7 @@ pub fn slots(g: Geometry) -> usize
 }
 
 // How many tracks the volume has.
-pub fn tracks(g: Geometry) -> u32
+pub fn tracks(g: Geometry) -> u16
     requires { ⌜ Limits (geometryOf g) ⌝ }
     ensures { λ r. ⌜ (r ≡ tracks (geometryOf g)) × (r ≤ 65535) ⌝ }
 {
@@ -127,13 +180,7 @@ pub fn link(rec: &[u8], g: Geometry) -> usize
     requires { ⌜ (length (now rec) ≡ 140) × Limits (geometryOf g) ⌝ }
     ensures { λ r. ⌜ (r ≡ linkedSlot (geometryOf g) (now (rec .entry))) × (r < slots (geometryOf g)) ⌝ }
 {
-    slot_of(
-        &rec[DS1PTRDS..140],
-        g.heads,
-        g.records,
-        g.vtoc_start,
-        slots(g),
-    )
+    slot_of(&rec[DS1PTRDS..140], g)
 }
 
 // ---- format 1
@@ -191,10 +238,10 @@ pub mod places;
 
 // ---- numbers and rows of bytes
 
-// The track whose CCHH starts at place i, with h tracks to a cylinder. HH may be h or more: nothing is tested here.
-pub fn track_at(s: &[u8], i: usize, h: u32) -> u32
-    requires { ⌜ (i + 3 < length (now s)) × (h < 65536) ⌝ }
-    ensures { λ r. ⌜ (r ≡ trackAt h (now (s .entry)) i) × (r ≤ 65535 * h + 65535) ⌝ }
+// The track whose CCHH starts at place i, with h tracks to a cylinder. That its number fits is known.
+pub fn track_at(s: &[u8], i: usize, h: u16) -> u16
+    requires { ⌜ (i + 3 < length (now s)) × (trackAt h (now s) i ≤ 65535) ⌝ }
+    ensures { λ r. ⌜ r ≡ trackAt h (now (s .entry)) i ⌝ }
 {
     let cc = rows::two(s, i);
     let hh = rows::two(s, i + 2);
@@ -255,7 +302,7 @@ pub fn extent_part<'a>(f1: &'a [u8], f3: &'a [u8], e: usize) -> &'a [u8]
 
 // Whether the type byte fits an extent whose first and last track are these of their cylinders: X'81' starts a cylinder and
 // ends one, X'01' needn't.
-fn type_ok(type_byte: u32, first: u32, last: u32, h: u32) -> bool
+fn type_ok(type_byte: u32, first: u16, last: u16, h: u16) -> bool
     requires { ⌜ last < h ⌝ }
     ensures { λ r. ⌜ r ≡ typeOk h «type_byte» first last ⌝ }
 {
@@ -271,11 +318,20 @@ fn type_ok(type_byte: u32, first: u32, last: u32, h: u32) -> bool
     last + 1 == h
 }
 
-// Whether the ten bytes are an extent of number i on a volume of t tracks, h to a cylinder.
-pub fn good_ten(x: &[u8], i: u32, h: u32, t: u32) -> bool
-    requires { ⌜ (length (now x) ≡ 10) × (h < 65536) ⌝ }
-    ensures { λ r. ⌜ r ≡ goodTen h t i (now (x .entry)) ⌝ }
+// Whether an extent ends on a volume of c cylinders: a comparison, since the number of a track behind the end may not fit.
+fn ends_inside(x: &[u8], c: u16) -> bool
+    requires { ⌜ length (now x) ≡ 10 ⌝ }
+    ensures { λ r. ⌜ r ≡ ltb (get2 (now (x .entry)) 6) c ⌝ }
 {
+    rows::two(x, 6) < c
+}
+
+// Whether the ten bytes are an extent of number i on a volume of this geometry.
+pub fn good_ten(x: &[u8], i: u32, g: Geometry) -> bool
+    requires { ⌜ (length (now x) ≡ 10) × Limits (geometryOf g) ⌝ }
+    ensures { λ r. ⌜ r ≡ goodTen (g .heads) (tracks (geometryOf g)) i (now (x .entry)) ⌝ }
+{
+    let h = g.heads;
     let first = rows::two(x, 4);
     if first >= h {
         return false;
@@ -287,12 +343,13 @@ pub fn good_ten(x: &[u8], i: u32, h: u32, t: u32) -> bool
     if rows::wide(x[1]) != i {
         return false;
     }
-    let a = track_at(x, 2, h);
-    let b = track_at(x, 6, h);
-    if b < a {
+    if ends_inside(x, g.cylinders) {} else {
         return false;
     }
-    if b >= t {
+    if rows::two(x, 6) < rows::two(x, 2) {
+        return false;
+    }
+    if track_at(x, 6, h) < track_at(x, 2, h) {
         return false;
     }
     type_ok(rows::wide(x[0]), first, last, h)
@@ -300,28 +357,31 @@ pub fn good_ten(x: &[u8], i: u32, h: u32, t: u32) -> bool
 
 // ---- addresses
 
-// The slot, below n, whose address the five bytes are; 0 if they are no such slot's.
-pub fn slot_of(x: &[u8], h: u32, d: u32, s: u32, n: usize) -> usize
-    requires { ⌜ (length (now x) ≡ 5) × (h ≤ 255) × (d ≤ 255) ⌝ }
-    ensures { λ r. ⌜ r ≡ slotNamed h d s n (now (x .entry)) ⌝ }
+// The slot whose address the five bytes are; 0 if they are no slot's.
+pub fn slot_of(x: &[u8], g: Geometry) -> usize
+    requires { ⌜ (length (now x) ≡ 5) × Limits (geometryOf g) ⌝ }
+    ensures { λ r. ⌜ r ≡ slotNamed (g .heads) (g .records) (g .«vtoc_start») (slots (geometryOf g)) (now (x .entry)) ⌝ }
 {
-    if rows::two(x, 2) >= h {
+    if rows::two(x, 2) >= g.heads {
         return 0;
     }
-    let r = rows::wide(x[4]);
+    let r = rows::byte(x[4]);
     if r < 1 {
         return 0;
     }
-    if r > d {
+    if r > g.records {
         return 0;
     }
-    let t = track_at(x, 0, h);
-    if t < s {
+    if rows::two(x, 0) >= g.cylinders {
         return 0;
     }
-    let k = ((t - s) * d + r - 1) as usize;
-    if k >= n {
+    let t = track_at(x, 0, g.heads);
+    if t < g.vtoc_start {
         return 0;
     }
-    k
+    let i = t - g.vtoc_start;
+    if i >= g.vtoc_tracks {
+        return 0;
+    }
+    (i * g.records + r - 1) as usize
 }

@@ -20,8 +20,8 @@ ghost use Rattle.dscb_write.specs.Labels.{Format1, Format3, withExtent, 
 // ---- bytes at a place
 
 // Puts a number of two bytes.
-pub fn put_two(rec: &mut [u8; 140], at: usize, v: u32)
-    requires { ⌜ (length (now rec) ≡ 140) × (at + 1 < 140) × (v < 65536) ⌝ }
+pub fn put_two(rec: &mut [u8; 140], at: usize, v: u16)
+    requires { ⌜ (length (now rec) ≡ 140) × (at + 1 < 140) ⌝ }
     ensures { λ _. ⌜ now (rec .exit) ≡ putAt (now (rec .entry)) at (be2 v) ⌝ }
 {
     rec[at] = (v / 256) as u8;
@@ -39,8 +39,8 @@ pub fn put_three(rec: &mut [u8; 140], at: usize, v: u32)
 }
 
 // Puts the address CCHH of track t.
-pub fn put_track(rec: &mut [u8; 140], at: usize, g: dscb::Geometry, t: u32)
-    requires { ⌜ (length (now rec) ≡ 140) × (at + 3 < 140) × (t < 65536) × Limits (geometryOf g) ⌝ }
+pub fn put_track(rec: &mut [u8; 140], at: usize, g: dscb::Geometry, t: u16)
+    requires { ⌜ (length (now rec) ≡ 140) × (at + 3 < 140) × Limits (geometryOf g) ⌝ }
     ensures { λ _. ⌜ now (rec .exit) ≡ putAt (now (rec .entry)) at (cchh (geometryOf g) t) ⌝ }
 {
     let h = g.heads;
@@ -57,7 +57,7 @@ pub fn put_link(rec: &mut [u8; 140], at: usize, g: dscb::Geometry, k: usize)
         put_same(rec, at, at + 5, 0);
         return;
     }
-    let q = k as u32;
+    let q = k as u16;
     let d = g.records;
     let t = g.vtoc_start + q / d;
     put_track(rec, at, g, t);
@@ -71,8 +71,8 @@ pub fn put_extent(
     g: dscb::Geometry,
     number: usize,
     type_byte: u8,
-    start: u32,
-    count: u32,
+    start: u16,
+    count: u16,
 )
     requires { ⌜ (length (now rec) ≡ 140) × (at + 9 < 140) × (number < 16) × (1 ≤ count) × (start + count ≤ 65535) × Limits (geometryOf g) ⌝ }
     ensures { λ _. ⌜ now (rec .exit) ≡ putAt (now (rec .entry)) at (extentBytes (geometryOf g) number (extent «type_byte» (run start count))) ⌝ }
@@ -85,12 +85,12 @@ pub fn put_extent(
 
 // A number of tracks: whole cylinders, odd tracks.
 struct Cylinders {
-    whole: u32,
-    odd: u32,
+    whole: u16,
+    odd: u16,
 }
 
 // Most free extents are less than a cylinder, and a division costs more than to see that.
-fn split(count: u32, h: u32) -> Cylinders
+fn split(count: u16, h: u16) -> Cylinders
     requires { ⌜ 1 ≤ h ⌝ }
     ensures { λ r. ⌜ (r .whole ≡ count / h) × (r .odd ≡ count % h) ⌝ }
 {
@@ -107,7 +107,7 @@ fn split(count: u32, h: u32) -> Cylinders
 }
 
 // Puts an entry of a format 5: start track, whole cylinders, odd tracks.
-pub fn put_entry(rec: &mut [u8], at: usize, g: dscb::Geometry, start: u32, count: u32)
+pub fn put_entry(rec: &mut [u8], at: usize, g: dscb::Geometry, start: u16, count: u16)
     requires { ⌜ (length (now rec) ≡ 140) × (at + 4 < 140) × (start + count ≤ 65535) × Limits (geometryOf g) ⌝ }
     ensures { λ _. ⌜ now (rec .exit) ≡ putAt (now (rec .entry)) at (entry (geometryOf g) (run start count)) ⌝ }
 {
@@ -176,7 +176,7 @@ pub fn four(g: dscb::Geometry, highest: usize, format0s: usize) -> [u8; 140]
 {
     let mut r = blank(DS4IDFMT, 0x04, FORMAT4);
     put_link(&mut r, DS4HPCHR, g, highest);
-    put_two(&mut r, DS4DSREC, format0s as u32);
+    put_two(&mut r, DS4DSREC, format0s as u16);
     r[DS4NOEXT] = 0x01;
     put_two(&mut r, DS4DEVSZ, g.cylinders);
     put_two(&mut r, HEADS, g.heads);
@@ -214,11 +214,11 @@ fn empty_five(g: dscb::Geometry, k: usize) -> [u8; 140]
 pub fn five(
     rec: &mut [u8],
     free_tracks: &[u64],
-    n: usize,
-    at: usize,
+    n: u16,
+    at: u16,
     g: dscb::Geometry,
     k: usize,
-) -> usize
+) -> u16
     requires { ⌜ (length (now rec) ≡ 140) × (at ≤ n) × (n ≤ 64 * length (now «free_tracks»)) × (n ≤ 65535) × (k < slots (geometryOf g)) × Limits (geometryOf g) ⌝ }
     ensures { λ r. ⌜ Fills (geometryOf g) (now («free_tracks» .entry)) n at k (now (rec .exit)) r ⌝ }
 {
@@ -234,7 +234,7 @@ pub fn five(
         if from >= n {
             return n;
         }
-        put_entry(rec, entry_place(j), g, from as u32, (to - from) as u32);
+        put_entry(rec, entry_place(j), g, from, to - from);
         t = to;
         x = free.rest;
         j += 1;
@@ -271,8 +271,8 @@ pub fn add_extent1(
     g: dscb::Geometry,
     n: usize,
     type_byte: u8,
-    start: u32,
-    count: u32,
+    start: u16,
+    count: u16,
 )
     requires { ⌜ (length (now rec) ≡ 140) × (n < 16) × (1 ≤ count) × (start + count ≤ 65535) × Limits (geometryOf g) ⌝ }
     ensures { λ _. ⌜ ((l : Label) → length (l .extents) ≡ n → Format1 (geometryOf g) l (now (rec .entry)) → Format1 (geometryOf g) (withExtent (extent «type_byte» (run start count)) l) (now (rec .exit))) × (length (now (rec .exit)) ≡ 140) ⌝ }
@@ -290,8 +290,8 @@ pub fn add_extent3(
     g: dscb::Geometry,
     n: usize,
     type_byte: u8,
-    start: u32,
-    count: u32,
+    start: u16,
+    count: u16,
 )
     requires { ⌜ (length (now rec) ≡ 140) × (3 ≤ n) × (n < 16) × (1 ≤ count) × (start + count ≤ 65535) × Limits (geometryOf g) ⌝ }
     ensures { λ _. ⌜ ((l : Label) → length (l .extents) ≡ n → Format3 (geometryOf g) l (now (rec .entry)) → Format3 (geometryOf g) (withExtent (extent «type_byte» (run start count)) l) (now (rec .exit))) × (length (now (rec .exit)) ≡ 140) ⌝ }

@@ -48,8 +48,8 @@ pub fn entry(rec: &[u8], j: usize, h: u32) -> Hole
 {
     let p = dscb_write::entry_place(j);
     hole_of(
-        rows::two(rec, p),
-        rows::two(rec, p + 2),
+        rows::wide16(rows::two(rec, p)),
+        rows::wide16(rows::two(rec, p + 2)),
         rows::wide(rec[p + 4]),
         h,
     )

@@ -86,7 +86,8 @@ pub fn free_slot(free_slots: &mut [u64], k: usize)
     if k == 0 {
         return;
     }
-    bitmap::give_range(free_slots, k, k + 1);
+    let slot = k as u16;
+    bitmap::give_range(free_slots, slot, slot + 1);
 }
 
 // Whether a data set with so many tracks may end with the block TTR.

@@ -56,7 +56,7 @@ pub fn plan_grant(
     requires { ⌜ Grants (geometryOf g) (now table) (now «free_tracks») (now «free_slots») set (take (set .count) pieces) ⌝ }
     ensures { λ r. ⌜ GrantPlans (geometryOf g) (now (table .entry)) (now («free_tracks» .entry)) (now («free_tracks» .exit)) (now («free_slots» .entry)) (now («free_slots» .exit)) (now (chain .exit)) set (take (set .count) pieces) r ⌝ }
 {
-    let lo = set_extents::lowest_piece(pieces, set.count, dscb::tracks(g));
+    let lo = set_extents::lowest_piece(pieces, set.count, dscb::tracks(g) as u32);
     set_extents::take_pieces(free_tracks, pieces, set.count);
     let small = few(set.extents, set.count);
     let asked = update::asked_for(set.slot, set.slot3, small);

@@ -147,18 +147,18 @@ pub fn refusal_line(out: &mut [u8], n: u32) -> usize
 // ---- what the line of a data set tells
 
 // How many tracks the ten bytes of an extent stand for.
-fn tracks_in(x: &[u8], heads: u32) -> u32
+fn tracks_in(x: &[u8], heads: u16) -> u32
     requires { ⌜ (length (now x) ≡ 10) × (heads < 65536) × Proper (readExtent heads (now x)) ⌝ }
     ensures { λ r. ⌜ (r ≡ readExtent heads (now (x .entry)) .over .count) × (r ≤ 65535) ⌝ }
 {
     let first = dscb::track_at(x, 2, heads);
     let last = dscb::track_at(x, 6, heads);
-    last + 1 - first
+    (last - first) as u32 + 1
 }
 
 // How many tracks the first n extents of a format 1 with its format 3 have. A data set without a format 3 has at most 3
 // extents, which are in its format 1: any record serves as the other then, and the reading takes slot 0.
-pub fn tracks_of<'a>(f1: &'a [u8], f3: &'a [u8], n: usize, heads: u32) -> u32
+pub fn tracks_of<'a>(f1: &'a [u8], f3: &'a [u8], n: usize, heads: u16) -> u32
     requires { ⌜ (length (now f1) ≡ 140) × (length (now f3) ≡ 140) × (n ≤ 16) × (heads < 65536) ⌝ }
     requires { ⌜ All Proper (readExtents heads (now f1) (now f3) n) ⌝ }
     ensures { λ r. ⌜ r ≡ total (overs (readExtents heads (now (f1 .entry)) (now (f3 .entry)) n)) ⌝ }
@@ -175,7 +175,7 @@ pub fn tracks_of<'a>(f1: &'a [u8], f3: &'a [u8], n: usize, heads: u32) -> u32
 // ---- free extents
 
 // Writes the line of the free tracks from `from` up to `to`, if there are any.
-fn put_free(out: &mut [u8], at: usize, from: usize, to: usize) -> usize
+fn put_free(out: &mut [u8], at: usize, from: u16, to: u16) -> usize
     requires { ⌜ (at + 64 ≤ length (now out)) × (from ≤ to) × (to ≤ 65535) ⌝ }
     ensures { λ r. ⌜ Written at (spanLine from to) 14 (now (out .entry)) (now (out .exit)) r ⌝ }
 {
@@ -187,12 +187,12 @@ fn put_free(out: &mut [u8], at: usize, from: usize, to: usize) -> usize
 }
 
 // Writes the lines of the free extents among the n tracks of the map.
-fn free_lines(free_tracks: &[u64], n: usize, out: &mut [u8], at: usize) -> usize
+fn free_lines(free_tracks: &[u64], n: u16, out: &mut [u8], at: usize) -> usize
     requires { ⌜ (n ≤ 65535) × (n ≤ 64 * length (now «free_tracks»)) × (at + 14 * n + 64 ≤ length (now out)) ⌝ }
     ensures { λ r. ⌜ Written at (flat freeLine (freeFrom (now («free_tracks» .entry)) n 0)) (14 * n) (now (out .entry)) (now (out .exit)) r ⌝ }
 {
     let mut p = at;
-    let mut t: usize = 0;
+    let mut t: u16 = 0;
     while t < n {
         let free = bitmap::next_run(free_tracks, t, n);
         p = put_free(out, p, free.from, free.to);
@@ -275,9 +275,9 @@ fn list_taken(
     requires { ⌜ ReadyToList (geometryOf g) format0s (now table) (now «free_tracks») × (length (now «free_tracks») ≡ 1024) × (1000000 ≤ length (now out)) ⌝ }
     ensures { λ r. ⌜ Written 0 (listingOf (read (now (table .entry)))) 1000000 (now (out .entry)) (now (out .exit)) r ⌝ }
 {
-    let a = volume_line(out, g.cylinders, g.heads);
+    let a = volume_line(out, g.cylinders as u32, g.heads as u32);
     let b = data_lines(table, g, out, a);
-    let c = free_lines(free_tracks, dscb::tracks(g) as usize, out, b);
+    let c = free_lines(free_tracks, dscb::tracks(g), out, b);
     put_slots(out, c, format0s)
 }
 

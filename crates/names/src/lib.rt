@@ -110,8 +110,7 @@ fn is_new<'a>(table: &[u8], k: usize, tags: &'a [u16], seen: &'a [u64], t: u16, 
     requires { ⌜ (140 * k ≤ length (now table)) × (length (now tags) ≡ k) × Tagged (now table) k (now tags) × (t ≡ tagOf (now name)) × (length (now seen) ≡ 64) × Seen (now table) k (now seen) ⌝ }
     ensures { λ r. ⌜ r ≡ isNothing (findSlot (now (table .entry)) (now (name .entry)) k) ⌝ }
 {
-    let q = (t % 4096) as usize;
-    if bitmap::is_free(seen, q) {} else {
+    if bitmap::is_free(seen, t % 4096) {} else {
         return true;
     }
     if has_tag(tags, t) {
@@ -133,9 +132,8 @@ pub fn enter(table: &[u8], k: usize, tags: &mut [u16], seen: &mut [u64]) -> bool
     let t = tag(name);
     if is_new(table, k, &tags[..k], seen, t, name) {
         tags[k] = t;
-        let at = (t % 4096) as usize;
-        let end = at + 1;
-        bitmap::give_range(seen, at, end);
+        let at = t % 4096;
+        bitmap::give_range(seen, at, at + 1);
         return true;
     }
     false

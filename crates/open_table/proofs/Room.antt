@@ -30,9 +30,8 @@ told : (rec : List ℕ) → get2 rec 62 * get2 rec 64 ≡ tracks (readGeometry r
 unfolding readGeometry
 told rec = refl
 
-pub small-told : (t rec : List ℕ) (a b : ℕ) → rec ≡ slotBytes t 0 → a ≡ get2 rec 62 → b ≡ get2 rec 64 → leb (a * b) 4096 ≡ true → tracks (readGeometry (slotBytes t 0)) ≤ 4096
-small-told t rec a b e p q h =
-    let w : a * b ≤ 4096 = leb→le (a * b) 4096 (true-is h) in
+pub small-told : (t rec : List ℕ) (a b : ℕ) → rec ≡ slotBytes t 0 → a ≡ get2 rec 62 → b ≡ get2 rec 64 → a * b ≤ 4096 → tracks (readGeometry (slotBytes t 0)) ≤ 4096
+small-told t rec a b e p q w =
     subst (λ (r : List ℕ). tracks (readGeometry r) ≤ 4096) e (subst (λ (n : ℕ). n ≤ 4096) (ap₂ (λ (x y : ℕ). x * y) p q ∙ told rec) w)
 
 -- ---- the map of a table that is taken

@@ -48,7 +48,7 @@ pub fn is_small(table: &[u8]) -> bool
         return false;
     }
     let rec = dscb::record_at(table, 0);
-    rows::two(rec, DS4DEVSZ) * rows::two(rec, HEADS) <= 4096
+    dscb::product_within(rows::two(rec, DS4DEVSZ), rows::two(rec, HEADS), 4096)
 }
 
 // What a call is told when it has opened a table: the refusal, 0 for none, and where it is 0 the table's geometry, the number of its
@@ -64,16 +64,9 @@ pub struct Opening {
 fn refused(refusal: u32) -> Opening
     ensures { λ r. ⌜ r .refusal ≡ refusal ⌝ }
 {
-    let geometry = Geometry {
-        cylinders: 0,
-        heads: 0,
-        records: 0,
-        vtoc_start: 0,
-        vtoc_tracks: 0,
-    };
     Opening {
         refusal,
-        geometry,
+        geometry: dscb::nowhere(),
         format0s: 0,
         highest: 0,
     }

@@ -14,8 +14,8 @@ pub fn four(s: &[u8], i: usize) -> u32
     requires { ⌜ i + 3 < length (now s) ⌝ }
     ensures { λ r. ⌜ r ≡ get4 (now (s .entry)) i ⌝ }
 {
-    let hi = rows::two(s, i);
-    let lo = rows::two(s, i + 2);
+    let hi = rows::wide16(rows::two(s, i));
+    let lo = rows::wide16(rows::two(s, i + 2));
     hi * 65536 + lo
 }
 

@@ -131,7 +131,9 @@ pub fn in_range(request: Request, g: Geometry) -> bool
     match amount {
         Amount::Tracks(n) => counts_ok(n, request.secondary),
         Amount::Cylinders(n) => counts_ok(n, request.secondary),
-        Amount::Absolute(start, n) => { place_ok(start, n, request.secondary, dscb::tracks(g)) }
+        Amount::Absolute(start, n) => {
+            place_ok(start, n, request.secondary, dscb::tracks(g) as u32)
+        }
     }
 }
 
@@ -172,7 +174,7 @@ pub fn secondary_of(unit: u8, secondary: u32) -> Amount
 // ---- granting
 
 // Whether all tracks from s up to e are free: the first free run there is all of them.
-fn all_free(free_tracks: &[u64], s: usize, e: usize) -> bool
+fn all_free(free_tracks: &[u64], s: u16, e: u16) -> bool
     requires { ⌜ (s < e) × (e ≤ 64 * length (now «free_tracks»)) ⌝ }
     ensures { λ r. ⌜ r ≡ all (isFree (now («free_tracks» .entry))) (upFrom s (e - s)) ⌝ }
 {
@@ -189,7 +191,7 @@ fn exact(free_tracks: &[u64], start: u32, n: u32) -> [[u16; 2]; 5]
     ensures { λ r. ⌜ r ≡ grantOf (exactRuns (now («free_tracks» .entry)) start n) ⌝ }
 {
     let mut pieces = [[0u16; 2]; 5];
-    if all_free(free_tracks, start as usize, (start + n) as usize) {
+    if all_free(free_tracks, start as u16, (start + n) as u16) {
         pieces[0] = [start as u16, n as u16];
         return pieces;
     }
@@ -210,7 +212,7 @@ pub fn fulfil<'a>(
 {
     match amount {
         Amount::Tracks(k) => choose_pieces::choose(table, g, option, 1, k),
-        Amount::Cylinders(k) => choose_pieces::choose(table, g, option, g.heads, k),
+        Amount::Cylinders(k) => choose_pieces::choose(table, g, option, g.heads as u32, k),
         Amount::Absolute(start, k) => exact(free_tracks, start, k),
     }
 }

@@ -16,6 +16,13 @@ pub fn wide(x: u8) -> u32
     x as u32
 }
 
+// A byte as a number of 16 bits.
+pub fn byte(x: u8) -> u16
+    ensures { λ r. ⌜ (r ≡ x) × (r < 256) ⌝ }
+{
+    x as u16
+}
+
 // A number of two bytes, wider.
 pub fn wide16(x: u16) -> u32
     ensures { λ r. ⌜ (r ≡ x) × (r < 65536) ⌝ }
@@ -38,12 +45,12 @@ pub fn at_most(n: usize, most: usize) -> usize
 }
 
 // The two bytes from place i on, the high one first.
-pub fn two(s: &[u8], i: usize) -> u32
+pub fn two(s: &[u8], i: usize) -> u16
     requires { ⌜ i + 1 < length (now s) ⌝ }
     ensures { λ r. ⌜ (r ≡ get2 (now (s .entry)) i) × (r < 65536) ⌝ }
 {
-    let hi = wide(s[i]);
-    let lo = wide(s[i + 1]);
+    let hi = byte(s[i]);
+    let lo = byte(s[i + 1]);
     hi * 256 + lo
 }
 
@@ -52,7 +59,7 @@ pub fn three(s: &[u8], i: usize) -> u32
     requires { ⌜ i + 2 < length (now s) ⌝ }
     ensures { λ r. ⌜ (r ≡ get3 (now (s .entry)) i) × (r < 16777216) ⌝ }
 {
-    let hi = two(s, i);
+    let hi = wide16(two(s, i));
     let lo = wide(s[i + 2]);
     hi * 256 + lo
 }

@@ -44,6 +44,14 @@ tracks-in h x y e s z a b =
     let q = b ∙ ap (λ (w : List ℕ). trackAt h w 6) e in
     λ i. record { start = p i; count = q i + 1 - p i }
 
+-- where the extent has tracks and ends on a volume, both numbers have 16 bits
+pub ends-fit : (h : ℕ) (x y : List ℕ) → x ≡ y → 1 ≤ readExtent h y .over .count → readExtent h y .over .start + readExtent h y .over .count ≤ 65535
+    → (trackAt h x 2 ≤ trackAt h x 6) × (trackAt h x 6 < 65535)
+ends-fit h x y e u v =
+    let p = ap (λ (w : List ℕ). trackAt h w 2) e in
+    let q = ap (λ (w : List ℕ). trackAt h w 6) e in
+    (omega arith, omega arith)
+
 -- extent e has c tracks from s
 pub record ExtentAt (g : Geometry) (es : List Extent) (e s c : ℕ) : Type 0 where
   pub inside : e < length es

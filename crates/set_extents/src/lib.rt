@@ -42,14 +42,14 @@ fn piece_at(pieces: [[u16; 2]; 5], k: usize) -> Tracks
 
 // Takes the first `count` pieces out of the map of free tracks. That their tracks are free is known.
 pub fn take_pieces(free_tracks: &mut [u64], pieces: [[u16; 2]; 5], count: usize)
-    requires { ⌜ (count ≤ 5) × All (PieceIn (64 * length (now «free_tracks»))) (take count pieces) ⌝ }
+    requires { ⌜ (count ≤ 5) × All (PieceIn (64 * length (now «free_tracks»))) (take count pieces) × All (PieceIn 65535) (take count pieces) ⌝ }
     ensures { λ _. ⌜ TookPieces (take count pieces) (now («free_tracks» .entry)) (now («free_tracks» .exit)) ⌝ }
 {
     let mut k: usize = 0;
     while k < count {
         let p = piece_at(pieces, k);
-        let from = p.start as usize;
-        let to = from + p.count as usize;
+        let from = p.start as u16;
+        let to = (p.start + p.count) as u16;
         bitmap::take_range(free_tracks, from, to);
         k += 1;
     }
@@ -83,11 +83,11 @@ fn add_extent(
     requires { ⌜ (length (now f1) ≡ 140) × (length (now f3) ≡ 140) × (n < 16) × (1 ≤ count) × (start + count ≤ 65535) × Limits (geometryOf g) ⌝ }
     ensures { λ _. ⌜ ((l : Label) → length (l .extents) ≡ n → InRecords (geometryOf g) l (now (f1 .entry)) (now (f3 .entry)) → InRecords (geometryOf g) (withExtent (extent «type_byte» (run start count)) l) (now (f1 .exit)) (now (f3 .exit))) × (length (now (f1 .exit)) ≡ 140) × (length (now (f3 .exit)) ≡ 140) ⌝ }
 {
-    dscb_write::add_extent1(f1, g, n, type_byte, start, count);
+    dscb_write::add_extent1(f1, g, n, type_byte, start as u16, count as u16);
     if n < 3 {
         return;
     }
-    dscb_write::add_extent3(f3, g, n, type_byte, start, count);
+    dscb_write::add_extent3(f3, g, n, type_byte, start as u16, count as u16);
 }
 
 // Adds the first `count` pieces to the records of a label with n extents, behind them.
@@ -114,16 +114,16 @@ pub fn add_pieces(
 // ---- its tracks
 
 // The tracks of extent e, with h tracks to a cylinder.
-fn extent_at<'a>(f1: &'a [u8], f3: &'a [u8], e: usize, h: u32) -> Tracks
-    requires { ⌜ (length (now f1) ≡ 140) × (length (now f3) ≡ 140) × (e < 16) × (h < 65536) × (1 ≤ readExtent h (extentPart (now f1) (now f3) e) .over .count) ⌝ }
+fn extent_at<'a>(f1: &'a [u8], f3: &'a [u8], e: usize, h: u16) -> Tracks
+    requires { ⌜ (length (now f1) ≡ 140) × (length (now f3) ≡ 140) × (e < 16) × (1 ≤ readExtent h (extentPart (now f1) (now f3) e) .over .count) × (readExtent h (extentPart (now f1) (now f3) e) .over .start + readExtent h (extentPart (now f1) (now f3) e) .over .count ≤ 65535) ⌝ }
     ensures { λ r. ⌜ run (r .start) (r .count) ≡ readExtent h (extentPart (now (f1 .entry)) (now (f3 .entry)) e) .over ⌝ }
 {
     let x = dscb::extent_part(f1, f3, e);
     let start = dscb::track_at(x, 2, h);
     let last = dscb::track_at(x, 6, h);
     Tracks {
-        start,
-        count: last + 1 - start,
+        start: start as u32,
+        count: (last - start) as u32 + 1,
     }
 }
 
@@ -139,7 +139,7 @@ pub fn spread_of<'a>(f1: &'a [u8], f3: &'a [u8], n: usize, g: dscb::Geometry) ->
     ensures { λ r. ⌜ Spreads (tracks (geometryOf g)) (extentsIn (geometryOf g) (now (f1 .entry)) (now (f3 .entry)) n) (r .all) (r .lowest) ⌝ }
 {
     let mut all: u32 = 0;
-    let mut lowest = dscb::tracks(g);
+    let mut lowest = dscb::tracks(g) as u32;
     let mut e: usize = 0;
     while e < n {
         let x = extent_at(f1, f3, e, g.heads);
@@ -190,7 +190,7 @@ fn to_cylinder_end<'a>(f1: &'a [u8], f3: &'a [u8], n: usize, g: dscb::Geometry, 
     let mut e: usize = 0;
     while e < n {
         let x = extent_at(f1, f3, e, g.heads);
-        let stay = stays_of(left, last, x.start, x.count, g.heads);
+        let stay = stays_of(left, last, x.start, x.count, g.heads as u32);
         kept += stay;
         if stay < x.count {
             return kept;
@@ -289,8 +289,8 @@ fn give_behind<'a>(
     while e < n {
         let x = extent_at(f1, f3, e, g.heads);
         let stay = lesser(left, x.count);
-        let from = (x.start + stay) as usize;
-        let to = (x.start + x.count) as usize;
+        let from = (x.start + stay) as u16;
+        let to = (x.start + x.count) as u16;
         bitmap::give_range(free_tracks, from, to);
         left -= stay;
         e += 1;

@@ -19,31 +19,31 @@ ghost use Rattle.settle_slots.specs.Settling.{Chained, Filled, Gave, Low
 
 // How many of the n slots are free.
 pub fn count_free(free_slots: &[u64], n: usize) -> usize
-    requires { ⌜ n ≤ 64 * length (now «free_slots») ⌝ }
+    requires { ⌜ (n ≤ 64 * length (now «free_slots»)) × (n ≤ 65535) ⌝ }
     ensures { λ r. ⌜ (r ≡ total (freeFrom (now («free_slots» .entry)) n 0)) × (r ≤ n) ⌝ }
 {
     let mut count: usize = 0;
     let mut at: usize = 0;
     while at < n {
-        let free = bitmap::next_run(free_slots, at, n);
-        count += free.to - free.from;
-        at = free.to;
+        let free = bitmap::next_run(free_slots, at as u16, n as u16);
+        count += (free.to - free.from) as usize;
+        at = free.to as usize;
     }
     count
 }
 
 // Takes the lowest free slot of n out of the map; n where there is none.
 pub fn take_lowest(free_slots: &mut [u64], n: usize) -> usize
-    requires { ⌜ n ≤ 64 * length (now «free_slots») ⌝ }
+    requires { ⌜ (n ≤ 64 * length (now «free_slots»)) × (n ≤ 65535) ⌝ }
     ensures { λ r. ⌜ Lowest n (now («free_slots» .entry)) (now («free_slots» .exit)) (r ∷ []) × (r ≤ n) ⌝ }
 {
-    let free = bitmap::next_run(free_slots, 0, n);
+    let free = bitmap::next_run(free_slots, 0, n as u16);
     let k = free.from;
-    if k >= n {
+    if k as usize >= n {
         return n;
     }
     bitmap::take_range(free_slots, k, k + 1);
-    k
+    k as usize
 }
 
 // Fills the places from a up to b with the lowest free slots of n, which leave the map.
@@ -60,12 +60,12 @@ pub fn take_slots(free_slots: &mut [u64], n: usize, into: &mut [u16], a: usize, 
 
 // Makes the slots that stand from a up to b free.
 pub fn give_slots(free_slots: &mut [u64], chain: &[u16], a: usize, b: usize)
-    requires { ⌜ (b ≤ length (now chain)) × All (λ k. k < 64 * length (now «free_slots»)) (slice a b (now chain)) ⌝ }
+    requires { ⌜ (b ≤ length (now chain)) × All (λ k. k < 64 * length (now «free_slots»)) (slice a b (now chain)) × (64 * length (now «free_slots») ≤ 65535) ⌝ }
     ensures { λ _. ⌜ Gave (now («free_slots» .entry)) (now («free_slots» .exit)) (slice a b (now (chain .entry))) ⌝ }
 {
     let mut i = a;
     while i < b {
-        let k = rows::index(chain[i]);
+        let k = chain[i];
         bitmap::give_range(free_slots, k, k + 1);
         i += 1;
     }
@@ -133,7 +133,7 @@ pub fn settle(
     given: &mut [u16],
     asked: usize,
 ) -> Outcome
-    requires { ⌜ (n ≤ 468) × (n ≤ 64 * length (now «free_slots»)) × (n ≤ length (now chain)) × (was ≤ length (now chain)) × (asked ≤ 2) × (length (now given) ≡ 2) × All (λ k. k < n) (take was (now chain)) ⌝ }
+    requires { ⌜ (n ≤ 468) × (n ≤ 64 * length (now «free_slots»)) × (n ≤ length (now chain)) × (was ≤ length (now chain)) × (asked ≤ 2) × (length (now given) ≡ 2) × All (λ k. k < n) (take was (now chain)) × (64 * length (now «free_slots») ≤ 65535) ⌝ }
     ensures { λ r. ⌜ SettlesIn n (now («free_slots» .entry)) (now («free_slots» .exit)) (now (chain .entry)) (now (chain .exit)) (now (given .entry)) (now (given .exit)) was need asked (r .left) (r .fits) ⌝ }
 {
     if need > n {

@@ -115,8 +115,8 @@ pub fn put_chain(
     requires { ⌜ (n ≤ length (now chain)) × All (λ k. k < slots (geometryOf g)) (take n (now chain)) × (from ≤ n) × (start ≤ tracks (geometryOf g)) ⌝ }
     ensures { λ _. ⌜ now (table .exit) ≡ fivesPut (geometryOf g) (now (table .entry)) (fives (drop from (take n (now (chain .entry)))) (freeFrom (now («free_tracks» .entry)) (tracks (geometryOf g)) start)) ⌝ }
 {
-    let t = dscb::tracks(g) as usize;
-    let mut at = start;
+    let t = dscb::tracks(g);
+    let mut at = start as u16;
     let mut i = from;
     while i < n {
         let a = 140 * member(chain, i, n);
@@ -243,7 +243,7 @@ pub fn plan_slots(
     ensures { λ r. ⌜ Plans (geometryOf g) (now (table .entry)) (now («free_tracks» .entry)) (now («free_slots» .entry)) (now («free_slots» .exit)) (now (chain .exit)) lo asked r ⌝ }
 {
     let was = settle_slots::read_chain(table, g, chain);
-    let runs = bitmap::count_runs(free_tracks, dscb::tracks(g) as usize);
+    let runs = bitmap::count_runs(free_tracks, dscb::tracks(g));
     let need = settle_slots::fives_for(runs);
     let place = begin(table, g, chain, lesser(was, need), lo);
     let n = dscb::slots(g);

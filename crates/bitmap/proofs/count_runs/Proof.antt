@@ -4,6 +4,9 @@ use borrow.Author.Needs.{needs}
 use Rattle.bitmap.proofs.count_runs.Statement.{statement}
 use Rattle.bitmap.proofs.count_runs.Tie as tie
 
+cast-e : tie.Need-cast-e
+cast-e c = search needs
+
 mul-count-rest : tie.Need-mul-count-rest
 mul-count-rest c = search needs
 
@@ -31,6 +34,9 @@ starts-requires c κs = search needs
 sub-s : tie.Need-sub-s
 sub-s c = search needs
 
+cast-s : tie.Need-cast-s
+cast-s c = search needs
+
 shl-s : tie.Need-shl-s
 shl-s c = search needs
 
@@ -54,16 +60,4 @@ returns-2 c =
 pub count-runs-spec : {M : Type 1} → statement M
 count-runs-spec =
     tie.close
-    (tie.spec
-    mul-count-rest
-    count-eights-requires
-    count-rest-requires
-    returns
-    mul-starts
-    shared-slice-read-starts
-    starts-requires
-    sub-s
-    shl-s
-    cast-result
-    add-result
-    returns-2)
+    (tie.spec cast-e mul-count-rest count-eights-requires count-rest-requires returns mul-starts shared-slice-read-starts starts-requires sub-s cast-s shl-s cast-result add-result returns-2)

@@ -21,6 +21,9 @@ loop-holds c = (omega arith, omega arith, made-none _ _ _)
 chunk-requires : tie.Need-chunk-requires Inv-loop μ-loop
 chunk-requires c κs = search needs
 
+cast-w : tie.Need-cast-w Inv-loop μ-loop
+cast-w c = search needs
+
 mul-map : tie.Need-mul-map Inv-loop μ-loop
 mul-map c = search needs
 
@@ -62,18 +65,4 @@ returns c = let e : c .before .loop .t ≡ c .before .before .before .args .e = 
 pub give-far-spec : {M : Type 1} → statement M
 give-far-spec =
     tie.close
-    (tie.spec
-    Inv-loop
-    μ-loop
-    loop-holds
-    chunk-requires
-    mul-map
-    slice-read-map
-    mask-requires
-    mul-map-2
-    slice-write-map
-    add-t
-    loop-less
-    loop-again
-    same-length
-    returns)
+    (tie.spec Inv-loop μ-loop loop-holds chunk-requires cast-w mul-map slice-read-map mask-requires mul-map-2 slice-write-map add-t loop-less loop-again same-length returns)

@@ -3,6 +3,9 @@ use borrow.Author.Needs.{needs}
 use Rattle.bitmap.proofs.give_near.Statement.{statement}
 use Rattle.bitmap.proofs.give_near.Tie as tie
 
+cast-w : tie.Need-cast-w
+cast-w c = search needs
+
 mul-map : tie.Need-mul-map
 mul-map c = search needs
 
@@ -32,12 +35,4 @@ returns c =
 pub give-near-spec : {M : Type 1} → statement M
 give-near-spec =
     tie.close
-    (tie.spec
-    mul-map
-    slice-read-map
-    sub-mask
-    mask-requires
-    mul-map-2
-    slice-write-map
-    same-length
-    returns)
+    (tie.spec cast-w mul-map slice-read-map sub-mask mask-requires mul-map-2 slice-write-map same-length returns)

@@ -3,11 +3,17 @@ use Rattle.bitmap.proofs.Near.{rest-law, rest-none}
 use Rattle.bitmap.proofs.rest_of.Statement.{statement}
 use Rattle.bitmap.proofs.rest_of.Tie as tie
 
+cast-w : tie.Need-cast-w
+cast-w c = search needs
+
 mul-result : tie.Need-mul-result
 mul-result c = search needs
 
 shared-slice-read-result : tie.Need-shared-slice-read-result
 shared-slice-read-result c = search needs
+
+cast-result : tie.Need-cast-result
+cast-result c = search needs
 
 shl-result : tie.Need-shl-result
 shl-result c = search needs
@@ -20,4 +26,4 @@ returns-2 c = rest-none (c .before .args .map .now) (c .before .args .n) (c .bef
 
 pub rest-of-spec : {M : Type 1} → statement M
 rest-of-spec =
-    tie.close (tie.spec mul-result shared-slice-read-result shl-result returns returns-2)
+    tie.close (tie.spec cast-w mul-result shared-slice-read-result cast-result shl-result returns returns-2)

@@ -20,6 +20,9 @@ returns c =
 sub-e : tie.Need-sub-e
 sub-e c = search needs
 
+cast-e : tie.Need-cast-e
+cast-e c = search needs
+
 add-e : tie.Need-add-e
 add-e c = search needs
 
@@ -34,6 +37,15 @@ returns-2 c =
     let p = c .before .word-ahead .ensures (a .n) (omega arith) (top .pre .2) in
     (no-run (a .map .now) (a .n) (a .t) (first-none (a .map .now) (a .n) (a .t) ((a .n - 1) / 64 + 1) (r .at) (r .word) p (c .if2 .taken) (top .pre .0)), rest-none (a .map .now) (a .n) (a .n) (le-refl (a .n)))
 
+cast-from : tie.Need-cast-from
+cast-from c =
+    let top = c .before .before .before .before in
+    let a = top .args in
+    let r = c .before .word-ahead .result in
+    let p = c .before .word-ahead .ensures (a .n) (omega arith) (top .pre .2) in
+    let h = p .some (c .if2 .left) in
+    omega arith
+
 mul-from : tie.Need-mul-from
 mul-from c =
     let top = c .before .before .before .before in
@@ -43,8 +55,8 @@ mul-from c =
     let h = p .some (c .if2 .left) in
     omega arith
 
-cast-from : tie.Need-cast-from
-cast-from c = omega (arith, trailing-le 64 (c .before .word-ahead .result .word))
+cast-from-2 : tie.Need-cast-from-2
+cast-from-2 c = omega (arith, trailing-le 64 (c .before .word-ahead .result .word))
 
 add-from : tie.Need-add-from
 add-from c =
@@ -118,21 +130,4 @@ returns-6 c =
 pub run-far-spec : {M : Type 1} → statement M
 run-far-spec =
     tie.close
-    (tie.spec
-    returns
-    sub-e
-    add-e
-    word-ahead-requires
-    returns-2
-    mul-from
-    cast-from
-    add-from
-    returns-3
-    sub-low
-    stop-at-requires
-    returns-4
-    add-pass
-    pass-requires
-    stop-at-requires-2
-    returns-5
-    returns-6)
+    (tie.spec returns sub-e cast-e add-e word-ahead-requires returns-2 cast-from mul-from cast-from-2 add-from returns-3 sub-low stop-at-requires returns-4 add-pass pass-requires stop-at-requires-2 returns-5 returns-6)

@@ -6,8 +6,14 @@ use borrow.Author.Needs.{needs}
 use Rattle.bitmap.proofs.take_far.Statement.{statement}
 use Rattle.bitmap.proofs.take_far.Tie as tie
 
+cast-w : tie.Need-cast-w
+cast-w c = search needs
+
 sub-v : tie.Need-sub-v
 sub-v c = search needs
+
+cast-v : tie.Need-cast-v
+cast-v c = search needs
 
 sub-mask : tie.Need-sub-mask
 sub-mask c = search needs
@@ -91,23 +97,4 @@ returns-2 c =
 pub take-far-spec : {M : Type 1} → statement M
 take-far-spec =
     tie.close
-    (tie.spec
-    sub-v
-    sub-mask
-    mask-requires
-    sub-mask-2
-    add-mask
-    mask-requires-2
-    mul-x
-    slice-read-x
-    mul-y
-    slice-read-y
-    returns
-    mul-map
-    slice-write-map
-    mul-map-2
-    slice-write-map-2
-    add-take-words
-    take-words-requires
-    same-length
-    returns-2)
+    (tie.spec cast-w sub-v cast-v sub-mask mask-requires sub-mask-2 add-mask mask-requires-2 mul-x slice-read-x mul-y slice-read-y returns mul-map slice-write-map mul-map-2 slice-write-map-2 add-take-words take-words-requires same-length returns-2)

@@ -3,6 +3,9 @@ use borrow.Author.Needs.{needs}
 use Rattle.bitmap.proofs.take_near.Statement.{statement}
 use Rattle.bitmap.proofs.take_near.Tie as tie
 
+cast-w : tie.Need-cast-w
+cast-w c = search needs
+
 sub-mask : tie.Need-sub-mask
 sub-mask c = search needs
 
@@ -37,13 +40,4 @@ returns-2 c =
 pub take-near-spec : {M : Type 1} → statement M
 take-near-spec =
     tie.close
-    (tie.spec
-    sub-mask
-    mask-requires
-    mul-x
-    slice-read-x
-    returns
-    mul-map
-    slice-write-map
-    same-length
-    returns-2)
+    (tie.spec cast-w sub-mask mask-requires mul-x slice-read-x returns mul-map slice-write-map same-length returns-2)

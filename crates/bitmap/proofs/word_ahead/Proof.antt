@@ -3,6 +3,9 @@ use borrow.Author.Needs.{needs}
 use Rattle.bitmap.proofs.word_ahead.Statement.{statement}
 use Rattle.bitmap.proofs.word_ahead.Tie as tie
 
+cast-w : tie.Need-cast-w
+cast-w c = search needs
+
 returns : tie.Need-returns
 returns c =
     let a = c .before .before .args in
@@ -21,4 +24,4 @@ returns-2 c =
     λ n k r. word-later (a .map .now) n (a .t) (a .e) _ _ (a .x) (c .pass .ensures) (c .before .if1 .left) r k
 
 pub word-ahead-spec : {M : Type 1} → statement M
-word-ahead-spec = tie.close (tie.spec returns add-pass pass-requires returns-2)
+word-ahead-spec = tie.close (tie.spec cast-w returns add-pass pass-requires returns-2)

@@ -44,17 +44,20 @@ returns c =
 record-at-requires : tie.Need-record-at-requires Inv-loop μ-loop
 record-at-requires c κs = omega (arith, c .before .before .loop .inv .0, c .before .before .before .before .before .pre .1)
 
+cast-add-member : tie.Need-cast-add-member Inv-loop μ-loop
+cast-add-member c = search needs
+
 add-member-requires : tie.Need-add-member-requires Inv-loop μ-loop
 add-member-requires c κs =
-    let p = c .before .before .before .before .before .before .pre in
-    let l = c .before .before .before .loop in
-    let t = c .before .before .loop-test .taken in
+    let p = c .before .before .before .before .before .before .before .pre in
+    let l = c .before .before .before .before .loop in
+    let t = c .before .before .before .loop-test .taken in
     let m = p .0 .most in
-    (c .record-at .ensures .1, p .0 .heads, p .0 .headsMost, below-more _ 203347722240 (l .s) (omega (arith, l .inv .1)) (l .inv .2))
+    (c .before .record-at .ensures .1, p .0 .heads, p .0 .headsMost, below-more _ 203347722240 (l .s) (omega (arith, l .inv .1)) (l .inv .2))
 
 member-after-requires : tie.Need-member-after-requires Inv-loop μ-loop
 member-after-requires c κs =
-    let at-loop = c .before .before .before .before in
+    let at-loop = c .before .before .before .before .before in
     let top = at-loop .before .before .before in
     let p = top .pre in
     (p .0, p .1, at-loop .loop .inv .0)
@@ -67,16 +70,16 @@ loop-less c = search needs
 
 loop-again : tie.Need-loop-again Inv-loop μ-loop
 loop-again c =
-    let top = c .before .before .before .before .before .before .before .before in
+    let top = c .before .before .before .before .before .before .before .before .before in
     let a = top .args in
-    let l = c .before .before .before .before .before .loop in
-    let t = c .before .before .before .before .loop-test .taken in
-    let rec = c .before .before .record-at in
+    let l = c .before .before .before .before .before .before .loop in
+    let t = c .before .before .before .before .before .loop-test .taken in
+    let rec = c .before .before .before .record-at in
     let add = c .before .add-member in (
       c .member-after .ensures .0,
       omega (arith, l .inv .1),
       below-more _ _ (add .result) (omega (arith, l .inv .1)) (add .ensures .most _ (omega arith) (l .inv .2)),
-      λ f x. going-next (geometryOf (a .g)) (a .table .now) _ (l .left) (l .k) (l .inv .3 f x) (omega (arith, c .before .before .before .if1 .left)) (c .member-after .result) _
+      λ f x. going-next (geometryOf (a .g)) (a .table .now) _ (l .left) (l .k) (l .inv .3 f x) (omega (arith, c .before .before .before .before .if1 .left)) (c .member-after .result) _
           (λ e y z r w. z r (summed-more (a .g .heads) 26 e (l .s) (add .result) r (add .ensures .sums (take 26 e) (subst (λ (q : List ℕ). Entries (a .g .heads) q (take 26 e)) (sym (rec .ensures .0)) y)) w))
           (c .member-after .ensures .1),
     )
@@ -90,16 +93,4 @@ returns-2 c =
 pub add-all-spec : {M : Type 1} → statement M
 add-all-spec =
     tie.close
-    (tie.spec
-    Inv-loop
-    μ-loop
-    slots-requires
-    loop-holds
-    returns
-    record-at-requires
-    add-member-requires
-    member-after-requires
-    sub-left
-    loop-less
-    loop-again
-    returns-2)
+    (tie.spec Inv-loop μ-loop slots-requires loop-holds returns record-at-requires cast-add-member add-member-requires member-after-requires sub-left loop-less loop-again returns-2)

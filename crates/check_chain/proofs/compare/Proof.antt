@@ -53,7 +53,11 @@ part-entries-are-end-2 : tie.Need-part-entries-are-end-2
 part-entries-are-end-2 c = search needs
 
 entries-are-requires-2 : tie.Need-entries-are-requires-2
-entries-are-requires-2 c κs = (simp (length-take, length-drop) (omega (arith, c .before .before .before .before .before .before .before .before .before .before .pre .0)), omega arith, c .before .before .entries-are .ensures .upTo (c .before .if3 .taken), c .before .before .before .before .before .before .before .before .before .before .pre .2, c .before .before .before .before .before .before .before .before .before .before .pre .3, c .before .before .before .before .before .before .before .before .before .before .pre .4)
+entries-are-requires-2 c κs =
+    let at-if3 = c .before in
+    let at-entries-are = at-if3 .before in
+    let top = at-entries-are .before .before .before .before .before .before .before .before in
+    (simp (length-take, length-drop) (omega (arith, top .pre .0)), omega arith, at-entries-are .entries-are .ensures .upTo (at-if3 .if3 .taken), top .pre .2, top .pre .3, top .pre .4, top .pre .5)
 
 returns-4 : tie.Need-returns-4
 returns-4 c =

@@ -1,3 +1,4 @@
+use Rattle.bitmap.proofs.Walk.{behind-label}
 use mathlib.Core.Path.{_≡_, sym, _∙_}
 use lib.ListN.{length-take, length-drop}
 use native.Mathlib.Omega.{arith}
@@ -65,17 +66,18 @@ part-is-entry-start c = search needs
 part-is-entry-end : tie.Need-part-is-entry-end Inv-loop μ-loop
 part-is-entry-end c = search needs
 
-cast-is-entry : tie.Need-cast-is-entry Inv-loop μ-loop
-cast-is-entry c = search needs
-
 sub-is-entry-2 : tie.Need-sub-is-entry-2 Inv-loop μ-loop
 sub-is-entry-2 c = search needs
 
-cast-is-entry-2 : tie.Need-cast-is-entry-2 Inv-loop μ-loop
-cast-is-entry-2 c = search needs
-
 is-entry-requires : tie.Need-is-entry-requires Inv-loop μ-loop
-is-entry-requires c κs = (simp (length-take, length-drop) (omega (arith, c .before .before .before .before .before .before .before .before .pre .0)), c .before .before .before .before .before .before .before .before .pre .5 .headsMost)
+is-entry-requires c κs =
+    let at-if1 = c .before in
+    let at-run-ahead = at-if1 .before in
+    let at-loop = at-run-ahead .before .before in
+    let top = at-loop .before .before .before .before in
+    let a = top .args in
+    let from = behind-label (a .free-tracks .now) (a .n) (at-loop .loop .t) (at-run-ahead .run-ahead .result .from) (at-run-ahead .run-ahead .result .to) (at-run-ahead .run-ahead .ensures .0) (at-if1 .if1 .left) (top .pre .6) in
+    (simp (length-take, length-drop) (omega (arith, top .pre .0)), top .pre .5, omega (arith, from, at-run-ahead .run-ahead .ensures .0 .high, top .pre .4))
 
 add-j : tie.Need-add-j Inv-loop μ-loop
 add-j c = search needs
@@ -113,28 +115,4 @@ returns-3 c =
 pub entries-are-spec : {M : Type 1} → statement M
 entries-are-spec =
     tie.close
-    (tie.spec
-    Inv-loop
-    μ-loop
-    rest-of-requires
-    loop-holds
-    run-ahead-requires
-    mul-p
-    sub-all-are
-    part-all-are-start
-    part-all-are-end
-    all-are-requires
-    returns
-    add-e
-    sub-is-entry
-    part-is-entry-start
-    part-is-entry-end
-    cast-is-entry
-    sub-is-entry-2
-    cast-is-entry-2
-    is-entry-requires
-    add-j
-    loop-less
-    loop-again
-    returns-2
-    returns-3)
+    (tie.spec Inv-loop μ-loop rest-of-requires loop-holds run-ahead-requires mul-p sub-all-are part-all-are-start part-all-are-end all-are-requires returns add-e sub-is-entry part-is-entry-start part-is-entry-end sub-is-entry-2 is-entry-requires add-j loop-less loop-again returns-2 returns-3)

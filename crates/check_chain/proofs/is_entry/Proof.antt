@@ -1,3 +1,6 @@
+use Rattle.check_chain.proofs.Entries.{many-cylinders}
+use Rattle.dscb.proofs.Stops.{cylinder-fits}
+use Rattle.dscb.specs.Forms.{geometryOf}
 use native.Mathlib.Omega.{arith}
 use native.Mathlib.Nat.{mul-le-mul}
 use Prim.Native.Nat.{_≤_}
@@ -12,43 +15,54 @@ two-requires c κs = search needs
 returns : tie.Need-returns
 returns c = rw (← c .before .two .ensures .0, ne-eqb _ _ (c .if1 .taken))
 
-shared-slice-read-wide : tie.Need-shared-slice-read-wide
-shared-slice-read-wide c = search needs
+shared-slice-read-byte : tie.Need-shared-slice-read-byte
+shared-slice-read-byte c = search needs
 
-wide-requires : tie.Need-wide-requires
-wide-requires c κs = search needs
+byte-requires : tie.Need-byte-requires
+byte-requires c κs = search needs
 
 returns-2 : tie.Need-returns-2
 returns-2 c =
-    let at-if1 = c .before .before .before in
+    let at-byte = c .before .before in
+    let at-if1 = at-byte .before .before in
     let at-two = at-if1 .before in
-    rw (← at-two .two .ensures .0, eq-eqb _ _ (at-if1 .if1 .left), ← c .before .wide .ensures .0, le-ltb _ _ (c .if2 .taken))
+    rw (← at-two .two .ensures .0, eq-eqb _ _ (at-if1 .if1 .left), ← at-byte .byte .ensures .0, le-ltb _ _ (c .if2 .taken))
 
 two-requires-2 : tie.Need-two-requires-2
 two-requires-2 c κs = search needs
 
-mul-result : tie.Need-mul-result
-mul-result c = let w : c .two2 .result ≤ 65535 = omega (arith, c .two2 .ensures .1) in omega (arith, mul-le-mul w (c .before .before .before .before .before .before .before .pre .1))
-
-add-result : tie.Need-add-result
-add-result c = let w : c .two2 .result ≤ 65535 = omega (arith, c .two2 .ensures .1) in omega (arith, mul-le-mul w (c .before .before .before .before .before .before .before .pre .1), c .before .before .wide .ensures .1)
-
 returns-3 : tie.Need-returns-3
 returns-3 c =
-    let at-if1 = c .before .before .before .before in
+    let at-two2 = c .before .before in
+    let top = at-two2 .before .before .before .before .before .before .before .before in
+    many-cylinders (geometryOf (top .args .g)) (top .args .start) (top .args .count) (top .args .x .now) (top .pre .2) (omega (arith, at-two2 .two2 .ensures .0, c .if3 .taken))
+
+mul-result : tie.Need-mul-result
+mul-result c =
+    let at-if3 = c .before in
+    let at-two2 = at-if3 .before .before in
+    let top = at-two2 .before .before .before .before .before .before .before .before in
+    omega (arith, cylinder-fits (top .args .g .cylinders) (top .args .g .heads) (at-two2 .two2 .result) (at-if3 .if3 .left), top .pre .1 .tracksMost)
+
+add-result : tie.Need-add-result
+add-result c =
+    let at-if3 = c .before in
+    let at-two2 = at-if3 .before .before in
+    let at-if2 = at-two2 .before in
+    let at-byte = at-if2 .before .before in
+    let top = at-byte .before .before .before .before .before in
+    omega (arith, cylinder-fits (top .args .g .cylinders) (top .args .g .heads) (at-two2 .two2 .result) (at-if3 .if3 .left), top .pre .1 .tracksMost, at-if2 .if2 .left)
+
+returns-4 : tie.Need-returns-4
+returns-4 c =
+    let at-two2 = c .before .before .before in
+    let at-if2 = at-two2 .before in
+    let at-byte = at-if2 .before .before in
+    let at-if1 = at-byte .before .before in
     let at-two = at-if1 .before in
-    rw (← at-two .two .ensures .0, eq-eqb _ _ (at-if1 .if1 .left), ← c .before .before .wide .ensures .0, lt-ltb _ _ (c .before .if2 .left), ← c .two2 .ensures .0)
+    rw (← at-two .two .ensures .0, eq-eqb _ _ (at-if1 .if1 .left), ← at-byte .byte .ensures .0, lt-ltb _ _ (at-if2 .if2 .left), ← at-two2 .two2 .ensures .0)
 
 pub is-entry-spec : {M : Type 1} → statement M
 is-entry-spec =
     tie.close
-    (tie.spec
-    two-requires
-    returns
-    shared-slice-read-wide
-    wide-requires
-    returns-2
-    two-requires-2
-    mul-result
-    add-result
-    returns-3)
+    (tie.spec two-requires returns shared-slice-read-byte byte-requires returns-2 two-requires-2 returns-3 mul-result add-result returns-4)

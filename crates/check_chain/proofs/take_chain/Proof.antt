@@ -28,7 +28,7 @@ take-member-requires : tie.Need-take-member-requires Inv-loop μ-loop
 take-member-requires c κs =
     let top = c .before .before .before .before .before in
     let l = c .before .loop .inv in
-    (top .pre .0, top .pre .1, l .0, l .1, top .pre .2, l .2 ∙ top .pre .3)
+    (top .pre .0, top .pre .1, l .0, l .1, top .pre .2, l .2 ∙ top .pre .3, top .pre .4)
 
 same-length : tie.Need-same-length Inv-loop μ-loop
 same-length c = search needs

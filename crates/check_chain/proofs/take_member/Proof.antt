@@ -16,6 +16,9 @@ use borrow.Author.Needs.{needs}
 use Rattle.check_chain.proofs.take_member.Statement.{statement}
 use Rattle.check_chain.proofs.take_member.Tie as tie
 
+cast-member : tie.Need-cast-member
+cast-member c = search needs
+
 add-take-range : tie.Need-add-take-range
 add-take-range c = search needs
 
@@ -36,9 +39,6 @@ returns c =
 
 tracks-requires : tie.Need-tracks-requires
 tracks-requires c κs = search needs
-
-cast-t : tie.Need-cast-t
-cast-t c = search needs
 
 record-at-requires : tie.Need-record-at-requires
 record-at-requires c κs = search needs
@@ -126,24 +126,4 @@ returns-4 c =
 pub take-member-spec : {M : Type 1} → statement M
 take-member-spec =
     tie.close
-    (tie.spec
-    add-take-range
-    take-range-requires
-    refused-requires
-    same-length
-    returns
-    tracks-requires
-    cast-t
-    record-at-requires
-    compare-requires
-    refused-requires-2
-    same-length-2
-    returns-2
-    next-run-requires
-    part-is-requires
-    same-length-3
-    returns-3
-    link-requires
-    is-linked-requires
-    same-length-4
-    returns-4)
+    (tie.spec cast-member add-take-range take-range-requires refused-requires same-length returns tracks-requires record-at-requires compare-requires refused-requires-2 same-length-2 returns-2 next-run-requires part-is-requires same-length-3 returns-3 link-requires is-linked-requires same-length-4 returns-4)

@@ -9,8 +9,11 @@ use borrow.Author.Needs.{needs}
 use Rattle.check_label.proofs.take_slots.Statement.{statement}
 use Rattle.check_label.proofs.take_slots.Tie as tie
 
-add-next : tie.Need-add-next
-add-next c = search needs
+cast-slot : tie.Need-cast-slot
+cast-slot c = search needs
+
+add-take-range : tie.Need-add-take-range
+add-take-range c = search needs
 
 take-range-requires : tie.Need-take-range-requires
 take-range-requires c κs = search needs
@@ -33,8 +36,11 @@ returns-2 c =
     let top = at-take-range .before .before .before in
     slots-one (top .args .k) (top .args .q) (top .args .free-slots .now) _ [] true (top .pre .0) (subst (λ (r : Bool). Taken (top .args .free-slots .now) (at-take-range .take-range .last .0) (top .args .k) (top .args .k + 1) r) (c .before .if1 .taken) (at-take-range .take-range .ensures)) (c .if2 .taken)
 
-add-end : tie.Need-add-end
-add-end c = search needs
+cast-slot3 : tie.Need-cast-slot3
+cast-slot3 c = search needs
+
+add-take-range-2 : tie.Need-add-take-range-2
+add-take-range-2 c = search needs
 
 take-range-requires-2 : tie.Need-take-range-requires-2
 take-range-requires-2 c κs = search needs
@@ -49,14 +55,4 @@ returns-3 c =
 pub take-slots-spec : {M : Type 1} → statement M
 take-slots-spec =
     tie.close
-    (tie.spec
-    add-next
-    take-range-requires
-    same-length
-    returns
-    same-length-2
-    returns-2
-    add-end
-    take-range-requires-2
-    same-length-3
-    returns-3)
+    (tie.spec cast-slot add-take-range take-range-requires same-length returns same-length-2 returns-2 cast-slot3 add-take-range-2 take-range-requires-2 same-length-3 returns-3)

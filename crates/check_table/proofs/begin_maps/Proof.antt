@@ -4,12 +4,6 @@ use borrow.Author.Needs.{needs}
 use Rattle.check_table.proofs.begin_maps.Statement.{statement}
 use Rattle.check_table.proofs.begin_maps.Tie as tie
 
-cast-start : tie.Need-cast-start
-cast-start c = search needs
-
-cast-end : tie.Need-cast-end
-cast-end c = search needs
-
 add-end : tie.Need-add-end
 add-end c = search needs
 
@@ -21,6 +15,9 @@ take-range-requires-2 c κs = search needs
 
 slots-requires : tie.Need-slots-requires
 slots-requires c κs = search needs
+
+cast-free-below : tie.Need-cast-free-below
+cast-free-below c = search needs
 
 free-below-requires : tie.Need-free-below-requires
 free-below-requires c κs = search needs
@@ -36,22 +33,16 @@ same-length-2 c = search needs
 
 returns : tie.Need-returns
 returns c =
-    let top = c .before .before .before .before .before .before .before .before .before .before .before .before .before .before .before .before .before .before .before .before .before in
-    maps-begun (geometryOf (top .args .g)) (top .pre .0) (top .args .free-tracks .now) _ _ (c .before .before .before .before .before .before .before .before .before .before .before .before .before .before .before .take-range .result) (c .before .before .before .before .before .before .before .before .before .before .before .take-range2 .result) (top .pre .1) (c .before .before .before .before .before .before .before .before .before .before .before .before .before .before .before .take-range .ensures) (c .before .before .before .before .before .before .before .before .before .before .before .take-range2 .ensures)
-    (top .args .free-slots .now) _ _ (c .before .before .take-range3 .result) (c .before .before .before .before .before .before .before .slots .result) (c .before .before .before .before .before .before .before .slots .ensures .0) (c .before .before .before .before .before .before .free-below .ensures) (c .before .before .take-range3 .ensures)
+    let at-take-range3 = c .before .before in
+    let at-free-below = at-take-range3 .before .before .before .before in
+    let at-slots = at-free-below .before in
+    let at-take-range2 = at-slots .before .before .before .before in
+    let at-take-range = at-take-range2 .before .before .before .before in
+    let top = at-take-range .before .before .before .before .before in
+    maps-begun (geometryOf (top .args .g)) (top .pre .0) (top .args .free-tracks .now) _ _ (at-take-range .take-range .result) (at-take-range2 .take-range2 .result) (top .pre .1) (at-take-range .take-range .ensures) (at-take-range2 .take-range2 .ensures)
+    (top .args .free-slots .now) _ _ (at-take-range3 .take-range3 .result) (at-slots .slots .result) (at-slots .slots .ensures .0) (at-free-below .free-below .ensures) (at-take-range3 .take-range3 .ensures)
 
 pub begin-maps-spec : {M : Type 1} → statement M
 begin-maps-spec =
     tie.close
-    (tie.spec
-    cast-start
-    cast-end
-    add-end
-    take-range-requires
-    take-range-requires-2
-    slots-requires
-    free-below-requires
-    take-range-requires-3
-    same-length
-    same-length-2
-    returns)
+    (tie.spec add-end take-range-requires take-range-requires-2 slots-requires cast-free-below free-below-requires take-range-requires-3 same-length same-length-2 returns)

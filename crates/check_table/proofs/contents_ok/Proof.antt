@@ -1,4 +1,4 @@
-use Rattle.check_table.proofs.Pieces.{chain-wrong, labels-wrong, rest-decides}
+use Rattle.check_table.proofs.Pieces.{chain-wrong, labels-wrong, rest-decides, label-held}
 use Rattle.dscb.specs.Forms.{geometryOf}
 use borrow.Author.Needs.{needs}
 use Rattle.check_table.proofs.contents_ok.Statement.{statement}
@@ -27,7 +27,13 @@ returns c =
     labels-wrong (geometryOf (top .args .g)) (top .pre .0) (top .args .table .now) (top .pre .1) (top .args .free-tracks .now) _ _ (top .args .free-slots .now) _ _ (at-begin-maps .begin-maps .ensures) (at-take-labels .take-labels .result) (c .before .if1 .left) (at-take-labels .take-labels .ensures) _ (c .not-taken .ensures)
 
 take-chain-requires : tie.Need-take-chain-requires
-take-chain-requires c κs = search needs
+take-chain-requires c κs =
+    let at-if1 = c .before .before in
+    let at-take-labels = at-if1 .before .before .before .before .before in
+    let at-begin-maps = at-take-labels .before .before .before .before .before .before .before in
+    let top = at-begin-maps .before .before .before .before .before .before in
+    let none = label-held (geometryOf (top .args .g)) (top .pre .0) (top .args .table .now) (top .pre .1) (top .args .free-tracks .now) _ _ (top .args .free-slots .now) _ _ (at-begin-maps .begin-maps .ensures) (at-take-labels .take-labels .result) (at-if1 .if1 .taken) (at-take-labels .take-labels .ensures) in
+    search needs
 
 not-taken-requires-2 : tie.Need-not-taken-requires-2
 not-taken-requires-2 c κs = search needs

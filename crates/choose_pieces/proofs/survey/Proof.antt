@@ -41,6 +41,9 @@ returns c =
 record-at-requires : tie.Need-record-at-requires Inv-loop μ-loop
 record-at-requires c κs = omega (arith, c .before .before .loop .inv .1, c .before .before .before .before .before .pre .0 .1)
 
+cast-look-or-pass : tie.Need-cast-look-or-pass Inv-loop μ-loop
+cast-look-or-pass c = search needs
+
 look-or-pass-requires : tie.Need-look-or-pass-requires Inv-loop μ-loop
 look-or-pass-requires c κs =
     let at-loop = c .before .before .before .before .before in
@@ -97,17 +100,4 @@ returns-3 c =
 pub survey-spec : {M : Type 1} → statement M
 survey-spec =
     tie.close
-    (tie.spec
-    Inv-loop
-    μ-loop
-    slots-requires
-    loop-holds
-    returns
-    record-at-requires
-    look-or-pass-requires
-    returns-2
-    member-after-requires
-    sub-left
-    loop-less
-    loop-again
-    returns-3)
+    (tie.spec Inv-loop μ-loop slots-requires loop-holds returns record-at-requires cast-look-or-pass look-or-pass-requires returns-2 member-after-requires sub-left loop-less loop-again returns-3)

@@ -1,10 +1,13 @@
-use Rattle.rows.proofs.Rows.{product}
-use native.Mathlib.Omega.{arith}
-use Prim.Native.Nat.{ℕ, _+_, _*_}
+use Rattle.dscb.proofs.Stops.{track-fits, track-is}
 use mathlib.Core.Path.{ap₂}
+use Prim.Native.Nat.{ℕ, _+_, _*_}
+use native.Mathlib.Omega.{arith}
 use borrow.Author.Needs.{needs}
 use Rattle.dscb.proofs.track_at.Statement.{statement}
 use Rattle.dscb.proofs.track_at.Tie as tie
+use Rattle.dscb.proofs.track_at.Reads as reads
+use Rattle.dscb.proofs.track_at.Lts as lts
+use Rattle.rows.proofs.two.Reads as two-reads
 
 two-requires : tie.Need-two-requires
 two-requires c κs = search needs
@@ -16,17 +19,25 @@ two-requires-2 : tie.Need-two-requires-2
 two-requires-2 c κs = search needs
 
 mul-result : tie.Need-mul-result
-mul-result c = let p = product (c .before .two .result) (c .before .before .before .args .h) (c .two2 .result) (c .before .two .ensures .1) (c .before .before .before .pre .1) (c .two2 .ensures .1) in omega arith
+mul-result c =
+    let at-two2 = c in
+    let at-two = at-two2 .before in
+    let top = at-two .before .before in
+    omega (arith, track-fits (top .args .h) (at-two .two .result) (at-two2 .two2 .result) (top .args .i) (top .args .s .now) (at-two .two .ensures .0) (at-two2 .two2 .ensures .0) (top .pre .1) .0)
 
 add-result : tie.Need-add-result
-add-result c = let p = product (c .before .two .result) (c .before .before .before .args .h) (c .two2 .result) (c .before .two .ensures .1) (c .before .before .before .pre .1) (c .two2 .ensures .1) in omega arith
+add-result c =
+    let at-two2 = c in
+    let at-two = at-two2 .before in
+    let top = at-two .before .before in
+    omega (arith, track-fits (top .args .h) (at-two .two .result) (at-two2 .two2 .result) (top .args .i) (top .args .s .now) (at-two .two .ensures .0) (at-two2 .two2 .ensures .0) (top .pre .1) .1)
 
 returns : tie.Need-returns
 returns c =
-    let top = c .before .before .before in (
-      ap₂ (λ (x y : ℕ). x * top .args .h + y) (c .before .two .ensures .0) (c .two2 .ensures .0),
-      product (c .before .two .result) (top .args .h) (c .two2 .result) (c .before .two .ensures .1) (top .pre .1) (c .two2 .ensures .1) .1,
-    )
+    let at-two2 = c in
+    let at-two = at-two2 .before in
+    let top = at-two .before .before in
+    track-is (top .args .h) (at-two .two .result) (at-two2 .two2 .result) (top .args .i) (top .args .s .now) (at-two .two .ensures .0) (at-two2 .two2 .ensures .0)
 
 pub track-at-spec : {M : Type 1} → statement M
 track-at-spec =

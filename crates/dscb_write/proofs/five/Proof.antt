@@ -56,14 +56,8 @@ returns c =
 entry-place-requires : tie.Need-entry-place-requires Inv-loop μ-loop
 entry-place-requires c κs = search needs
 
-cast-put-entry : tie.Need-cast-put-entry Inv-loop μ-loop
-cast-put-entry c = search needs
-
 sub-put-entry : tie.Need-sub-put-entry Inv-loop μ-loop
 sub-put-entry c = search needs
-
-cast-put-entry-2 : tie.Need-cast-put-entry-2 Inv-loop μ-loop
-cast-put-entry-2 c = search needs
 
 put-entry-requires : tie.Need-put-entry-requires Inv-loop μ-loop
 put-entry-requires c κs =
@@ -99,24 +93,4 @@ returns-2 c =
 pub five-spec : {M : Type 1} → statement M
 five-spec =
     tie.close
-    (tie.spec
-    Inv-loop
-    μ-loop
-    empty-five-requires
-    slice-aggregate-copy
-    copy-requires
-    rest-of-requires
-    loop-holds
-    run-ahead-requires
-    same-length
-    returns
-    entry-place-requires
-    cast-put-entry
-    sub-put-entry
-    cast-put-entry-2
-    put-entry-requires
-    add-j
-    loop-less
-    loop-again
-    same-length-2
-    returns-2)
+    (tie.spec Inv-loop μ-loop empty-five-requires slice-aggregate-copy copy-requires rest-of-requires loop-holds run-ahead-requires same-length returns entry-place-requires sub-put-entry put-entry-requires add-j loop-less loop-again same-length-2 returns-2)

@@ -22,7 +22,7 @@ put-two-requires : tie.Need-put-two-requires
 put-two-requires c κs =
     let top = c .before .before .before .before in
     let l : length (c .before .before .before .blank .result) ≡ 140 = search needs in
-    (put-keeps _ _ _ _ 140 (c .before .put-link .ensures) l, omega arith, top .pre .1)
+    (put-keeps _ _ _ _ 140 (c .before .put-link .ensures) l, omega arith)
 
 array-write-r : tie.Need-array-write-r
 array-write-r c = search needs
@@ -31,13 +31,13 @@ put-two-requires-2 : tie.Need-put-two-requires-2
 put-two-requires-2 c κs =
     let top = c .before .before .before .before .before .before in
     let l : length (c .before .before .before .before .before .blank .result) ≡ 140 = search needs in
-    (simp length-set (put-keeps _ _ _ _ 140 (c .before .put-two .ensures) (put-keeps _ _ _ _ 140 (c .before .before .before .put-link .ensures) l)), omega arith, cylinders-small (geometryOf (top .args .g)) (top .pre .2))
+    (simp length-set (put-keeps _ _ _ _ 140 (c .before .put-two .ensures) (put-keeps _ _ _ _ 140 (c .before .before .before .put-link .ensures) l)), omega arith)
 
 put-two-requires-3 : tie.Need-put-two-requires-3
 put-two-requires-3 c κs =
     let top = c .before .before .before .before .before .before .before .before in
     let l : length (c .before .before .before .before .before .before .before .blank .result) ≡ 140 = search needs in
-    (put-keeps _ _ _ _ 140 (c .before .put-two2 .ensures) (simp length-set (put-keeps _ _ _ _ 140 (c .before .before .before .put-two .ensures) (put-keeps _ _ _ _ 140 (c .before .before .before .before .before .put-link .ensures) l))), omega arith, omega (arith, top .pre .2 .headsMost))
+    (put-keeps _ _ _ _ 140 (c .before .put-two2 .ensures) (simp length-set (put-keeps _ _ _ _ 140 (c .before .before .before .put-two .ensures) (put-keeps _ _ _ _ 140 (c .before .before .before .before .before .put-link .ensures) l))), omega arith)
 
 cast-r : tie.Need-cast-r
 cast-r c = search needs

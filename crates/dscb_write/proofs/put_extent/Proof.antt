@@ -41,7 +41,7 @@ sub-put-track c = search needs
 put-track-requires-2 : tie.Need-put-track-requires-2
 put-track-requires-2 c κs =
     let top = c .before .before .before in
-    (put-keeps _ _ _ _ 140 (c .before .put-track .ensures) (simp length-set (top .pre .0)), omega arith, omega arith, top .pre .5)
+    (put-keeps _ _ _ _ 140 (c .before .put-track .ensures) (simp length-set (top .pre .0)), omega arith, top .pre .5)
 
 returns : tie.Need-returns
 returns c =

@@ -34,7 +34,7 @@ add-t : tie.Need-add-t
 add-t c = let top = c .before .before in omega (arith, slot-track (geometryOf (top .args .g)) (top .pre .3) (top .args .k) (top .pre .2))
 
 put-track-requires : tie.Need-put-track-requires
-put-track-requires c κs = let top = c .before .before .before in (top .pre .0, omega arith, slot-track (geometryOf (top .args .g)) (top .pre .3) (top .args .k) (top .pre .2), top .pre .3)
+put-track-requires c κs = let top = c .before .before .before in (top .pre .0, omega arith, top .pre .3)
 
 rem-rec : tie.Need-rem-rec
 rem-rec c = search needs

@@ -14,7 +14,7 @@ div-put-two : tie.Need-div-put-two
 div-put-two c = search needs
 
 put-two-requires : tie.Need-put-two-requires
-put-two-requires c κs = (c .before .pre .0, omega arith, omega (arith, div-le-self (c .before .args .t) (c .before .args .g .heads)))
+put-two-requires c κs = (c .before .pre .0, omega arith)
 
 add-put-two : tie.Need-add-put-two
 add-put-two c = search needs
@@ -25,7 +25,7 @@ rem-put-two c = search needs
 put-two-requires-2 : tie.Need-put-two-requires-2
 put-two-requires-2 c κs =
     let top = c .before .before .before in
-    (put-keeps _ _ _ _ 140 (c .before .put-two .ensures) (top .pre .0), omega arith, omega (arith, mod-le (top .args .t) (top .args .g .heads)))
+    (put-keeps _ _ _ _ 140 (c .before .put-two .ensures) (top .pre .0), omega arith)
 
 returns : tie.Need-returns
 returns c =

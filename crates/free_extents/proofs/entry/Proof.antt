@@ -12,11 +12,17 @@ entry-place-requires c κs = search needs
 two-requires : tie.Need-two-requires
 two-requires c κs = search needs
 
+wide16-requires : tie.Need-wide16-requires
+wide16-requires c κs = search needs
+
 add-two : tie.Need-add-two
 add-two c = search needs
 
 two-requires-2 : tie.Need-two-requires-2
 two-requires-2 c κs = search needs
+
+wide16-requires-2 : tie.Need-wide16-requires-2
+wide16-requires-2 c κs = search needs
 
 add-wide : tie.Need-add-wide
 add-wide c = search needs
@@ -32,11 +38,16 @@ hole-of-requires c κs = search needs
 
 returns : tie.Need-returns
 returns c =
-    let top = c .before .before .before .before .before .before .before in
-    let place = c .before .before .before .before .before in
+    let at-wide = c .before in
+    let at-wide162 = at-wide .before .before in
+    let at-two2 = at-wide162 .before in
+    let at-wide16 = at-two2 .before in
+    let at-two = at-wide16 .before in
+    let at-entry-place = at-two .before in
+    let top = at-entry-place .before .before in
     let x = c .hole-of .ensures in
-    let s : c .hole-of .result .start ≡ c .before .before .before .before .two .result = ap (λ (r : Run). r .start) (x .0) in (
-      x .0 ∙ entry-is (top .args .h) (top .args .rec .now) _ (top .args .j) _ _ _ (place .entry-place .ensures .0) (c .before .before .before .before .two .ensures .0) (c .before .before .before .two2 .ensures .0) (c .before .wide .ensures .0),
+    let s : c .hole-of .result .start ≡ at-wide16 .wide16 .result = ap (λ (r : Run). r .start) (x .0) in (
+      x .0 ∙ entry-is (top .args .h) (top .args .rec .now) _ (top .args .j) _ _ _ (at-entry-place .entry-place .ensures .0) (at-wide16 .wide16 .ensures .0 ∙ at-two .two .ensures .0) (at-wide162 .wide162 .ensures .0 ∙ at-two2 .two2 .ensures .0) (at-wide .wide .ensures .0),
       omega arith,
       x .1,
       x .2,
@@ -46,13 +57,4 @@ returns c =
 pub entry-spec : {M : Type 1} → statement M
 entry-spec =
     tie.close
-    (tie.spec
-    entry-place-requires
-    two-requires
-    add-two
-    two-requires-2
-    add-wide
-    shared-slice-read-wide
-    wide-requires
-    hole-of-requires
-    returns)
+    (tie.spec entry-place-requires two-requires wide16-requires add-two two-requires-2 wide16-requires-2 add-wide shared-slice-read-wide wide-requires hole-of-requires returns)

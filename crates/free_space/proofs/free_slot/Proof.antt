@@ -6,6 +6,9 @@ use Rattle.free_space.proofs.free_slot.Tie as tie
 returns : tie.Need-returns
 returns c = freed-none (c .before .before .args .k) (c .before .before .args .free-slots .now) (c .if1 .taken)
 
+cast-slot : tie.Need-cast-slot
+cast-slot c = search needs
+
 add-give-range : tie.Need-add-give-range
 add-give-range c = search needs
 
@@ -23,4 +26,4 @@ returns-2 c =
 
 pub free-slot-spec : {M : Type 1} → statement M
 free-slot-spec =
-    tie.close (tie.spec returns add-give-range give-range-requires same-length returns-2)
+    tie.close (tie.spec returns cast-slot add-give-range give-range-requires same-length returns-2)

@@ -7,13 +7,16 @@ use Rattle.grant_space.proofs.plan_grant.Tie as tie
 tracks-requires : tie.Need-tracks-requires
 tracks-requires c κs = search needs
 
+cast-lowest-piece : tie.Need-cast-lowest-piece
+cast-lowest-piece c = search needs
+
 lowest-piece-requires : tie.Need-lowest-piece-requires
 lowest-piece-requires c κs = search needs
 
 take-pieces-requires : tie.Need-take-pieces-requires
 take-pieces-requires c κs =
     let top = c .before .before .before .before .before .before .before in
-    (top .pre .0 .5, pieces-in (top .pre .1) _ (omega (arith, top .pre .0 .2, top .pre .0 .0 .tracksMost)))
+    (top .pre .0 .5, pieces-in (top .pre .1) _ (omega (arith, top .pre .0 .2, top .pre .0 .0 .tracksMost)), pieces-in (top .pre .1) 65535 (top .pre .0 .0 .tracksMost))
 
 few-requires : tie.Need-few-requires
 few-requires c κs = search needs
@@ -58,15 +61,4 @@ returns c =
 pub plan-grant-spec : {M : Type 1} → statement M
 plan-grant-spec =
     tie.close
-    (tie.spec
-    tracks-requires
-    lowest-piece-requires
-    take-pieces-requires
-    few-requires
-    asked-for-requires
-    cast-plan-slots
-    plan-slots-requires
-    same-length
-    same-length-2
-    same-length-3
-    returns)
+    (tie.spec tracks-requires cast-lowest-piece lowest-piece-requires take-pieces-requires few-requires asked-for-requires cast-plan-slots plan-slots-requires same-length same-length-2 same-length-3 returns)

@@ -15,14 +15,11 @@ part-free-line-start c = search needs
 part-free-line-end : tie.Need-part-free-line-end
 part-free-line-end c = search needs
 
-cast-free-line : tie.Need-cast-free-line
-cast-free-line c = search needs
-
 sub-free-line-2 : tie.Need-sub-free-line-2
 sub-free-line-2 c = search needs
 
-cast-free-line-2 : tie.Need-cast-free-line-2
-cast-free-line-2 c = search needs
+cast-free-line : tie.Need-cast-free-line
+cast-free-line c = search needs
 
 free-line-requires : tie.Need-free-line-requires
 free-line-requires c κs = search needs
@@ -42,15 +39,4 @@ returns-2 c =
 pub put-free-spec : {M : Type 1} → statement M
 put-free-spec =
     tie.close
-    (tie.spec
-    returns
-    sub-free-line
-    part-free-line-start
-    part-free-line-end
-    cast-free-line
-    sub-free-line-2
-    cast-free-line-2
-    free-line-requires
-    add-result
-    same-length
-    returns-2)
+    (tie.spec returns sub-free-line part-free-line-start part-free-line-end sub-free-line-2 cast-free-line free-line-requires add-result same-length returns-2)

@@ -38,11 +38,8 @@ mul-tags c = search needs
 slice-write-tags : tie.Need-slice-write-tags
 slice-write-tags c = search needs
 
-cast-at : tie.Need-cast-at
-cast-at c = search needs
-
-add-end : tie.Need-add-end
-add-end c = search needs
+add-give-range : tie.Need-add-give-range
+add-give-range c = search needs
 
 give-range-requires : tie.Need-give-range-requires
 give-range-requires c κs = search needs
@@ -79,23 +76,4 @@ returns-3 c =
 pub enter-spec : {M : Type 1} → statement M
 enter-spec =
     tie.close
-    (tie.spec
-    record-at-requires
-    shared-slice-read-if1
-    returns
-    slice-aggregate-name
-    tag-requires
-    slice-reshare-prefix-is-new
-    slice-aggregate-is-new
-    is-new-requires
-    mul-tags
-    slice-write-tags
-    cast-at
-    add-end
-    give-range-requires
-    same-length
-    same-length-2
-    returns-2
-    same-length-3
-    same-length-4
-    returns-3)
+    (tie.spec record-at-requires shared-slice-read-if1 returns slice-aggregate-name tag-requires slice-reshare-prefix-is-new slice-aggregate-is-new is-new-requires mul-tags slice-write-tags add-give-range give-range-requires same-length same-length-2 returns-2 same-length-3 same-length-4 returns-3)

@@ -5,9 +5,6 @@ use borrow.Author.Needs.{needs}
 use Rattle.names.proofs.is_new.Statement.{statement}
 use Rattle.names.proofs.is_new.Tie as tie
 
-cast-q : tie.Need-cast-q
-cast-q c = search needs
-
 is-free-requires : tie.Need-is-free-requires
 is-free-requires c κs = search needs
 
@@ -33,11 +30,4 @@ returns-3 c =
 pub is-new-spec : {M : Type 1} → statement M
 is-new-spec =
     tie.close
-    (tie.spec
-    cast-q
-    is-free-requires
-    returns
-    has-tag-requires
-    is-other-requires
-    returns-2
-    returns-3)
+    (tie.spec is-free-requires returns has-tag-requires is-other-requires returns-2 returns-3)

@@ -1,3 +1,4 @@
+use Rattle.dscb.proofs.Stops.{product-fits}
 use Rattle.open_table.proofs.Room.{small-told, map-fits, no-answer}
 use native.Mathlib.Omega.{arith}
 use borrow.Author.Needs.{needs}
@@ -16,15 +17,20 @@ two-requires c κs = search needs
 two-requires-2 : tie.Need-two-requires-2
 two-requires-2 c κs = search needs
 
-mul-result : tie.Need-mul-result
-mul-result c = omega (arith, map-fits (c .before .two .result) (c .two2 .result) (c .before .two .ensures .1) (c .two2 .ensures .1))
+product-within-requires : tie.Need-product-within-requires
+product-within-requires c κs = search needs
 
 returns-2 : tie.Need-returns-2
 returns-2 c e =
-    let top = c .before .before .before .before .before in
-    small-told (top .args .table .now) (c .before .before .record-at .result .now) (c .before .two .result) (c .two2 .result) (c .before .before .record-at .ensures .0) (c .before .two .ensures .0) (c .two2 .ensures .0) e
+    let at-product-within = c in
+    let at-two2 = at-product-within .before in
+    let at-two = at-two2 .before in
+    let at-record-at = at-two .before in
+    let top = at-record-at .before .before .before in
+    small-told (top .args .table .now) (at-record-at .record-at .result .now) (at-two .two .result) (at-two2 .two2 .result) (at-record-at .record-at .ensures .0) (at-two .two .ensures .0) (at-two2 .two2 .ensures .0)
+    (product-fits (at-two .two .result) (at-two2 .two2 .result) 4096 _ (at-product-within .product-within .ensures) e .1)
 
 pub is-small-spec : {M : Type 1} → statement M
 is-small-spec =
     tie.close
-    (tie.spec returns record-at-requires two-requires two-requires-2 mul-result returns-2)
+    (tie.spec returns record-at-requires two-requires two-requires-2 product-within-requires returns-2)

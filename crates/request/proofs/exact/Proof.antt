@@ -3,11 +3,14 @@ use borrow.Author.Needs.{needs}
 use Rattle.request.proofs.exact.Statement.{statement}
 use Rattle.request.proofs.exact.Tie as tie
 
+cast-all-free : tie.Need-cast-all-free
+cast-all-free c = search needs
+
 add-all-free : tie.Need-add-all-free
 add-all-free c = search needs
 
-cast-all-free : tie.Need-cast-all-free
-cast-all-free c = search needs
+cast-all-free-2 : tie.Need-cast-all-free-2
+cast-all-free-2 c = search needs
 
 all-free-requires : tie.Need-all-free-requires
 all-free-requires c κs = search needs
@@ -34,12 +37,4 @@ returns-2 c =
 pub exact-spec : {M : Type 1} → statement M
 exact-spec =
     tie.close
-    (tie.spec
-    add-all-free
-    cast-all-free
-    all-free-requires
-    cast-t10
-    cast-t11
-    array-set-from-pieces
-    returns
-    returns-2)
+    (tie.spec cast-all-free add-all-free cast-all-free-2 all-free-requires cast-t10 cast-t11 array-set-from-pieces returns returns-2)

@@ -19,11 +19,14 @@ choose-requires c κs =
 enum-known-amount-2 : tie.Need-enum-known-amount-2
 enum-known-amount-2 c = search needs
 
+cast-choose : tie.Need-cast-choose
+cast-choose c = search needs
+
 choose-requires-2 : tie.Need-choose-requires-2
 choose-requires-2 c κs =
-    let top = c .before .before .before .before .before in
+    let top = c .before .before .before .before .before .before in
     let p = top .pre in
-    let k = cylinders-asked (geometryOf (top .args .g)) (top .args .amount) (p .2) _ (c .before .amount2 .given .1) in
+    let k = cylinders-asked (geometryOf (top .args .g)) (top .args .amount) (p .2) _ (c .before .before .amount2 .given .1) in
     ((p .0, p .3, p .0 .heads, p .0 .headsMost), (k, p .4))
 
 enum-known-amount-3 : tie.Need-enum-known-amount-3
@@ -47,10 +50,10 @@ returns c =
 
 returns-2 : tie.Need-returns-2
 returns-2 c =
-    let top = c .before .before .before .before .before .before in
+    let top = c .before .before .before .before .before .before .before in
     λ ls h d.
     let a = top .args in
-    cylinders-reply (a .free-tracks .now) (geometryOf (a .g)) ls h (toOption (a .option)) (a .amount) _ _ (c .before .before .amount2 .given .1) (c .choose2 .ensures _ d)
+    cylinders-reply (a .free-tracks .now) (geometryOf (a .g)) ls h (toOption (a .option)) (a .amount) _ _ (c .before .before .before .amount2 .given .1) (c .choose2 .ensures _ d)
 
 returns-3 : tie.Need-returns-3
 returns-3 c = λ ls h d.
@@ -62,13 +65,4 @@ returns-3 c = λ ls h d.
 pub fulfil-spec : {M : Type 1} → statement M
 fulfil-spec =
     tie.close
-    (tie.spec
-    enum-known-amount
-    choose-requires
-    enum-known-amount-2
-    choose-requires-2
-    enum-known-amount-3
-    exact-requires
-    returns
-    returns-2
-    returns-3)
+    (tie.spec enum-known-amount choose-requires enum-known-amount-2 cast-choose choose-requires-2 enum-known-amount-3 exact-requires returns returns-2 returns-3)

@@ -21,6 +21,9 @@ enum-known-amount-3 c = search needs
 tracks-requires : tie.Need-tracks-requires
 tracks-requires c κs = search needs
 
+cast-place-ok : tie.Need-cast-place-ok
+cast-place-ok c = search needs
+
 place-ok-requires : tie.Need-place-ok-requires
 place-ok-requires c κs = search needs
 
@@ -39,14 +42,4 @@ returns-3 c =
 pub in-range-spec : {M : Type 1} → statement M
 in-range-spec =
     tie.close
-    (tie.spec
-    enum-known-amount
-    counts-ok-requires
-    enum-known-amount-2
-    counts-ok-requires-2
-    enum-known-amount-3
-    tracks-requires
-    place-ok-requires
-    returns
-    returns-2
-    returns-3)
+    (tie.spec enum-known-amount counts-ok-requires enum-known-amount-2 counts-ok-requires-2 enum-known-amount-3 tracks-requires cast-place-ok place-ok-requires returns returns-2 returns-3)

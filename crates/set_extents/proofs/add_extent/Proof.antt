@@ -6,6 +6,12 @@ use Rattle.set_extents.proofs.Pieces.{three-few}
 use Rattle.set_extents.proofs.add_extent.Statement.{statement}
 use Rattle.set_extents.proofs.add_extent.Tie as tie
 
+cast-add-extent1 : tie.Need-cast-add-extent1
+cast-add-extent1 c = search needs
+
+cast-add-extent1-2 : tie.Need-cast-add-extent1-2
+cast-add-extent1-2 c = search needs
+
 add-extent1-requires : tie.Need-add-extent1-requires
 add-extent1-requires c κs = search needs
 
@@ -23,6 +29,12 @@ returns c =
       top .pre .1,
     )
 
+cast-add-extent3 : tie.Need-cast-add-extent3
+cast-add-extent3 c = search needs
+
+cast-add-extent3-2 : tie.Need-cast-add-extent3-2
+cast-add-extent3-2 c = search needs
+
 add-extent3-requires : tie.Need-add-extent3-requires
 add-extent3-requires c κs = search needs
 
@@ -34,4 +46,4 @@ returns-2 c =
     (λ l h x. record { one = done .0 l h (x .one); three = more .0 l h (x .three) }, done .1, more .1)
 
 pub add-extent-spec : {M : Type 1} → statement M
-add-extent-spec = tie.close (tie.spec add-extent1-requires returns add-extent3-requires returns-2)
+add-extent-spec = tie.close (tie.spec cast-add-extent1 cast-add-extent1-2 add-extent1-requires returns cast-add-extent3 cast-add-extent3-2 add-extent3-requires returns-2)

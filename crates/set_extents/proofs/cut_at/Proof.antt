@@ -22,7 +22,13 @@ loop-holds c = (omega arith, keeping-none (c .before .before .args .unit) (c .be
 
 extent-at-requires : tie.Need-extent-at-requires Inv-loop μ-loop
 extent-at-requires c κs =
-    (c .before .before .before .before .pre .long1, c .before .before .before .before .pre .long3, omega (arith, c .before .before .before .before .pre .most), omega (arith, c .before .before .before .before .pre .limits .headsMost), good-read (geometryOf (c .before .before .before .before .args .g)) (c .before .before .before .before .args .f1 .now) (c .before .before .before .before .args .f3 .now) (c .before .before .before .before .args .n) (c .before .loop .e) (c .before .before .before .before .pre .good) (c .loop-test .taken) .full)
+    let at-loop-test = c in
+    let at-loop = at-loop-test .before in
+    let top = at-loop .before .before .before in
+    let a = top .args in
+    let p = top .pre in
+    let good = good-read (geometryOf (a .g)) (a .f1 .now) (a .f3 .now) (a .n) (at-loop .loop .e) (p .good) (at-loop-test .loop-test .taken) in
+    (p .long1, p .long3, omega (arith, p .most), good .full, omega (arith, good .ends, p .limits .tracksMost))
 
 cut-type-requires : tie.Need-cut-type-requires Inv-loop μ-loop
 cut-type-requires c κs =

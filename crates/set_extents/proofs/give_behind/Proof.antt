@@ -25,7 +25,13 @@ loop-holds c =
 
 extent-at-requires : tie.Need-extent-at-requires Inv-loop μ-loop
 extent-at-requires c κs =
-    (c .before .before .before .before .before .pre .0 .long1, c .before .before .before .before .before .pre .0 .long3, omega (arith, c .before .before .before .before .before .pre .0 .most), omega (arith, c .before .before .before .before .before .pre .0 .limits .headsMost), good-read (geometryOf (c .before .before .before .before .before .args .g)) (c .before .before .before .before .before .args .f1 .now) (c .before .before .before .before .before .args .f3 .now) (c .before .before .before .before .before .args .n) (c .before .loop .e) (c .before .before .before .before .before .pre .0 .good) (c .loop-test .taken) .full)
+    let at-loop-test = c in
+    let at-loop = at-loop-test .before in
+    let top = at-loop .before .before .before .before in
+    let a = top .args in
+    let p = top .pre .0 in
+    let good = good-read (geometryOf (a .g)) (a .f1 .now) (a .f3 .now) (a .n) (at-loop .loop .e) (p .good) (at-loop-test .loop-test .taken) in
+    (p .long1, p .long3, omega (arith, p .most), good .full, omega (arith, good .ends, p .limits .tracksMost))
 
 lesser-requires : tie.Need-lesser-requires Inv-loop μ-loop
 lesser-requires c κs = search needs
@@ -36,7 +42,9 @@ add-from c =
     omega (arith, x .ends, c .before .before .before .before .before .before .before .before .pre .0 .limits .tracksMost, c .before .lesser .ensures)
 
 cast-from : tie.Need-cast-from Inv-loop μ-loop
-cast-from c = search needs
+cast-from c =
+    let x = at-read (geometryOf (c .before .before .before .before .before .before .before .before .args .g)) (c .before .before .before .before .before .before .before .before .args .f1 .now) (c .before .before .before .before .before .before .before .before .args .f3 .now) (c .before .before .before .before .before .before .before .before .args .n) (c .before .before .before .before .before .before .before .before .pre .0 .good) (c .before .before .before .before .loop .e) (c .before .before .extent-at .result .start) (c .before .before .extent-at .result .count) (c .before .before .before .loop-test .taken) (c .before .before .extent-at .ensures) in
+    omega (arith, x .ends, c .before .before .before .before .before .before .before .before .pre .0 .limits .tracksMost, c .before .lesser .ensures)
 
 add-to : tie.Need-add-to Inv-loop μ-loop
 add-to c =
@@ -44,7 +52,9 @@ add-to c =
     omega (arith, x .ends, c .before .before .before .before .before .before .before .before .before .pre .0 .limits .tracksMost)
 
 cast-to : tie.Need-cast-to Inv-loop μ-loop
-cast-to c = search needs
+cast-to c =
+    let x = at-read (geometryOf (c .before .before .before .before .before .before .before .before .before .args .g)) (c .before .before .before .before .before .before .before .before .before .args .f1 .now) (c .before .before .before .before .before .before .before .before .before .args .f3 .now) (c .before .before .before .before .before .before .before .before .before .args .n) (c .before .before .before .before .before .before .before .before .before .pre .0 .good) (c .before .before .before .before .before .loop .e) (c .before .before .before .extent-at .result .start) (c .before .before .before .extent-at .result .count) (c .before .before .before .before .loop-test .taken) (c .before .before .before .extent-at .ensures) in
+    omega (arith, x .ends, c .before .before .before .before .before .before .before .before .before .pre .0 .limits .tracksMost)
 
 give-range-requires : tie.Need-give-range-requires Inv-loop μ-loop
 give-range-requires c κs =

@@ -20,15 +20,21 @@ abbrev μ-loop : tie.MeasureT-loop
 tracks-requires : tie.Need-tracks-requires Inv-loop μ-loop
 tracks-requires c κs = search needs
 
+cast-lowest : tie.Need-cast-lowest Inv-loop μ-loop
+cast-lowest c = search needs
+
 loop-holds : tie.Need-loop-holds Inv-loop μ-loop
 loop-holds c = (omega arith, spread-none _ (c .tracks .result) (c .tracks .ensures .0), omega arith)
 
 extent-at-requires : tie.Need-extent-at-requires Inv-loop μ-loop
 extent-at-requires c κs =
-    let top = c .before .before .before .before .before in
+    let at-loop-test = c in
+    let at-loop = at-loop-test .before in
+    let top = at-loop .before .before .before .before in
     let a = top .args in
     let p = top .pre in
-    (p .long1, p .long3, omega (arith, p .most), omega (arith, p .limits .headsMost), good-read (geometryOf (a .g)) (a .f1 .now) (a .f3 .now) (a .n) (c .before .loop .e) (p .good) (c .loop-test .taken) .full)
+    let good = good-read (geometryOf (a .g)) (a .f1 .now) (a .f3 .now) (a .n) (at-loop .loop .e) (p .good) (at-loop-test .loop-test .taken) in
+    (p .long1, p .long3, omega (arith, p .most), good .full, omega (arith, good .ends, p .limits .tracksMost))
 
 add-all : tie.Need-add-all Inv-loop μ-loop
 add-all c =
@@ -72,15 +78,4 @@ returns c =
 pub spread-of-spec : {M : Type 1} → statement M
 spread-of-spec =
     tie.close
-    (tie.spec
-    Inv-loop
-    μ-loop
-    tracks-requires
-    loop-holds
-    extent-at-requires
-    add-all
-    lesser-requires
-    add-e
-    loop-less
-    loop-again
-    returns)
+    (tie.spec Inv-loop μ-loop tracks-requires cast-lowest loop-holds extent-at-requires add-all lesser-requires add-e loop-less loop-again returns)

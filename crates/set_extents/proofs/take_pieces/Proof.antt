@@ -22,11 +22,18 @@ piece-at-requires c κs = search needs
 cast-from : tie.Need-cast-from Inv-loop μ-loop
 cast-from c = search needs
 
-cast-to : tie.Need-cast-to Inv-loop μ-loop
-cast-to c = search needs
-
 add-to : tie.Need-add-to Inv-loop μ-loop
 add-to c = search needs
+
+cast-to : tie.Need-cast-to Inv-loop μ-loop
+cast-to c =
+    let at-piece-at = c .before .before in
+    let at-loop-test = at-piece-at .before in
+    let at-loop = at-loop-test .before in
+    let top = at-loop .before .before in
+    let l : length (top .args .pieces) ≡ 5 = search needs in
+    let p = piece-in 65535 (top .args .count) (top .args .pieces) l (top .pre .0) (top .pre .2) (at-loop .loop .k) (at-loop-test .loop-test .taken) in
+    omega (arith, p .1, at-piece-at .piece-at .ensures .0, at-piece-at .piece-at .ensures .1)
 
 take-range-requires : tie.Need-take-range-requires Inv-loop μ-loop
 take-range-requires c κs =
@@ -64,17 +71,4 @@ returns c =
 pub take-pieces-spec : {M : Type 1} → statement M
 take-pieces-spec =
     tie.close
-    (tie.spec
-    Inv-loop
-    μ-loop
-    loop-holds
-    piece-at-requires
-    cast-from
-    cast-to
-    add-to
-    take-range-requires
-    add-k
-    loop-less
-    loop-again
-    same-length
-    returns)
+    (tie.spec Inv-loop μ-loop loop-holds piece-at-requires cast-from add-to cast-to take-range-requires add-k loop-less loop-again same-length returns)

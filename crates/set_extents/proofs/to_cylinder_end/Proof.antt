@@ -22,30 +22,37 @@ loop-holds c =
 
 extent-at-requires : tie.Need-extent-at-requires Inv-loop μ-loop
 extent-at-requires c κs =
-    let top = c .before .before .before .before in
+    let at-loop-test = c in
+    let at-loop = at-loop-test .before in
+    let top = at-loop .before .before .before in
     let a = top .args in
-    (top .pre .long1, top .pre .long3, omega (arith, top .pre .most), omega (arith, top .pre .limits .headsMost), good-read (geometryOf (a .g)) (a .f1 .now) (a .f3 .now) (a .n) (c .before .loop .e) (top .pre .good) (c .loop-test .taken) .full)
+    let p = top .pre in
+    let good = good-read (geometryOf (a .g)) (a .f1 .now) (a .f3 .now) (a .n) (at-loop .loop .e) (p .good) (at-loop-test .loop-test .taken) in
+    (p .long1, p .long3, omega (arith, p .most), good .full, omega (arith, good .ends, p .limits .tracksMost))
+
+cast-stays-of : tie.Need-cast-stays-of Inv-loop μ-loop
+cast-stays-of c = search needs
 
 stays-of-requires : tie.Need-stays-of-requires Inv-loop μ-loop
 stays-of-requires c κs =
-    let top = c .before .before .before .before .before in
+    let top = c .before .before .before .before .before .before in
     let a = top .args in
-    let x = at-read (geometryOf (a .g)) (a .f1 .now) (a .f3 .now) (a .n) (top .pre .good) (c .before .before .loop .e) (c .extent-at .result .start) (c .extent-at .result .count) (c .before .loop-test .taken) (c .extent-at .ensures) in
-    (top .pre .limits .heads, x .full, omega (arith, x .ends, top .pre .limits .tracksMost), c .before .before .loop .inv .1 .low)
+    let x = at-read (geometryOf (a .g)) (a .f1 .now) (a .f3 .now) (a .n) (top .pre .good) (c .before .before .before .loop .e) (c .before .extent-at .result .start) (c .before .extent-at .result .count) (c .before .before .loop-test .taken) (c .before .extent-at .ensures) in
+    (top .pre .limits .heads, x .full, omega (arith, x .ends, top .pre .limits .tracksMost), c .before .before .before .loop .inv .1 .low)
 
 add-kept : tie.Need-add-kept Inv-loop μ-loop
 add-kept c =
-    let top = c .before .before .before .before .before .before in
+    let top = c .before .before .before .before .before .before .before in
     let a = top .args in
-    let l = c .before .before .before .loop in
-    let x = at-read (geometryOf (a .g)) (a .f1 .now) (a .f3 .now) (a .n) (top .pre .good) (l .e) (c .before .extent-at .result .start) (c .before .extent-at .result .count) (c .before .before .loop-test .taken) (c .before .extent-at .ensures) in
+    let l = c .before .before .before .before .loop in
+    let x = at-read (geometryOf (a .g)) (a .f1 .now) (a .f3 .now) (a .n) (top .pre .good) (l .e) (c .before .before .extent-at .result .start) (c .before .before .extent-at .result .count) (c .before .before .before .loop-test .taken) (c .before .before .extent-at .ensures) in
     omega (arith, l .inv .1 .few, c .stays-of .ensures .most, tracks-within (geometryOf (a .g)) (readExtents (a .g .heads) (a .f1 .now) (a .f3 .now) (a .n)) (l .e) _ _ (top .pre .limits) x, top .pre .most)
 
 returns : tie.Need-returns Inv-loop μ-loop
 returns c =
-    let top = c .before .before .before .before .before .before .before .before in
+    let top = c .before .before .before .before .before .before .before .before .before in
     let a = top .args in
-    let at-extent-at = c .before .before .before in
+    let at-extent-at = c .before .before .before .before in
     let l = at-extent-at .before .before .loop in
     let x = at-read (geometryOf (a .g)) (a .f1 .now) (a .f3 .now) (a .n) (top .pre .good) (l .e) (at-extent-at .extent-at .result .start) (at-extent-at .extent-at .result .count) (at-extent-at .before .loop-test .taken) (at-extent-at .extent-at .ensures) in
     along-stop (geometryOf (a .g)) (a .g .heads) (a .keep) (readExtents (a .g .heads) (a .f1 .now) (a .f3 .now) (a .n)) (l .e) (l .kept) (l .left) (l .last) (at-extent-at .extent-at .result .start) (at-extent-at .extent-at .result .count) (c .before .before .stays-of .result) x (l .inv .1) (c .before .before .stays-of .ensures) (c .if1 .taken)
@@ -58,18 +65,18 @@ sub-left c = search needs
 
 add-last : tie.Need-add-last Inv-loop μ-loop
 add-last c =
-    let top = c .before .before .before .before .before .before .before .before .before .before in
+    let top = c .before .before .before .before .before .before .before .before .before .before .before in
     let a = top .args in
-    let at-extent-at = c .before .before .before .before .before in
+    let at-extent-at = c .before .before .before .before .before .before in
     let l = at-extent-at .before .before .loop in
     let x = at-read (geometryOf (a .g)) (a .f1 .now) (a .f3 .now) (a .n) (top .pre .good) (l .e) (at-extent-at .extent-at .result .start) (at-extent-at .extent-at .result .count) (at-extent-at .before .loop-test .taken) (at-extent-at .extent-at .ensures) in
     omega (arith, x .ends, top .pre .limits .tracksMost, c .before .before .before .before .stays-of .ensures .most)
 
 sub-last : tie.Need-sub-last Inv-loop μ-loop
 sub-last c =
-    let top = c .before .before .before .before .before .before .before .before .before .before in
+    let top = c .before .before .before .before .before .before .before .before .before .before .before in
     let a = top .args in
-    let at-extent-at = c .before .before .before .before .before in
+    let at-extent-at = c .before .before .before .before .before .before in
     let l = at-extent-at .before .before .loop in
     let x = at-read (geometryOf (a .g)) (a .f1 .now) (a .f3 .now) (a .n) (top .pre .good) (l .e) (at-extent-at .extent-at .result .start) (at-extent-at .extent-at .result .count) (at-extent-at .before .loop-test .taken) (at-extent-at .extent-at .ensures) in
     omega (arith, x .full, c .before .before .if1 .left)
@@ -82,9 +89,9 @@ loop-less c = search needs
 
 loop-again : tie.Need-loop-again Inv-loop μ-loop
 loop-again c =
-    let top = c .before .before .before .before .before .before .before .before .before .before in
+    let top = c .before .before .before .before .before .before .before .before .before .before .before in
     let a = top .args in
-    let at-extent-at = c .before .before .before .before .before in
+    let at-extent-at = c .before .before .before .before .before .before in
     let l = at-extent-at .before .before .loop in
     let es = readExtents (a .g .heads) (a .f1 .now) (a .f3 .now) (a .n) in
     let x = at-read (geometryOf (a .g)) (a .f1 .now) (a .f3 .now) (a .n) (top .pre .good) (l .e) (at-extent-at .extent-at .result .start) (at-extent-at .extent-at .result .count) (at-extent-at .before .loop-test .taken) (at-extent-at .extent-at .ensures) in
@@ -102,19 +109,4 @@ returns-2 c =
 pub to-cylinder-end-spec : {M : Type 1} → statement M
 to-cylinder-end-spec =
     tie.close
-    (tie.spec
-    Inv-loop
-    μ-loop
-    loop-holds
-    extent-at-requires
-    stays-of-requires
-    add-kept
-    returns
-    lesser-requires
-    sub-left
-    add-last
-    sub-last
-    add-e
-    loop-less
-    loop-again
-    returns-2)
+    (tie.spec Inv-loop μ-loop loop-holds extent-at-requires cast-stays-of stays-of-requires add-kept returns lesser-requires sub-left add-last sub-last add-e loop-less loop-again returns-2)

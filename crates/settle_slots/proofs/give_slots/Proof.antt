@@ -1,3 +1,5 @@
+use mathlib.Core.Path.{refl}
+use lib.ListN.{getD}
 use Prim.Native.Nat.{ℕ, _-_, _*_, _≤_, _<_, max}
 use native.Mathlib.Nat.{le-refl}
 use native.Mathlib.Omega.{arith}
@@ -18,23 +20,28 @@ abbrev μ-loop : tie.MeasureT-loop
 loop-holds : tie.Need-loop-holds Inv-loop μ-loop
 loop-holds c = (le-refl _, omega arith, gave-none _ (c .before .before .args .chain .now) (c .before .before .args .a))
 
-mul-index : tie.Need-mul-index Inv-loop μ-loop
-mul-index c = search needs
+mul-k : tie.Need-mul-k Inv-loop μ-loop
+mul-k c = search needs
 
-shared-slice-read-index : tie.Need-shared-slice-read-index Inv-loop μ-loop
-shared-slice-read-index c = search needs
-
-index-requires : tie.Need-index-requires Inv-loop μ-loop
-index-requires c κs = search needs
+shared-slice-read-k : tie.Need-shared-slice-read-k Inv-loop μ-loop
+shared-slice-read-k c = search needs
 
 add-give-range : tie.Need-add-give-range Inv-loop μ-loop
-add-give-range c = search needs
+add-give-range c =
+    let at-loop-test = c .before .before in
+    let at-loop = at-loop-test .before in
+    let top = at-loop .before .before .before in
+    let i = at-loop .loop .inv in
+    let b = in-slice (λ (j : ℕ). j < 64 * length (top .args .free-slots .now)) (top .args .a) (top .args .b) (at-loop .loop .i) (top .args .chain .now) (i .0) (at-loop-test .loop-test .taken) (top .pre .0) (top .pre .1) in
+    omega (arith, top .pre .2)
 
 give-range-requires : tie.Need-give-range-requires Inv-loop μ-loop
 give-range-requires c κs =
-    let i = c .before .before .before .before .loop .inv in
-    let k = c .before .index .ensures .0 in
-    let b = in-slice (λ (j : ℕ). j < 64 * length (c .before .before .before .before .before .before .before .args .free-slots .now)) (c .before .before .before .before .before .before .before .args .a) (c .before .before .before .before .before .before .before .args .b) (c .before .before .before .before .loop .i) (c .before .before .before .before .before .before .before .args .chain .now) (i .0) (c .before .before .before .loop-test .taken) (c .before .before .before .before .before .before .before .pre .0) (c .before .before .before .before .before .before .before .pre .1) in
+    let at-loop-test = c .before .before in
+    let at-loop = at-loop-test .before in
+    let top = at-loop .before .before .before in
+    let i = at-loop .loop .inv in
+    let b = in-slice (λ (j : ℕ). j < 64 * length (top .args .free-slots .now)) (top .args .a) (top .args .b) (at-loop .loop .i) (top .args .chain .now) (i .0) (at-loop-test .loop-test .taken) (top .pre .0) (top .pre .1) in
     let l = i .2 .long in
     (omega arith, omega arith)
 
@@ -46,10 +53,14 @@ loop-less c = search needs
 
 loop-again : tie.Need-loop-again Inv-loop μ-loop
 loop-again c =
-    let i = c .before .before .before .before .before .before .before .loop .inv in
-    let t = c .before .before .before .before .before .before .loop-test .taken in
-    let w = c .before .before .before .before .before .before .before .before .before .before .pre .0 in
-    (omega arith, omega arith, gave-next (c .before .before .before .before .before .before .before .before .before .before .args .free-slots .now) (c .before .before .before .before .before .before .before .loop .free-slots) _ (c .before .before .before .before .before .before .before .before .before .before .args .chain .now) (c .before .before .before .before .before .before .before .before .before .before .args .a) (c .before .before .before .before .before .before .before .loop .i) (c .before .before .before .before .index .result) (i .0) (omega arith) (c .before .before .before .before .index .ensures .0) (i .2) (c .before .before .give-range .ensures))
+    let at-give-range = c .before .before in
+    let at-loop-test = at-give-range .before .before .before in
+    let at-loop = at-loop-test .before in
+    let top = at-loop .before .before .before in
+    let i = at-loop .loop .inv in
+    let t = at-loop-test .loop-test .taken in
+    let w = top .pre .0 in
+    (omega arith, omega arith, gave-next (top .args .free-slots .now) (at-loop .loop .free-slots) _ (top .args .chain .now) (top .args .a) (at-loop .loop .i) (getD (top .args .chain .now) (at-loop .loop .i) 0) (i .0) (omega arith) refl (i .2) (at-give-range .give-range .ensures))
 
 same-length : tie.Need-same-length Inv-loop μ-loop
 same-length c = search needs
@@ -63,17 +74,4 @@ returns c =
 pub give-slots-spec : {M : Type 1} → statement M
 give-slots-spec =
     tie.close
-    (tie.spec
-    Inv-loop
-    μ-loop
-    loop-holds
-    mul-index
-    shared-slice-read-index
-    index-requires
-    add-give-range
-    give-range-requires
-    add-i
-    loop-less
-    loop-again
-    same-length
-    returns)
+    (tie.spec Inv-loop μ-loop loop-holds mul-k shared-slice-read-k add-give-range give-range-requires add-i loop-less loop-again same-length returns)

@@ -14,7 +14,7 @@ returns c =
 give-slots-requires : tie.Need-give-slots-requires
 give-slots-requires c κs =
     let top = c .before .before .before .before .before .before in
-    (top .pre .3, give-low (top .args .n) _ (top .args .need) (top .args .was) (top .args .chain .now) (top .pre .1) (top .pre .6))
+    (top .pre .3, give-low (top .args .n) _ (top .args .need) (top .args .was) (top .args .chain .now) (top .pre .1) (top .pre .6), top .pre .7)
 
 longer-requires : tie.Need-longer-requires
 longer-requires c κs = search needs

@@ -5,8 +5,14 @@ use borrow.Author.Needs.{needs}
 use Rattle.settle_slots.proofs.take_lowest.Statement.{statement}
 use Rattle.settle_slots.proofs.take_lowest.Tie as tie
 
+cast-next-run : tie.Need-cast-next-run
+cast-next-run c = search needs
+
 next-run-requires : tie.Need-next-run-requires
 next-run-requires c κs = search needs
+
+cast-if1 : tie.Need-cast-if1
+cast-if1 c = search needs
 
 same-length : tie.Need-same-length
 same-length c = search needs
@@ -20,6 +26,9 @@ add-take-range c = search needs
 take-range-requires : tie.Need-take-range-requires
 take-range-requires c κs = search needs
 
+cast-result : tie.Need-cast-result
+cast-result c = search needs
+
 same-length-2 : tie.Need-same-length-2
 same-length-2 c = search needs
 
@@ -31,11 +40,4 @@ returns-2 c =
 pub take-lowest-spec : {M : Type 1} → statement M
 take-lowest-spec =
     tie.close
-    (tie.spec
-    next-run-requires
-    same-length
-    returns
-    add-take-range
-    take-range-requires
-    same-length-2
-    returns-2)
+    (tie.spec cast-next-run next-run-requires cast-if1 same-length returns add-take-range take-range-requires cast-result same-length-2 returns-2)

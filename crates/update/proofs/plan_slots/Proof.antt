@@ -13,9 +13,6 @@ read-chain-requires c κs = search needs
 tracks-requires : tie.Need-tracks-requires
 tracks-requires c κs = search needs
 
-cast-count-runs : tie.Need-cast-count-runs
-cast-count-runs c = search needs
-
 count-runs-requires : tie.Need-count-runs-requires
 count-runs-requires c κs = search needs
 
@@ -49,7 +46,7 @@ settle-requires c κs =
     let p = top .pre in
     let h = at-read-chain .read-chain .ensures in
     let n = at-slots .slots .ensures in
-    (n .1, omega (arith, n .1, p .3), omega (arith, n .1, p .4, h .long), omega (arith, p .0 .most, p .4, h .few, h .long), p .5, refl, members-below _ (n .0) h)
+    (n .1, omega (arith, n .1, p .3), omega (arith, n .1, p .4, h .long), omega (arith, p .0 .most, p .4, h .few, h .long), p .5, refl, members-below _ (n .0) h, omega (arith, p .3))
 
 same-length : tie.Need-same-length
 same-length c = search needs
@@ -74,17 +71,4 @@ returns c =
 pub plan-slots-spec : {M : Type 1} → statement M
 plan-slots-spec =
     tie.close
-    (tie.spec
-    read-chain-requires
-    tracks-requires
-    cast-count-runs
-    count-runs-requires
-    fives-for-requires
-    lesser-requires
-    begin-requires
-    slots-requires
-    slice-aggregate-settle
-    settle-requires
-    same-length
-    same-length-2
-    returns)
+    (tie.spec read-chain-requires tracks-requires count-runs-requires fives-for-requires lesser-requires begin-requires slots-requires slice-aggregate-settle settle-requires same-length same-length-2 returns)

@@ -18,8 +18,8 @@ abbrev μ-loop : tie.MeasureT-loop
 tracks-requires : tie.Need-tracks-requires Inv-loop μ-loop
 tracks-requires c κs = search needs
 
-cast-t : tie.Need-cast-t Inv-loop μ-loop
-cast-t c = search needs
+cast-at : tie.Need-cast-at Inv-loop μ-loop
+cast-at c = search needs
 
 loop-holds : tie.Need-loop-holds Inv-loop μ-loop
 loop-holds c = chain-begin (geometryOf (c .before .before .before .before .args .g)) (c .before .before .before .before .args .free-tracks .now) (take (c .before .before .before .before .args .n) (c .before .before .before .before .args .chain .now)) (c .before .before .before .before .args .table .now) (c .before .before .before .before .args .from) (c .before .before .before .before .args .start) (let l = length-take (c .before .before .before .before .args .n) (c .before .before .before .before .args .chain .now) in let q = c .before .before .before .before .pre .1 .0 in omega (arith, c .before .before .before .before .pre .1 .2)) (c .before .before .before .before .pre .1 .3)
@@ -97,23 +97,4 @@ returns c = chain-end (geometryOf (c .before .before .before .before .before .be
 pub put-chain-spec : {M : Type 1} → statement M
 put-chain-spec =
     tie.close
-    (tie.spec
-    Inv-loop
-    μ-loop
-    tracks-requires
-    cast-t
-    loop-holds
-    member-requires
-    mul-a
-    add-e
-    add-member
-    member-requires-2
-    sub-five
-    part-five-start
-    part-five-end
-    five-requires
-    add-i
-    loop-less
-    loop-again
-    same-length
-    returns)
+    (tie.spec Inv-loop μ-loop tracks-requires cast-at loop-holds member-requires mul-a add-e add-member member-requires-2 sub-five part-five-start part-five-end five-requires add-i loop-less loop-again same-length returns)
