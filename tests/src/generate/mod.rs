@@ -13,3 +13,4 @@ pub mod session;
 pub mod shapes;
 pub mod shuffle;
 pub mod tables;
+pub mod wrapped;
