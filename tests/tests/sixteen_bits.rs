@@ -4,6 +4,8 @@
 use std::collections::{BTreeMap, BTreeSet};
 
 use vtoc_tests::audit::picture;
+use vtoc_tests::cases::sequences;
+use vtoc_tests::desk::Row;
 use vtoc_tests::generate::glance::glance;
 use vtoc_tests::generate::wrapped::{
     bases, every, full_volumes, kinds, Astray, Digits, Kind, Length, Wrapped, FULL_HEADS,
@@ -138,4 +140,25 @@ fn each_kind_would_be_taken_without_its_stops() {
     // Each stop that there is: 7 CCHHs with product, sum and the rule on HH; for 3 of them, which are
     // addresses, four steps to the slot; entry 4, VTOC 4, extent 2, volume 2, the total of all.
     assert_eq!(stops.len(), 7 * 3 + 3 * 4 + 4 + 4 + 2 + 2 + 1);
+}
+
+/// The damaged tables of the last computed sequence would be taken too.
+#[test]
+fn computed_cases_would_be_taken_without_stops() {
+    let (mut table, mut bad) = (vec![], BTreeSet::new());
+    for row in &sequences().last().expect("sequences").desk.rows {
+        match row {
+            Row::Made { after, .. } => table.clone_from(after),
+            Row::Hurt { patches, result, .. } => {
+                let mut hurt = table.clone();
+                patches.iter().for_each(|&(at, byte)| hurt[at] = byte);
+                let wrong = |way| judge(&hurt, &Numbers::SixteenWithoutAny, way).taken;
+                assert!(*result == 3 && WAYS.into_iter().any(wrong), "{patches:?}");
+                all_say(&hurt, false, "computed case");
+                bad.insert(hurt);
+            }
+            _ => panic!("{row:?}"),
+        }
+    }
+    assert_eq!(bad.len(), 12);
 }
