@@ -8,7 +8,8 @@ use vtoc_tests::cases::sequences;
 use vtoc_tests::desk::Row;
 use vtoc_tests::generate::glance::glance;
 use vtoc_tests::generate::wrapped::{
-    bases, every, full_volumes, kinds, Astray, Digits, Kind, Length, Wrapped, FULL_HEADS,
+    bases, every, full_volumes, kinds, one_of_each, Astray, Digits, Kind, Length, Wrapped,
+    FULL_HEADS,
 };
 use vtoc_tests::reference::{listing, lspace, taken};
 use vtoc_tests::stops::{judge, Numbers, Stop, WAYS};
@@ -137,6 +138,7 @@ fn each_kind_would_be_taken_without_its_stops() {
         stops.extend(named);
     }
     assert_eq!(seen.len(), kinds().len());
+    assert!(one_of_each().keys().eq(seen.keys()));
     // Each stop that there is: 7 CCHHs with product, sum and the rule on HH; for 3 of them, which are
     // addresses, four steps to the slot; entry 4, VTOC 4, extent 2, volume 2, the total of all.
     assert_eq!(stops.len(), 7 * 3 + 3 * 4 + 4 + 4 + 2 + 2 + 1);

@@ -10,6 +10,8 @@ mod extents;
 mod links;
 mod volume;
 
+use std::collections::BTreeMap;
+
 use super::glance::{glance, Glance};
 use super::rng::Rng;
 use crate::stops::{Place, Step, Stop, Way};
@@ -207,6 +209,15 @@ pub fn every(tries: usize, mut show: impl FnMut(&Wrapped)) {
         }
     }
     drafts::every(&mut rng, tries, |kind, table| show(&Wrapped { kind, table }));
+}
+
+/// One table of each kind.
+pub fn one_of_each() -> BTreeMap<Kind, Vec<u8>> {
+    let mut tables = BTreeMap::new();
+    every(1, |Wrapped { kind, table }| {
+        tables.entry(*kind).or_insert_with(|| table.clone());
+    });
+    tables
 }
 
 /// A copy of a sound table, to be changed.
