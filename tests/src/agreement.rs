@@ -1,8 +1,10 @@
 //! A check of the table beside the reference's own, on tables sound and damaged.
 
+use std::collections::BTreeMap;
 use std::process::ExitCode;
 
 use crate::generate::tables::{every_table, Shown};
+use crate::generate::wrapped::{kinds, Kind};
 use crate::reference::layout::extent_part;
 use crate::reference::lspace;
 use crate::volumes::{small, ANSWER};
@@ -10,6 +12,8 @@ use crate::volumes::{small, ANSWER};
 /// The fewest tables in all, and the fewest with each answer.
 const TABLES: usize = 20_000;
 const EACH: usize = 1_000;
+/// The fewest of each kind that look sound where sums wrap.
+const WRAPPED_EACH: usize = 10;
 
 #[derive(Clone, Default)]
 struct Counts {
@@ -18,6 +22,7 @@ struct Counts {
     taken: usize,
     refused_2: usize,
     refused_3: usize,
+    wrapped: BTreeMap<Kind, usize>,
     disagreements: usize,
 }
 
@@ -28,15 +33,13 @@ pub fn beside_reference(check: impl Fn(&[u8]) -> u32, is_idle: bool) -> ExitCode
     let mut judge = |shown: Shown| counts.compare(&shown, check(shown.table));
     if is_idle {
         let table = small();
-        (0..TABLES).for_each(|_| judge(Shown { table: &table, origin: "idle", damaged: false }));
+        let idle = || Shown { table: &table, origin: "idle", damaged: false, wrapped: None };
+        (0..TABLES).for_each(|_| judge(idle()));
     } else {
         every_table(judge);
     }
 
-    let Counts { tables, damaged, taken, refused_2, refused_3, disagreements } = counts;
-    println!("tables {tables}, of them damaged {damaged}");
-    println!("taken {taken}, refused 2 {refused_2}, refused 3 {refused_3}");
-    println!("disagreements {disagreements}");
+    counts.print();
     match counts.verdict() {
         Ok(()) => ExitCode::SUCCESS,
         Err(why) => {
@@ -73,13 +76,27 @@ pub fn extents_beside_reference(
 }
 
 impl Counts {
+    fn print(&self) {
+        let Counts { tables, damaged, taken, refused_2, refused_3, wrapped, disagreements } = self;
+        println!("tables {tables}, of them damaged {damaged}");
+        println!("taken {taken}, refused 2 {refused_2}, refused 3 {refused_3}");
+        let (sum, least) = (wrapped.values().sum::<usize>(), wrapped.values().min().unwrap_or(&0));
+        let of_kinds = wrapped.len();
+        println!("sound but for sums of sixteen bits {sum}, of {of_kinds} kinds, {least} or more of each");
+        println!("disagreements {disagreements}");
+    }
+
     fn verdict(&self) -> Result<(), &'static str> {
         if self.disagreements > 0 {
             return Err("the two disagree");
         }
-        let kinds = [self.taken, self.refused_2, self.refused_3];
-        if self.tables < TABLES || kinds.iter().any(|&seen| seen < EACH) {
+        let answers = [self.taken, self.refused_2, self.refused_3];
+        if self.tables < TABLES || answers.iter().any(|&seen| seen < EACH) {
             return Err("too few tables of some kind");
+        }
+        let few = |kind| self.wrapped.get(&kind).is_none_or(|&seen| seen < WRAPPED_EACH);
+        if kinds().into_iter().any(few) {
+            return Err("too few tables of a kind that looks sound where sums wrap");
         }
         Ok(())
     }
@@ -89,6 +106,9 @@ impl Counts {
         let expected = lspace(shown.table, &mut [0; ANSWER]);
         self.tables += 1;
         self.damaged += usize::from(shown.damaged);
+        if let Some(kind) = shown.wrapped {
+            *self.wrapped.entry(kind).or_default() += 1;
+        }
         match expected {
             0 => self.taken += 1,
             2 => self.refused_2 += 1,
@@ -116,6 +136,7 @@ mod tests {
             taken: 1_000,
             refused_2: 1_000,
             refused_3: 1_000,
+            wrapped: kinds().into_iter().map(|kind| (kind, 10)).collect(),
             ..Counts::default()
         };
         assert_eq!(enough.verdict(), Ok(()));
@@ -124,6 +145,14 @@ mod tests {
         assert_eq!(Counts { taken: 999, ..enough.clone() }.verdict(), few);
         assert_eq!(Counts { refused_2: 999, ..enough.clone() }.verdict(), few);
         assert_eq!(Counts { refused_3: 999, ..enough.clone() }.verdict(), few);
+        for kind in kinds() {
+            let few = Err("too few tables of a kind that looks sound where sums wrap");
+            let mut wrapped = enough.wrapped.clone();
+            wrapped.insert(kind, 9);
+            assert_eq!(Counts { wrapped: wrapped.clone(), ..enough.clone() }.verdict(), few);
+            wrapped.remove(&kind);
+            assert_eq!(Counts { wrapped, ..enough.clone() }.verdict(), few);
+        }
         let differ = Err("the two disagree");
         assert_eq!(Counts { disagreements: 1, ..enough }.verdict(), differ);
     }

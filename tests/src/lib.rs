@@ -27,5 +27,6 @@ pub mod recording;
 pub mod reference;
 pub mod replay;
 pub mod short;
+pub mod stops;
 pub mod timing;
 pub mod volumes;

@@ -22,9 +22,9 @@ fn all_is_covered() {
     assert_eq!(coverage(&sequences).missing(&[]), [""; 0]);
     assert!((20..=40).contains(&sequences.len()));
     let rows: usize = sequences.iter().map(|sequence| sequence.desk.rows.len()).sum();
-    assert!((300..=800).contains(&rows), "{rows} rows");
+    assert!((300..=900).contains(&rows), "{rows} rows");
     let small = sequences.iter().filter(|s| size(s).0 <= 60 && size(s).1 <= 16).count();
-    assert!(small + 2 >= sequences.len(), "more than two sequences on large volumes");
+    assert!(small + 3 >= sequences.len(), "more than three sequences on large volumes");
 }
 
 #[test]

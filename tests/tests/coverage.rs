@@ -2,7 +2,8 @@
 
 use vtoc_tests::call::{CALL_NAMES, RESULTS};
 use vtoc_tests::coverage::{
-    Coverage, EACH, FEATURES, OPTIONS, PREVIEWS, RELEASES, VOLUMES, WHOLE, WIDE, WIDE_PREVIEWS,
+    Coverage, EACH, FEATURES, FULL_VOLUMES, OPTIONS, PREVIEWS, RELEASES, VOLUMES, WHOLE, WIDE,
+    WIDE_PREVIEWS,
 };
 
 /// Just enough of everything.
@@ -15,7 +16,7 @@ fn enough() -> Coverage {
     }
     let features =
         FEATURES.into_iter().chain(OPTIONS).chain(RELEASES).chain(PREVIEWS).chain(VOLUMES);
-    for feature in features.chain(WIDE).chain(WIDE_PREVIEWS) {
+    for feature in features.chain(WIDE).chain(WIDE_PREVIEWS).chain(FULL_VOLUMES) {
         coverage.features.insert(feature, 1);
     }
     coverage
@@ -58,7 +59,7 @@ fn enough_is_enough() {
 fn nothing_seen_names_everything() {
     let due = RESULTS.iter().map(|results| results.len()).sum::<usize>();
     let features = FEATURES.len() + OPTIONS.len() + RELEASES.len() + PREVIEWS.len() + VOLUMES.len();
-    let besides = WIDE.len() + WIDE_PREVIEWS.len();
+    let besides = WIDE.len() + WIDE_PREVIEWS.len() + FULL_VOLUMES.len();
     assert_eq!(Coverage::default().too_few(WHOLE).len(), due + features + besides);
     assert_eq!(Coverage::default().missing(&[]).len(), due + features);
 }

@@ -13,19 +13,27 @@ use vtoc_tests::cases::sequences;
 use vtoc_tests::coverage::Coverage;
 use vtoc_tests::desk::Row;
 use vtoc_tests::faulty::{Faulty, FAULTS};
+use vtoc_tests::generate::around;
 use vtoc_tests::generate::damage::{damage, DAMAGES};
 use vtoc_tests::generate::grids;
+use vtoc_tests::generate::last_track;
 use vtoc_tests::generate::rng::Rng;
 use vtoc_tests::generate::session::{Origin, Session, Trial};
 use vtoc_tests::generate::shapes::Shape;
+use vtoc_tests::generate::wrapped::{self, Wrapped};
 use vtoc_tests::library::Library;
 use vtoc_tests::replay::Player;
-use vtoc_tests::volumes::{many_extents, many_names, medium, small};
+use vtoc_tests::short::{extend, release, scratch, tracks};
+use vtoc_tests::volumes::{many_extents, many_names, medium, name, small};
 
 /// Calls in all where no number is given.
 const CALLS: usize = 250_000;
 /// Of so many volumes, one comes from elsewhere.
 const ELSEWHERE: usize = 6;
+/// Tables that look sound where sums wrap, of each kind for each sound one.
+const WRAPPED: usize = 2;
+/// Calls in each life of a volume of 65,535 tracks.
+const FULL_CALLS: usize = 150;
 /// What `--plant` takes besides a fault of the library: a run that sees next to nothing.
 const IDLE: &str = "Idle";
 
@@ -148,6 +156,9 @@ impl<'a, M: Manager> Beside<'a, M> {
             ("elsewhere", grids::elsewhere()),
             ("geometries", grids::geometries()),
             ("previews", grids::previews()),
+            ("geometries that wrap", around::geometries()),
+            ("amounts that wrap", around::amounts()),
+            ("the last track", last_track::rows()),
         ];
         for (place, rows) in grids {
             for (call, buffers) in rows {
@@ -174,6 +185,32 @@ impl<'a, M: Manager> Beside<'a, M> {
         Ok(())
     }
 
+    /// Tables that look sound where sums wrap at 65,536: LSPACE and the other calls in turn, on each.
+    fn wrapped(&mut self) -> Result<(), String> {
+        let others = calls_of_any_table();
+        let (mut turn, mut outcome) = (others.iter().cycle(), Ok(()));
+        wrapped::every(WRAPPED, |Wrapped { kind, table }| {
+            let buffers = Buffers::new(table.clone(), 24, 280);
+            for call in [Some(&Call::Lspace), turn.next()].into_iter().flatten() {
+                if outcome.is_ok() {
+                    let place = format!("{kind:?}");
+                    outcome = self.call(call, &buffers, Origin::Changed, &place).map(drop);
+                }
+            }
+        });
+        outcome
+    }
+
+    /// Lives of volumes of 65,535 tracks.
+    fn full_volumes(&mut self) -> Result<(), String> {
+        for (table, seed) in wrapped::full_volumes().iter().zip(1..) {
+            for shape in [Shape::Cylinders, Shape::Stretched] {
+                self.life(Session::on(seed, table, shape), FULL_CALLS, "65,535 tracks")?;
+            }
+        }
+        Ok(())
+    }
+
     /// A volume's life: most calls stay, the table that the library left is the next one's. Many have
     /// their preview before them.
     fn life(&mut self, session: Session, calls: usize, place: &str) -> Result<(), String> {
@@ -192,6 +229,8 @@ impl<'a, M: Manager> Beside<'a, M> {
         self.scripted()?;
         self.recorded()?;
         self.grids()?;
+        self.wrapped()?;
+        self.full_volumes()?;
         self.damaged(&mut rng)?;
         for (table, place) in [
             (medium(), "medium"),
@@ -224,6 +263,22 @@ impl<'a, M: Manager> Beside<'a, M> {
         (0..calls)
             .try_for_each(|_| self.call(&Call::Lspace, &buffers, Origin::Live, IDLE).map(drop))
     }
+}
+
+/// One of each call but initialise and LSPACE; the sets have these names in the tables that wrap.
+fn calls_of_any_table() -> Vec<Call> {
+    let mut calls = vec![];
+    for text in ["WRAPPED.N0", "DRAFT.N0"] {
+        let old = || name(text).to_vec();
+        let named = [extend(text), release(text, 0, 1), scratch(text), tracks("NEW", 1, 1)];
+        calls.extend(named.iter().filter_map(Call::preview));
+        calls.extend(named);
+        calls.extend([
+            Call::Rename { old: old(), new: name("NEW").to_vec() },
+            Call::Obtain { name: old() },
+        ]);
+    }
+    calls
 }
 
 /// Each fault planted in the library must be noticed within a short run.

@@ -12,6 +12,7 @@ use std::thread;
 use vtoc_tests::generate::damage::{damage, Damage};
 use vtoc_tests::generate::grids::sixteen;
 use vtoc_tests::generate::rng::Rng;
+use vtoc_tests::generate::wrapped::{full_volumes, one_of_each};
 use vtoc_tests::reference::listing;
 use vtoc_tests::volumes::{fresh, many_extents, many_names, medium, place, scattered, small};
 
@@ -123,6 +124,8 @@ fn others() -> Vec<(String, Vec<u8>)> {
         table[at] ^= 1;
         made.push((format!("Volume A's end, byte {at} changed"), table));
     }
+    made.extend(full_volumes().into_iter().map(|table| ("65,535 tracks".into(), table)));
+    made.extend(one_of_each().into_iter().map(|(kind, table)| (format!("{kind:?}"), table)));
     made
 }
 

@@ -10,6 +10,7 @@ mod previews;
 pub mod print;
 mod random;
 mod refusals;
+mod sixteen_bits;
 mod volumes;
 
 use crate::coverage::Coverage;
@@ -38,6 +39,7 @@ pub fn sequences() -> Vec<Sequence> {
     all.extend(options::edges());
     all.extend(cylinders::sequences());
     all.extend(previews::sequences());
+    all.extend(sixteen_bits::sequences());
     all
 }
 

@@ -1,5 +1,6 @@
 //! What a run of calls has touched: results of each call, and paths worth seeing.
 
+mod full;
 mod options;
 mod previews;
 mod releases;
@@ -10,6 +11,7 @@ use std::fmt;
 use crate::call::{Call, CALL_NAMES, NO_OPTION, RESULTS};
 use crate::generate::glance::{glance, Glance};
 use crate::generate::session::Origin;
+pub use full::FULL_VOLUMES;
 use options::Numbers;
 pub use options::OPTIONS;
 use previews::Seen;
@@ -113,11 +115,15 @@ impl Coverage {
     /// The preview of a call.
     fn preview(&mut self, call: &Call, result: u32, before: &[u8], answer: &[u8]) {
         let Some(table) = glance(before) else { return };
-        let paths = previews::shown(call, &table, result, answer);
+        let mut paths = previews::shown(call, &table, result, answer);
+        if let (0, Some(preview)) = (result, call.preview()) {
+            paths.extend(full::accepted(&preview, &table, &table));
+        }
         paths.into_iter().for_each(|path| self.saw(path));
     }
 
-    /// A refused allocate with an option, or a release for which slots are short.
+    /// A refused allocate with an option or past the volume's end, or a release for which slots are
+    /// short.
     fn refusal(&mut self, call: &Call, result: u32, before: &[u8]) {
         let paths = match (result, call, numbers_with_option(call)) {
             (7 | 9 | 11, _, Some(numbers)) => {
@@ -125,6 +131,9 @@ impl Coverage {
             }
             (11, Call::Release { name, ttr }, _) => {
                 glance(before).map(|table| release_paths(&table, name, ttr >> 8, result))
+            }
+            (7, &Call::Allocate { kind: 2, start, amount, secondary: 0, .. }, None) => {
+                glance(before).map(|table| full::refused(&table, start, amount))
             }
             _ => None,
         };
@@ -135,6 +144,7 @@ impl Coverage {
     fn effect(&mut self, call: &Call, before: &[u8], after: &[u8], answer: &[u8]) {
         let (Some(old), Some(new)) = (glance(before), glance(after)) else { return };
         self.volume(&new);
+        full::accepted(call, &old, &new).into_iter().for_each(|path| self.saw(path));
         if matches!(call, Call::Scratch { .. }) && old.open.is_empty() {
             self.saw(WIDE[0]);
         }
@@ -269,7 +279,7 @@ fn due() -> impl Iterator<Item = &'static str> {
 
 /// What a long run must see besides.
 fn due_besides() -> impl Iterator<Item = &'static str> {
-    WIDE.into_iter().chain(WIDE_PREVIEWS)
+    WIDE.into_iter().chain(WIDE_PREVIEWS).chain(FULL_VOLUMES)
 }
 
 /// The paths of a release with this result.

@@ -16,7 +16,7 @@ const ELSEWHERE: usize = 60;
 /// A call and the buffers to make it with.
 pub type Row = (Call, Buffers);
 
-fn row(call: Call, table: &[u8]) -> Row {
+pub fn row(call: Call, table: &[u8]) -> Row {
     (call, Buffers::new(table.to_vec(), 24, 280))
 }
 

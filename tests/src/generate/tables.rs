@@ -1,10 +1,12 @@
-//! Tables to judge, some 79,000: as calls leave them, with each kind of damage, with every byte of a
-//! small volume or of a name changed, of every length, noise, and volumes from elsewhere.
+//! Tables to judge, some 91,000: as calls leave them, with each kind of damage, with every byte of a
+//! small volume or of a name changed, of every length, noise, volumes from elsewhere, and such as look
+//! sound where sums wrap at 65,536.
 
 use super::damage::{any_damage, damage, DAMAGES};
 use super::rng::Rng;
 use super::session::{Origin, Session};
 use super::shapes::{Shape, SHAPES};
+use super::wrapped::{self, Kind, Wrapped};
 use crate::call::Reference;
 use crate::irregular;
 use crate::naming::random_of_length;
@@ -17,7 +19,12 @@ pub struct Shown<'a> {
     pub table: &'a [u8],
     pub origin: &'a str,
     pub damaged: bool,
+    /// Of a table that looks sound where sums wrap.
+    pub wrapped: Option<Kind>,
 }
+
+/// Tables that look sound where sums wrap, of each kind for each sound one.
+const WRAPPED: usize = 4;
 
 /// Shows each table to `judge`.
 pub fn every_table(judge: impl FnMut(Shown)) {
@@ -57,6 +64,7 @@ pub fn every_table(judge: impl FnMut(Shown)) {
     for seed in 0..40 {
         tables.life_of(Session::elsewhere(seed), seed, 5);
     }
+    tables.wrapped();
 }
 
 struct Tables<F> {
@@ -66,11 +74,20 @@ struct Tables<F> {
 
 impl<F: FnMut(Shown)> Tables<F> {
     fn show(&mut self, table: &[u8], origin: &str) {
-        (self.judge)(Shown { table, origin, damaged: false });
+        (self.judge)(Shown { table, origin, damaged: false, wrapped: None });
     }
 
     fn show_damaged(&mut self, table: &[u8], origin: &str) {
-        (self.judge)(Shown { table, origin, damaged: true });
+        (self.judge)(Shown { table, origin, damaged: true, wrapped: None });
+    }
+
+    /// Document 02, [4]: sound tables, most of them of 65,535 tracks, and what looks like them.
+    fn wrapped(&mut self) {
+        wrapped::bases().iter().for_each(|table| self.show(table, "65,535 tracks, or near it"));
+        wrapped::every(WRAPPED, |Wrapped { kind, table }| {
+            let origin = &format!("{kind:?}");
+            (self.judge)(Shown { table, origin, damaged: true, wrapped: Some(*kind) });
+        });
     }
 
     /// Every byte of a table with other values.
