@@ -4,7 +4,7 @@ use lib.Dec.{T}
 use Rattle.model.specs.Choice.{choose}
 use Rattle.model.specs.Model.{format0s, free, gaps, held, unused, used}
 use Rattle.model.specs.Tracks.{tracksKept}
-use Rattle.rules.specs.Calls.{allocate, extend, grant, obtain, preview, release, request, rule, scratch}
+use Rattle.rules.specs.Calls.{allocate, extend, grant, lspace, obtain, preview, release, rename, request, rule, scratch}
 use Rattle.rules.specs.Entries.{goodLengths, initialise, perform}
 use Rattle.rules.specs.Layout.{encode, extentPart, format1, format3, format4, format5, records}
 use Rattle.rules.specs.Listing.{listing, printable}
@@ -323,3 +323,53 @@ sequence38 =
 pub case38 : T (right [] sequence38)
 unfolding held gaps free used unused format0s choose extentPart format4 format5 format1 format3 records encode readGeometry readExtents readLabel readRecords read goodName limits goodLabel valid taken goodLength settle grant tracksKept rule goodLengths perform initialise printable listing
 case38 = tt
+
+-- sums that would be right modulo 65,536
+
+abbrev pub sequence39 : List Row
+sequence39 =
+    begin 4097 16 4 1 2 1 0x0
+    ∷ begin 268435457 16 4 1 2 1 0x0
+    ∷ begin 257 255 4 1 16386 1 0x0
+    ∷ begin 257 255 4 65535 2 1 0x0
+    ∷ begin 257 255 4 4294967295 2 1 0x0
+    ∷ begin 257 255 4 1 2 0 0x125588C0BEEB1E64
+    ∷ hurt ((112, 0x40) ∷ (114, 0x42) ∷ (144, 0x40) ∷ (146, 0x00) ∷ (147, 0xC0) ∷ (148, 0xBC) ∷ []) lspace 3
+    ∷ hurt ((112, 0x40) ∷ (114, 0x42) ∷ (144, 0x40) ∷ (146, 0x00) ∷ (147, 0xC0) ∷ (148, 0xBC) ∷ []) (allocate (request (nm (0xC1 ∷ [])) (attr 7) 0 0 1 0 0)) 3
+    ∷ begin 4 255 4 1 2 0 0x125ED1A41CC65F7C
+    ∷ ok (allocate (request (nm (0xC1 ∷ [])) (attr 9) 1 0 1 1 0)) 0xFF0100FF00FF0000000000000000000000000000000000 0x19F5AB920513F7A1
+    ∷ ok (allocate (request (nm (0xC5 ∷ 0xD5 ∷ 0xC4 ∷ [])) (attr 10) 2 767 253 0 0)) 0xFD0102FF00FD0000000000000000000000000000000000 0x138844A049ED7E1B
+    ∷ ok (allocate (request (nm (0xC2 ∷ [])) (attr 11) 0 0 252 1 0)) 0xFC01000300FC0000000000000000000000000000000000 0xC465648CC093B83
+    ∷ ok (release (nm (0xC5 ∷ 0xD5 ∷ 0xC4 ∷ [])) 0xFB01) 0x100000000000000000000000000000000000000000000 0x124EB36C13B2BED3
+    ∷ ok (extend (nm (0xC2 ∷ []))) 0x10103FB00010000000000000000000000000000000000 0x1A866CACDE48FA58
+    ∷ ok (extend (nm (0xC2 ∷ []))) 0x10101FE00010000000000000000000000000000000000 0x3956C6D39BC9BEA
+    ∷ ok (extend (nm (0xC2 ∷ []))) 0x10101FF00010000000000000000000000000000000000 0x1886B169FC674AE6
+    ∷ ok lspace 0x100000001000100000002000000000000000000000000 0x1886B169FC674AE6
+    ∷ hurt ((667, 0x01) ∷ (668, 0x01) ∷ (670, 0x04) ∷ []) lspace 3
+    ∷ hurt ((667, 0x01) ∷ (668, 0x01) ∷ (670, 0x04) ∷ []) (extend (nm (0xC2 ∷ []))) 3
+    ∷ hurt ((391, 0x01) ∷ (392, 0x03) ∷ (394, 0x00) ∷ []) lspace 3
+    ∷ hurt ((391, 0x01) ∷ (392, 0x03) ∷ (394, 0x00) ∷ []) (obtain (nm (0xC1 ∷ []))) 3
+    ∷ hurt ((706, 0xFF) ∷ (707, 0xFF) ∷ (708, 0x02) ∷ (709, 0xFE) ∷ []) lspace 3
+    ∷ hurt ((706, 0xFF) ∷ (707, 0xFF) ∷ (708, 0x02) ∷ (709, 0xFE) ∷ []) (scratch (nm (0xC2 ∷ []))) 3
+    ∷ hurt ((682, 0x04) ∷ (684, 0x00) ∷ []) lspace 3
+    ∷ hurt ((682, 0x04) ∷ (684, 0x00) ∷ []) (release (nm (0xC2 ∷ [])) 0x1) 3
+    ∷ hurt ((146, 0x01) ∷ (147, 0x02) ∷ (148, 0x01) ∷ []) lspace 3
+    ∷ hurt ((146, 0x01) ∷ (147, 0x02) ∷ (148, 0x01) ∷ []) (allocate (request (nm (0xC3 ∷ [])) (attr 7) 0 0 1 0 0)) 3
+    ∷ hurt ((147, 0x00) ∷ (148, 0xFF) ∷ []) lspace 3
+    ∷ hurt ((147, 0x00) ∷ (148, 0xFF) ∷ []) (extend (nm (0xC1 ∷ []))) 3
+    ∷ hurt ((149, 0xFF) ∷ (150, 0xFF) ∷ (153, 0x02) ∷ []) lspace 3
+    ∷ hurt ((149, 0xFF) ∷ (150, 0xFF) ∷ (153, 0x02) ∷ []) (scratch (nm (0xC1 ∷ []))) 3
+    ∷ hurt ((695, 0x01) ∷ (696, 0x01) ∷ (698, 0x03) ∷ []) lspace 3
+    ∷ hurt ((695, 0x01) ∷ (696, 0x01) ∷ (698, 0x03) ∷ []) (preview (extend (nm (0xC2 ∷ [])))) 3
+    ∷ hurt ((696, 0x40) ∷ (698, 0x42) ∷ []) lspace 3
+    ∷ hurt ((696, 0x40) ∷ (698, 0x42) ∷ []) (obtain (nm (0xC2 ∷ []))) 3
+    ∷ hurt ((46, 0x40) ∷ (48, 0x42) ∷ []) lspace 3
+    ∷ hurt ((46, 0x40) ∷ (48, 0x42) ∷ []) (scratch (nm (0xC5 ∷ 0xD5 ∷ 0xC4 ∷ []))) 3
+    ∷ hurt ((107, 0x01) ∷ (108, 0x01) ∷ (110, 0x02) ∷ []) lspace 3
+    ∷ hurt ((107, 0x01) ∷ (108, 0x01) ∷ (110, 0x02) ∷ []) (rename (nm (0xC1 ∷ [])) (nm (0xC3 ∷ []))) 3
+    ∷ ok (scratch (nm (0xC2 ∷ []))) 0xFF00000000000000000000000000000000000000000000 0x5DD3CD6E9EEE578
+    ∷ []
+
+pub case39 : T (right [] sequence39)
+unfolding held gaps free used unused format0s choose extentPart format4 format5 format1 format3 records encode readGeometry readExtents readLabel readRecords read goodName limits goodLabel valid taken goodLength settle grant tracksKept rule goodLengths perform initialise printable listing
+case39 = tt

@@ -1,4 +1,4 @@
-//! A volume of 65,535 tracks, and tables that look sound where sums wrap at 65,536: document 02, [4].
+//! Numbers and tables that look sound where sums wrap at 65,536: document 02, [4].
 //! H = 255, and 65,536 = 257 × 255 + 1.
 
 use super::{sequence, Sequence};
@@ -11,12 +11,13 @@ pub fn sequences() -> Vec<Sequence> {
     vec![sixteen_bits()]
 }
 
+/// An accepted call costs the definitions a pass over all tracks: 65,535 are too many, and four cylinders do.
 fn sixteen_bits() -> Sequence {
-    sequence("65,535 tracks, and sums that would be right modulo 65,536", |desk| {
+    sequence("sums that would be right modulo 65,536", |desk| {
         initialised(desk);
-        to_the_end(desk);
+        desk.initialise(4, 255, 4, 1, 2).without_numbers();
+        some_sets(desk);
         wrapped(desk);
-        // With the last track.
         desk.scratch("B").gave_back(255);
     })
 }
@@ -36,18 +37,17 @@ fn initialised(desk: &mut Desk) {
     hurt(desk, &too_long, tracks("A", 1, 0));
 }
 
-/// Free in the end: 512–64,771, which are 252 × 255. B has 3–254, 65,534, 510 and 511.
-fn to_the_end(desk: &mut Desk) {
+/// Free in the end: 512–766, one cylinder's worth. B has 3–254, 1,019, 510 and 511.
+fn some_sets(desk: &mut Desk) {
     desk.cylinders("A", 1, 1).granted(&[(255, 255)]);
-    desk.absolute("END", 64_772, 764).refused(7);
-    desk.absolute("END", 64_772, 763).granted(&[(64_772, 763)]);
+    desk.absolute("END", 767, 253).granted(&[(767, 253)]);
     desk.tracks("B", 252, 1).granted(&[(3, 252)]);
-    desk.release("END", 761, 1).gave_back(1);
-    for track in [65_534, 510, 511] {
+    desk.release("END", 251, 1).gave_back(1);
+    for track in [1_019, 510, 511] {
         desk.extend("B").granted(&[(track, 1)]);
     }
     let reply = desk.lspace();
-    assert_eq!([0, 2, 4, 6, 8, 10].map(|at| reply.word(at)), [252, 0, 1, 252, 0, 2]);
+    assert_eq!([0, 2, 4, 6, 8, 10].map(|at| reply.word(at)), [1, 0, 1, 1, 0, 2]);
 }
 
 /// Bytes to put into a copy of the table, and where.
@@ -73,13 +73,13 @@ fn wrapped(desk: &mut Desk) {
     // Extent 3, track 511: 65,535 × 255 + 766, with HH not below H.
     let format_3 = 5 * 140 + 4;
     hurt(desk, &[(format_3 + 2, &[0xFF, 0xFF, 0x02, 0xFE])], scratch("B"));
-    // B's second extent, 65,534 alone, goes one track too far.
-    hurt(desk, &[(extent(4, 1) + 6, &[1, 1, 0, 0])], release("B", 0, 1));
-    // The free extent: 509 × 255 + 1 tracks; 251 × 255 + 255, which is right but for the digits.
+    // B's second extent, 1,019 alone, goes one track too far.
+    hurt(desk, &[(extent(4, 1) + 6, &[0, 4, 0, 0])], release("B", 0, 1));
+    // The free extent, 255 tracks: 258 × 255 + 1; 0 × 255 + 255, which is right but for the digits.
     let free = 140 + 4;
-    hurt(desk, &[(free + 2, &[1, 0xFD, 1])], tracks("C", 1, 0));
-    hurt(desk, &[(free + 2, &[0, 251, 255])], extend("A"));
-    // One more: 2 tracks from 65,535, up to 65,536 + 1.
+    hurt(desk, &[(free + 2, &[1, 2, 1])], tracks("C", 1, 0));
+    hurt(desk, &[(free + 2, &[0, 0, 255])], extend("A"));
+    // One more: 2 tracks from 65,535 on, up to 65,536 + 1.
     hurt(desk, &[(free + 5, &[0xFF, 0xFF, 0, 0, 2])], scratch("A"));
     // B's format 3 is record 2 of track 2: 2 + 65,536 = 257 × 255 + 3. Slot 5 + 65,536 = 16,385 × 4 + 1 is
     // record 2 of track 16,386.
