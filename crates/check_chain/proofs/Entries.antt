@@ -10,7 +10,7 @@ use lib.Dec.{eqb, ltb}
 use lib.ListN.{drop, getD, length, length-drop, replicate, take, take-append-drop}
 use lib.Seq.{drop-cons, drop-drop, drop-nil, take-nil, take-take}
 use Rattle.model.specs.Basics.{be2, fill, flat, get2, part, zeros}
-use Rattle.model.specs.Model.{Geometry, Run, run, tracks}
+use Rattle.model.specs.Model.{Geometry, Run, run}
 use Rattle.model.proofs.Lists.{and-l, and-r, clash, drop-take, is-true, true-is}
 use Rattle.rules.specs.Layout.{entry, fields5, format5, whole}
 use Rattle.rules.proofs.Bytes.{be2-back}
@@ -29,10 +29,9 @@ use Rattle.check_chain.specs.Entries.{HoldsRuns, Rows, entriesOf, entryO
 -- ---- one entry
 
 -- the stop: a free extent is not the whole volume, so an entry with all its cylinders is not its entry
-pub many-cylinders : (g : Geometry) (s c : ℕ) (x : List ℕ) → c < tracks g → g .cylinders ≤ get2 x 2 → false ≡ entryOk (g .heads) s c x
-many-cylinders g s c x u v =
-    let p = cylinder-past (g .cylinders) (g .heads) (get2 x 2) v in
-    rw (ne-eqb (get2 x 2 * g .heads + getD x 4 0) c (λ e. absurd (omega arith)), and-false, and-false)
+pub many-cylinders : (c h s n : ℕ) (x : List ℕ) → n < c * h → c ≤ get2 x 2 → false ≡ entryOk h s n x
+many-cylinders c h s n x u v =
+    let p = cylinder-past c h (get2 x 2) v in rw (ne-eqb (get2 x 2 * h + getD x 4 0) n (λ e. absurd (omega arith)), and-false, and-false)
 
 module _ (g : Geometry) (pos : 1 ≤ g .heads) (s c : ℕ) where
   abbrev H : ℕ
@@ -141,6 +140,10 @@ module _ (g : Geometry) (m : List ℕ) (n at w : ℕ) (x : List ℕ) where
         yes = λ q. o .into (ap (λ (i : ℕ). entriesOf g i (freeFrom m n t)) z ∙ sym (lib.ListN.drop-of-length-le x {i = 5 * j} (omega arith)));
         no = λ q. clash {b = true} refl q;
       }
+
+-- x has w entries
+pub rows-of : (g : Geometry) (m : List ℕ) (n at w : ℕ) (x : List ℕ) (ok : Bool) (next : ℕ) → length x ≡ 5 * w → Rows g m n at (length x / 5) x ok next → Rows g m n at w x ok next
+rows-of g m n at w x ok next l r = let e : length x / 5 ≡ w = omega arith in subst (λ (k : ℕ). Rows g m n at k x ok next) e r
 
 pub rows-bad : (g : Geometry) (m : List ℕ) (n at w : ℕ) (x : List ℕ) (t : ℕ) → (entriesOf g w (freeFrom m n at) ≡ x → ⊥) → Rows g m n at w x false t
 rows-bad g m n at w x t f =

@@ -3,12 +3,13 @@ use dscb::Geometry;
 use dscb::places::*;
 ghost use mathlib.Core.Path.{_≡_};
 ghost use mathlib.Core.Bool.{false};
-ghost use Prim.Native.Nat.{_*_, _≤_, _<_};
-ghost use lib.ListN.{length};
+ghost use Prim.Native.Nat.{_*_, _/_, _%_, _≤_, _<_};
+ghost use lib.ListN.{drop, length};
 ghost use Rattle.model.specs.Basics.{part};
 ghost use Rattle.model.specs.Model.{slots, tracks};
 ghost use Rattle.rules.specs.Predicates.{Limits};
 ghost use Rattle.bitmap.specs.Map.{freeBit, freeFrom};
+ghost use Rattle.rows.specs.Words.{allAre};
 ghost use Rattle.dscb.specs.Forms.{geometryOf};
 ghost use Rattle.check_chain.specs.Chain.{ChainGone, Held};
 ghost use Rattle.check_chain.specs.Entries.{HoldsRuns, Rows, entryOk, linkOk};
@@ -40,49 +41,55 @@ pub struct Compared {
     pub next: u16,
 }
 
-// Whether the five bytes are the entry of the free extent of `count` tracks, which is not the whole volume. It multiplies, since a division
-// costs more; an entry with as many cylinders as the volume has is none, and the product of any other fits.
-fn is_entry(x: &[u8], g: Geometry, start: u16, count: u16) -> bool
-    requires { ⌜ (length (now x) ≡ 5) × Limits (geometryOf g) × (count < tracks (geometryOf g)) ⌝ }
-    ensures { λ r. ⌜ r ≡ entryOk (g .heads) start count (now (x .entry)) ⌝ }
+// Whether the five bytes are the entry of the free extent of `count` tracks, which is not the whole volume of c cylinders, h tracks in each.
+// It multiplies, since a division costs more; an entry with as many cylinders as the volume has is none, and the product of any other fits.
+fn is_entry(x: &[u8], c: u16, h: u16, start: u16, count: u16) -> bool
+    requires { ⌜ (length (now x) ≡ 5) × (c * h ≤ 65535) × (count < c * h) ⌝ }
+    ensures { λ r. ⌜ r ≡ entryOk h start count (now (x .entry)) ⌝ }
 {
     if rows::two(x, 0) != start {
         return false;
     }
     let odd = rows::byte(x[4]);
-    if odd >= g.heads {
+    if odd >= h {
         return false;
     }
     let whole = rows::two(x, 2);
-    if whole >= g.cylinders {
+    if whole >= c {
         return false;
     }
-    whole * g.heads + odd == count
+    whole * h + odd == count
 }
 
-// Whether the w entries of x are the first runs of free tracks from track `at` on, and zeros where there are fewer. The label track is not
-// free, so no run is the whole volume.
-fn entries_are(x: &[u8], w: usize, free_tracks: &[u64], n: u16, at: u16, g: Geometry) -> Compared
-    requires { ⌜ (length (now x) ≡ 5 * w) × (w ≤ 26) × (at ≤ n) × (n ≤ 64 * length (now «free_tracks»)) × (n ≤ tracks (geometryOf g)) × Limits (geometryOf g) × (freeBit (now «free_tracks») 0 ≡ 0) ⌝ }
-    ensures { λ r. ⌜ Rows (geometryOf g) (now («free_tracks» .entry)) n at w (now (x .entry)) (r .ok) (r .next) ⌝ }
+// Whether zeros follow from place p on: no run is left.
+fn none_from(x: &[u8], p: usize, n: u16) -> Compared
+    requires { ⌜ p ≤ length (now x) ⌝ }
+    ensures { λ r. ⌜ (r .ok ≡ allAre 0 (drop p (now (x .entry)))) × (r .next ≡ n) ⌝ }
+{
+    let ok = rows::all_are(&x[p..], 0);
+    Compared { ok, next: n }
+}
+
+// Whether the entries of x are the first runs of free tracks from track `at` on, and zeros where there are fewer. The label track is not
+// free, so no run is the whole volume. Only a place goes through x: to count the entries besides costs more.
+fn entries_are(x: &[u8], free_tracks: &[u64], n: u16, at: u16, g: Geometry) -> Compared
+    requires { ⌜ (length (now x) % 5 ≡ 0) × (at ≤ n) × (n ≤ 64 * length (now «free_tracks»)) × (n ≤ tracks (geometryOf g)) × Limits (geometryOf g) × (freeBit (now «free_tracks») 0 ≡ 0) ⌝ }
+    ensures { λ r. ⌜ Rows (geometryOf g) (now («free_tracks» .entry)) n at (length (now (x .entry)) / 5) (now (x .entry)) (r .ok) (r .next) ⌝ }
 {
     let mut t = at;
     let mut seen = bitmap::rest_of(free_tracks, at, n);
-    let mut j: usize = 0;
-    while j < w {
+    let mut p: usize = 0;
+    while p < x.len() {
         let free = bitmap::run_ahead(free_tracks, t, n, seen);
         let from = free.from;
-        let to = free.to;
-        let p = 5 * j;
         if from >= n {
-            let ok = rows::all_are(&x[p..], 0);
-            return Compared { ok, next: n };
+            return none_from(x, p, n);
         }
+        t = free.to;
+        seen = free.rest;
         let e = p + 5;
-        if is_entry(&x[p..e], g, from, to - from) {
-            t = to;
-            seen = free.rest;
-            j += 1;
+        if is_entry(&x[p..e], g.cylinders, g.heads, from, t - from) {
+            p = e;
         } else {
             return Compared { ok: false, next: n };
         }
@@ -101,11 +108,11 @@ fn compare(rec: &[u8], free_tracks: &[u64], n: u16, at: u16, g: Geometry) -> Com
     if rec[DS5FMTID] != FORMAT5 {
         return Compared { ok: false, next: n };
     }
-    let front = entries_are(&rec[DS5AVEXT..DS5FMTID], 8, free_tracks, n, at, g);
+    let front = entries_are(&rec[DS5AVEXT..DS5FMTID], free_tracks, n, at, g);
     if front.ok {} else {
         return Compared { ok: false, next: n };
     }
-    entries_are(&rec[DS5MAVET..DS5PTRDS], 18, free_tracks, n, front.next, g)
+    entries_are(&rec[DS5MAVET..DS5PTRDS], free_tracks, n, front.next, g)
 }
 
 // Whether the link of a format 5 is the address of a slot, or zeros where the slot is 0.

@@ -2,20 +2,19 @@
 use mathlib.Core.Path.{_≡_, sym, ap, _∙_, subst}
 use mathlib.Core.Bool.{Bool, true, false, _&&_, _||_}
 use mathlib.Core.List.{List}
-use Prim.Native.Nat.{ℕ, _+_, _-_, _*_, _≤_, _<_}
-use native.Mathlib.Nat.{mul-le-mul, le-refl}
+use Prim.Native.Nat.{ℕ, _+_, _-_, _≤_, _<_}
 use native.Mathlib.Omega.{arith}
-use borrow.Author.Tests.{eqb-true, eq-eqb, ne-eqb, leb-true, leb-false, le-leb, lt-ltb, le-ltb}
+use borrow.Author.Tests.{eqb-true, eq-eqb, ne-eqb, leb-true, le-leb, lt-ltb, le-ltb}
 use lib.Bits.{bitAnd}
 use lib.Dec.{T, eqb, leb}
 use lib.ListN.{getD, drop}
 use lib.Seq.{getD-take, getD-drop}
 use Rattle.model.specs.Basics.{get2, get3, part, within}
-use Rattle.model.specs.Model.{Geometry, slots, tracks}
+use Rattle.model.specs.Model.{Geometry}
 use Rattle.model.proofs.Lists.{and-l, and-r, by, is-true, true-is}
 use Rattle.rules.specs.Reading.{readGeometry, trackAt}
 use Rattle.rules.specs.Table.{goodName, goodUnit, limits}
-use Rattle.rules.proofs.Valid.{limits→, →limits}
+use Rattle.rules.proofs.Valid.{limits→}
 use Rattle.rules.specs.Predicates.{Limits}
 use Rattle.dscb.specs.Tests.{goodTen}
 use Rattle.rows.specs.Words.{allAre}

@@ -5,11 +5,11 @@ use mathlib.Core.List.{List}
 use Prim.Native.Nat.{ℕ, _*_, _≤_, _<_}
 use native.Mathlib.Nat.{mul-le-mul}
 use native.Mathlib.Omega.{arith}
-use lib.Dec.{T, leb, leb→le}
+use lib.Dec.{T}
 use lib.ListN.{length}
 use Rattle.model.specs.Basics.{get2}
 use Rattle.model.specs.Model.{Geometry, tracks}
-use Rattle.model.proofs.Lists.{clash, true-is}
+use Rattle.model.proofs.Lists.{clash}
 use Rattle.rules.specs.Reading.{read, readGeometry}
 use Rattle.rules.specs.Table.{taken}
 use Rattle.dscb.specs.Records.{slotBytes}

@@ -1,13 +1,9 @@
 use mathlib.Core.Path.{ap}
 use Prim.Native.Nat.{ℕ}
 use lib.Dec.{ltb}
-use native.Mathlib.Omega.{arith}
 use borrow.Author.Needs.{needs}
 use Rattle.dscb.proofs.ends_inside.Statement.{statement}
 use Rattle.dscb.proofs.ends_inside.Tie as tie
-use Rattle.dscb.proofs.ends_inside.Reads as reads
-use Rattle.dscb.proofs.ends_inside.Lts as lts
-use Rattle.rows.proofs.two.Reads as two-reads
 
 two-requires : tie.Need-two-requires
 two-requires c κs = search needs

@@ -4,13 +4,6 @@ use native.Mathlib.Omega.{arith}
 use borrow.Author.Needs.{needs}
 use Rattle.dscb.proofs.geometry_of.Statement.{statement}
 use Rattle.dscb.proofs.geometry_of.Tie as tie
-use Rattle.dscb.proofs.geometry_of.Reads as reads
-use Rattle.dscb.proofs.geometry_of.Lts as lts
-use Rattle.dscb.proofs.nowhere.Reads as nowhere-reads
-use Rattle.dscb.proofs.product_within.Reads as product-within-reads
-use Rattle.dscb.proofs.track_or_end.Reads as track-or-end-reads
-use Rattle.rows.proofs.byte.Reads as byte-reads
-use Rattle.rows.proofs.two.Reads as two-reads
 
 two-requires : tie.Need-two-requires
 two-requires c κs = search needs

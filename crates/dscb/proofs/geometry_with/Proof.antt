@@ -4,9 +4,6 @@ use native.Mathlib.Omega.{arith}
 use borrow.Author.Needs.{needs}
 use Rattle.dscb.proofs.geometry_with.Statement.{statement}
 use Rattle.dscb.proofs.geometry_with.Tie as tie
-use Rattle.dscb.proofs.geometry_with.Reads as reads
-use Rattle.dscb.proofs.geometry_with.Lts as lts
-use Rattle.dscb.proofs.nowhere.Reads as nowhere-reads
 
 nowhere-requires : tie.Need-nowhere-requires
 nowhere-requires c κs = search needs

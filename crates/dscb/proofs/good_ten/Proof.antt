@@ -10,13 +10,6 @@ use native.Mathlib.Omega.{arith}
 use borrow.Author.Needs.{needs}
 use Rattle.dscb.proofs.good_ten.Statement.{statement}
 use Rattle.dscb.proofs.good_ten.Tie as tie
-use Rattle.dscb.proofs.good_ten.Reads as reads
-use Rattle.dscb.proofs.good_ten.Lts as lts
-use Rattle.dscb.proofs.ends_inside.Reads as ends-inside-reads
-use Rattle.dscb.proofs.track_at.Reads as track-at-reads
-use Rattle.dscb.proofs.type_ok.Reads as type-ok-reads
-use Rattle.rows.proofs.two.Reads as two-reads
-use Rattle.rows.proofs.wide.Reads as wide-reads
 
 two-requires : tie.Need-two-requires
 two-requires c κs = search needs

@@ -5,9 +5,6 @@ use native.Mathlib.Omega.{arith}
 use borrow.Author.Needs.{needs}
 use Rattle.dscb.proofs.limits.Statement.{statement}
 use Rattle.dscb.proofs.limits.Tie as tie
-use Rattle.dscb.proofs.limits.Reads as reads
-use Rattle.dscb.proofs.limits.Lts as lts
-use Rattle.dscb.proofs.product_within.Reads as product-within-reads
 
 product-within-requires : tie.Need-product-within-requires
 product-within-requires c κs = search needs

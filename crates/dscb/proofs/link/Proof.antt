@@ -1,15 +1,11 @@
 use Rattle.dscb.proofs.Linked.{linked-below}
-use Rattle.dscb.specs.Forms.{geometryOf, linkedSlot}
+use Rattle.dscb.specs.Forms.{geometryOf}
 use Prim.Native.Nat.{ℕ, _<_}
 use Rattle.model.specs.Model.{slots}
 use mathlib.Core.Path.{sym, subst}
-use native.Mathlib.Omega.{arith}
 use borrow.Author.Needs.{needs}
 use Rattle.dscb.proofs.link.Statement.{statement}
 use Rattle.dscb.proofs.link.Tie as tie
-use Rattle.dscb.proofs.link.Reads as reads
-use Rattle.dscb.proofs.link.Lts as lts
-use Rattle.dscb.proofs.slot_of.Reads as slot-of-reads
 
 sub-slot-of : tie.Need-sub-slot-of
 sub-slot-of c = search needs

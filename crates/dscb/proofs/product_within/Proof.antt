@@ -4,8 +4,6 @@ use native.Mathlib.Omega.{arith}
 use borrow.Author.Needs.{needs}
 use Rattle.dscb.proofs.product_within.Statement.{statement}
 use Rattle.dscb.proofs.product_within.Tie as tie
-use Rattle.dscb.proofs.product_within.Reads as reads
-use Rattle.dscb.proofs.product_within.Lts as lts
 
 returns : tie.Need-returns
 returns c =

@@ -5,16 +5,10 @@ use Rattle.model.specs.Model.{slots}
 use Rattle.model.specs.Basics.{get2}
 use Rattle.rules.specs.Reading.{trackAt}
 use Prim.Native.Nat.{_<_, _≤_, _-_}
-use lib.ListN.{getD}
 use native.Mathlib.Omega.{arith}
 use borrow.Author.Needs.{needs}
 use Rattle.dscb.proofs.slot_of.Statement.{statement}
 use Rattle.dscb.proofs.slot_of.Tie as tie
-use Rattle.dscb.proofs.slot_of.Reads as reads
-use Rattle.dscb.proofs.slot_of.Lts as lts
-use Rattle.dscb.proofs.track_at.Reads as track-at-reads
-use Rattle.rows.proofs.byte.Reads as byte-reads
-use Rattle.rows.proofs.two.Reads as two-reads
 
 two-requires : tie.Need-two-requires
 two-requires c κs = search needs

@@ -1,13 +1,8 @@
 use Rattle.dscb.proofs.Stops.{track-fits, track-is}
-use mathlib.Core.Path.{ap₂}
-use Prim.Native.Nat.{ℕ, _+_, _*_}
 use native.Mathlib.Omega.{arith}
 use borrow.Author.Needs.{needs}
 use Rattle.dscb.proofs.track_at.Statement.{statement}
 use Rattle.dscb.proofs.track_at.Tie as tie
-use Rattle.dscb.proofs.track_at.Reads as reads
-use Rattle.dscb.proofs.track_at.Lts as lts
-use Rattle.rows.proofs.two.Reads as two-reads
 
 two-requires : tie.Need-two-requires
 two-requires c κs = search needs

@@ -1,13 +1,10 @@
 use Rattle.dscb.proofs.Stops.{on-cylinder, past-cylinders, past-heads}
 use mathlib.Core.Path.{refl}
-use Rattle.dscb.proofs.Stops.{cylinder-fits, cylinder-past}
+use Rattle.dscb.proofs.Stops.{cylinder-fits}
 use native.Mathlib.Omega.{arith}
 use borrow.Author.Needs.{needs}
 use Rattle.dscb.proofs.track_or_end.Statement.{statement}
 use Rattle.dscb.proofs.track_or_end.Tie as tie
-use Rattle.dscb.proofs.track_or_end.Reads as reads
-use Rattle.dscb.proofs.track_or_end.Lts as lts
-use Rattle.rows.proofs.two.Reads as two-reads
 
 mul-t : tie.Need-mul-t
 mul-t c = search needs

@@ -4,7 +4,6 @@ use lib.ListN.{length, length-set}
 use borrow.Author.Needs.{needs}
 use Rattle.dscb.specs.Forms.{geometryOf}
 use Rattle.dscb_write.proofs.Format4.{four-is}
-use Rattle.dscb_write.proofs.Numbers.{cylinders-small}
 use Rattle.dscb_write.proofs.Putting.{put-keeps}
 use Rattle.dscb_write.proofs.four.Statement.{statement}
 use Rattle.dscb_write.proofs.four.Tie as tie

@@ -1,6 +1,5 @@
 use Rattle.dscb.proofs.Stops.{product-fits}
-use Rattle.open_table.proofs.Room.{small-told, map-fits, no-answer}
-use native.Mathlib.Omega.{arith}
+use Rattle.open_table.proofs.Room.{small-told, no-answer}
 use borrow.Author.Needs.{needs}
 use Rattle.open_table.proofs.is_small.Statement.{statement}
 use Rattle.open_table.proofs.is_small.Tie as tie

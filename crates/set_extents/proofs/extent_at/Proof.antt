@@ -1,5 +1,5 @@
 use Rattle.set_extents.proofs.Cutting.{ends-fit, tracks-in}
-use Rattle.model.specs.Model.{Run, run}
+use Rattle.model.specs.Model.{run}
 use Prim.Native.Nat.{_+_, _-_}
 use mathlib.Core.Path.{_≡_, ap, _∙_}
 use Rattle.dscb.proofs.Tens.{extent-length}
