@@ -15,6 +15,7 @@
  * of a refusal (1 to 12, below). Any bytes, numbers and lengths may be handed over: every call ends in one of the two.
  *
  * WHAT IS NEW
+ * Version 302: the check of the table adds up tracks in 16 bits. No answer changed, and no host must change.
  * Version 301: the four previews. A host of version 300 stays as it is.
  * Version 300: of a cylinder file vtoc_release keeps the cylinder of the last block to its end, so more than TT + 1 tracks. A host
  * that works out from TT what is kept or given back must take it from the answer or the labels; any other stays as it is.
@@ -95,8 +96,8 @@ extern "C" {
 
 /* ---- Version ------------------------------------------------------------------------------------------------------------ */
 
-#define VTOC_VERSION 301 /* of this header, 100 x major + minor: a new major number where a host must change, else a new minor */
-#define VTOC_REQUESTS 3  /* how many of document 02's requests are in, from the first on */
+#define VTOC_VERSION 302 /* of this header, 100 x major + minor: a new major number where a host must change, else a new minor */
+#define VTOC_REQUESTS 4  /* how many of document 02's requests are in, from the first on */
 
 /* ---- Lengths, in bytes unless said otherwise ---------------------------------------------------------------------------- */
 

@@ -16,8 +16,8 @@
 
 #define IS(constant, number) typedef char constant##_is_not_##number[(constant) == (number) ? 1 : -1]
 
-IS(VTOC_VERSION, 301);
-IS(VTOC_REQUESTS, 3);
+IS(VTOC_VERSION, 302);
+IS(VTOC_REQUESTS, 4);
 IS(VTOC_RECORD_LENGTH, 140);
 IS(VTOC_LEAST_RECORDS, 3);
 IS(VTOC_MOST_RECORDS, 468);

@@ -91,18 +91,15 @@ fn take_far(map: &mut [u64], s: u16, e: u16) -> bool
     take_words(map, w + 1, v)
 }
 
-// Takes the tracks from s up to e: true if all of them were free. Most extents are short: they need no loop.
+// Takes the tracks from s up to e, one or more: true if all of them were free. Most extents are short: they need no loop.
 pub fn take_range(map: &mut [u64], s: u16, e: u16) -> bool
-    requires { ⌜ (s ≤ e) × (e ≤ 64 * length (now map)) ⌝ }
+    requires { ⌜ (s < e) × (e ≤ 64 * length (now map)) ⌝ }
     ensures { λ r. ⌜ Taken (now (map .entry)) (now (map .exit)) s e r ⌝ }
 {
-    if s < e {
-        if s / 64 == (e - 1) / 64 {
-            return take_near(map, s, e);
-        }
-        return take_far(map, s, e);
+    if s / 64 == (e - 1) / 64 {
+        return take_near(map, s, e);
     }
-    true
+    take_far(map, s, e)
 }
 
 // Makes the tracks from s up to e free, which lie in one word.

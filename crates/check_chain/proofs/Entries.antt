@@ -5,13 +5,13 @@ use mathlib.Core.List.{List, [], _∷_, _++_}
 use Prim.Native.Nat.{ℕ, zero, suc, _+_, _-_, _*_, _/_, _%_, _≤_, _<_}
 use native.Mathlib.Nat.{div-add-mod', le-refl, mod-lt, sub-zero}
 use native.Mathlib.Omega.{arith}
-use borrow.Author.Tests.{eq-eqb, eqb-true, lt-ltb, ltb-true, ne-eqb}
+use borrow.Author.Tests.{eq-eqb, eqb-true, lt-ltb, ltb-false, ltb-true, ne-eqb}
 use lib.Dec.{eqb, ltb}
 use lib.ListN.{drop, getD, length, length-drop, replicate, take, take-append-drop}
 use lib.Seq.{drop-cons, drop-drop, drop-nil, take-nil, take-take}
 use Rattle.model.specs.Basics.{be2, fill, flat, get2, part, zeros}
 use Rattle.model.specs.Model.{Geometry, Run, run}
-use Rattle.model.proofs.Lists.{and-l, and-r, clash, drop-take, is-true, true-is}
+use Rattle.model.proofs.Lists.{and-l, and-r, by, clash, drop-take, is-true, true-is}
 use Rattle.rules.specs.Layout.{entry, fields5, format5, whole}
 use Rattle.rules.proofs.Bytes.{be2-back}
 use Rattle.rules.proofs.Fields.{field-at}
@@ -32,6 +32,10 @@ use Rattle.check_chain.specs.Entries.{HoldsRuns, Rows, entriesOf, entryO
 pub many-cylinders : (c h s n : ℕ) (x : List ℕ) → n < c * h → c ≤ get2 x 2 → false ≡ entryOk h s n x
 many-cylinders c h s n x u v =
     let p = cylinder-past c h (get2 x 2) v in rw (ne-eqb (get2 x 2 * h + getD x 4 0) n (λ e. absurd (omega arith)), and-false, and-false)
+
+-- and its own entry does not meet it
+pub few-cylinders : (c h s n : ℕ) (x : List ℕ) → n < c * h → entryOk h s n x ≡ true → get2 x 2 < c
+few-cylinders c h s n x u e = by (ltb (get2 x 2) c) (λ q. ltb-true _ _ q) (λ q. clash e (sym (many-cylinders c h s n x u (ltb-false _ _ q))))
 
 module _ (g : Geometry) (pos : 1 ≤ g .heads) (s c : ℕ) where
   abbrev H : ℕ

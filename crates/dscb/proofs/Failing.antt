@@ -3,7 +3,6 @@ use mathlib.Core.Path.{_≡_}
 use mathlib.Core.Bool.{false}
 use mathlib.Core.List.{List}
 use Prim.Native.Nat.{ℕ, _+_, _-_, _*_, _≤_, _<_}
-use native.Mathlib.Nat.{mul-le-mul}
 use native.Mathlib.Omega.{arith}
 use borrow.Author.Tests.{eq-eqb, ne-eqb, lt-ltb, le-ltb, le-leb, lt-leb}
 use lib.ListN.{getD}
@@ -73,7 +72,3 @@ module _ (h d s n : ℕ) (x : List ℕ) where
     pub slot-is : get2 x 2 < h → 1 ≤ r → r ≤ d → s ≤ t → (t - s) * d + r - 1 < n → (t - s) * d + r - 1 ≡ slotNamed h d s n x
     unfolding slotNamed
     slot-is a b c e f = rw (← et, ← er, lt-ltb (get2 x 2) h a, le-leb 1 r b, le-leb r d c, le-leb s t e, lt-ltb ((t - s) * d + r - 1) n f)
-
--- the number of a slot fits 32 bits, whatever the bytes
-pub slot-fits : (t s d h : ℕ) → t ≤ 65535 * h + 65535 → h ≤ 255 → d ≤ 255 → (t - s) * d ≤ 16776960 * 255
-slot-fits t s d h u v w = let a : t - s ≤ 16776960 = omega arith in mul-le-mul a w

@@ -6,8 +6,8 @@ use mathlib.Core.List.{List}
 use Prim.Native.Nat.{ℕ, zero, suc, _+_, _-_, _*_, _/_, _%_, _≤_, _<_, min}
 use native.Mathlib.Nat.{add-mul, div-add-mod', le-refl, mul-comm, mul-le-mul, mul-right-comm, mul-zero}
 use native.Mathlib.Omega.{arith}
-use borrow.Author.Tests.{leb-false, leb-true, le-leb, lt-leb}
-use lib.Dec.{T, leb}
+use borrow.Author.Tests.{leb-false, leb-true, le-leb, lt-leb, ltb-false, ltb-true}
+use lib.Dec.{T, leb, ltb}
 use lib.ListN.{getD}
 use Rattle.model.specs.Basics.{get2}
 use Rattle.model.specs.Model.{Geometry, slots, tracks}
@@ -113,6 +113,13 @@ module _ (c h i : ℕ) (x : List ℕ) where
   pub first-fits : get2 x 2 ≤ get2 x 6 → get2 x 6 < c → get2 x 4 < h → trackAt h x 2 < c * h
   first-fits w u v = let d : get2 x 2 < c = omega arith in let p = cylinder-fits c h (get2 x 2) d in omega arith
 
+  -- a good extent meets no stop
+  pub good-passes : goodTen h (c * h) i x ≡ true → get2 x 8 < h → (get2 x 6 < c) × (get2 x 2 ≤ get2 x 6)
+  good-passes e v = (
+    by (ltb (get2 x 6) c) (λ q. ltb-true _ _ q) (λ q. clash e (sym (end-past (ltb-false _ _ q)))),
+    by (leb (get2 x 2) (get2 x 6)) (λ q. leb-true _ _ q) (λ q. clash e (sym (later-cylinder (leb-false _ _ q) v))),
+  )
+
 -- ---- addresses
 
 module _ (g : Geometry) (x : List ℕ) (l : Limits g) where
@@ -127,6 +134,14 @@ module _ (g : Geometry) (x : List ℕ) (l : Limits g) where
   volume-past a u =
       let p = cylinder-past (g .cylinders) (g .heads) (get2 x 0) u in
       vtoc-past a (omega (arith, l .ends))
+
+  -- the address of a slot meets neither
+  pub named-passes : 1 ≤ getD x 4 0 → 1 ≤ slotNamed (g .heads) (g .records) (g .vtocStart) (slots g) x
+      → (get2 x 0 < g .cylinders) × (trackAt (g .heads) x 0 - g .vtocStart < g .vtocTracks)
+  named-passes a some = (
+    by (ltb (get2 x 0) (g .cylinders)) (λ q. ltb-true _ _ q) (λ q. absurd (omega (arith, volume-past a (ltb-false _ _ q)))),
+    by (ltb (trackAt (g .heads) x 0 - g .vtocStart) (g .vtocTracks)) (λ q. ltb-true _ _ q) (λ q. absurd (omega (arith, vtoc-past a (ltb-false _ _ q)))),
+  )
 
   -- the number of any other slot fits
   pub slot-inside : (t r : ℕ) → r ≤ g .records → 1 ≤ r → t - g .vtocStart < g .vtocTracks → (t - g .vtocStart) * g .records + r - 1 < slots g
@@ -187,6 +202,12 @@ sixteen g l =
       vtoc = omega (arith, l .ends, l .tracksMost);
     }
 
+-- numbers that meet the limits meet no stop of a product
+pub limits-pass : (g : Geometry) → Limits g
+    → (true ≡ (leb (g .heads) 255 && leb (g .cylinders * g .heads) 65535)) × (true ≡ (leb (g .records) 255 && leb (g .vtocTracks * g .records) 468))
+limits-pass g l =
+    (rw (le-leb (g .heads) 255 (l .headsMost), le-leb (tracks g) 65535 (l .tracksMost)), rw (le-leb (g .records) 255 (l .recordsMost), le-leb (slots g) 468 (l .most)))
+
 module _ (x : Geometry) (n : Numbers) where
   -- where the limits are broken, any numbers that break them serve
   pub gives-none : (Limits x → ⊥) → limits (geometryOf n) ≡ false → Gives x n
@@ -212,9 +233,6 @@ module _ (c h d s e : ℕ) where
 
   pub ends-past : c * h ≤ min (c * h) e → Limits (vtocFrom c h d s e) → ⊥
   ends-past u l = absurd (omega (arith, l .vtoc, l .ends))
-
-  pub ends-on : min (c * h) s ≤ min (c * h) e → min (c * h) e < c * h → (min (c * h) s ≡ s) × (min (c * h) e ≡ e)
-  ends-on u v = (omega arith, omega arith)
 
 -- a format 4 whose numbers break the limits, and one whose VTOC is on the volume; c, h and d are read from it, f and l are the first and the
 -- last track of the VTOC, or the volume's end

@@ -135,7 +135,8 @@ pub fn geometry_with(c: u32, h: u32, d: u32, s: u32, v: u32) -> Geometry
     }
 }
 
-// Whether a geometry meets the limits of initialise. Any numbers may be asked about.
+// Whether a geometry meets the limits of initialise. Any numbers may be asked about. One without cylinders or heads has no track for the
+// VTOC, and one without a track or a record in it has no slots.
 pub fn limits(g: Geometry) -> bool
     ensures { λ r. ⌜ r ≡ limits (geometryOf g) ⌝ }
 {
@@ -326,7 +327,8 @@ fn ends_inside(x: &[u8], c: u16) -> bool
     rows::two(x, 6) < c
 }
 
-// Whether the ten bytes are an extent of number i on a volume of this geometry.
+// Whether the ten bytes are an extent of number i on a volume of this geometry. Two stops stand before its tracks are numbered: where it ends
+// behind the volume, which is about its tracks, and where it begins in a later cylinder than it ends in, which is about its form.
 pub fn good_ten(x: &[u8], i: u32, g: Geometry) -> bool
     requires { ⌜ (length (now x) ≡ 10) × Limits (geometryOf g) ⌝ }
     ensures { λ r. ⌜ r ≡ goodTen (g .heads) (tracks (geometryOf g)) i (now (x .entry)) ⌝ }
@@ -357,7 +359,7 @@ pub fn good_ten(x: &[u8], i: u32, g: Geometry) -> bool
 
 // ---- addresses
 
-// The slot whose address the five bytes are; 0 if they are no slot's.
+// The slot whose address the five bytes are; 0 if they are no slot's. It stops at a track that is not on the volume, and at one behind the VTOC.
 pub fn slot_of(x: &[u8], g: Geometry) -> usize
     requires { ⌜ (length (now x) ≡ 5) × Limits (geometryOf g) ⌝ }
     ensures { λ r. ⌜ r ≡ slotNamed (g .heads) (g .records) (g .«vtoc_start») (slots (geometryOf g)) (now (x .entry)) ⌝ }

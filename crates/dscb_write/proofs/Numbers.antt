@@ -1,6 +1,6 @@
 -- Numbers of a geometry within its limits fit their bytes; addresses of slots. Assumes nothing.
-use native.Mathlib.Nat.{div-eq-of-lt, div-lt-iff-lt-mul, mod-eq-of-lt, mod-lt, le-refl, mul-le-mul}
-use Prim.Native.Nat.{ℕ, _+_, _/_, _%_, _<_, _*_, _≤_, zero, suc, _-_}
+use native.Mathlib.Nat.{div-eq-of-lt, div-lt-iff-lt-mul, mod-eq-of-lt, mod-lt}
+use Prim.Native.Nat.{ℕ, _+_, _/_, _%_, _<_, zero, suc, _-_}
 use native.Mathlib.Omega.{arith}
 use mathlib.Core.Path.{_≡_, refl, sym}
 use mathlib.Core.List.{[], _∷_, _++_}
@@ -25,13 +25,6 @@ slot-record g x k = let p = x .records in let m = x .recordsMost in let q = mod-
 -- a track in its cylinder
 pub head-small : (g : Geometry) → Limits g → (t : ℕ) → t % g .heads < 256
 head-small g x t = let p = x .heads in let m = x .headsMost in let q = mod-lt t {m = g .heads} (omega arith) in omega arith
-
--- the number of cylinders
-pub cylinders-small : (g : Geometry) → Limits g → g .cylinders < 65536
-cylinders-small g x =
-    let p : g .cylinders * 1 ≤ g .cylinders * g .heads = mul-le-mul (le-refl (g .cylinders)) (x .heads) in
-    let m = x .tracksMost in
-    omega arith
 
 -- the address of a slot, or of none
 pub link-none : (g : Geometry) (k : ℕ) → k ≡ 0 → (i : ℕ) → replicate (i + 5 - i) 0 ≡ link g k

@@ -2,9 +2,8 @@
 use mathlib.Core.Path.{_≡_, refl, sym, ap, ap₂, _∙_}
 use mathlib.Core.Bool.{Bool, true, false, _&&_}
 use mathlib.Core.List.{List, [], _∷_, _++_}
-use Prim.Native.Nat.{ℕ, zero, suc, _+_, _-_, _*_, _≤_, _<_}
+use Prim.Native.Nat.{ℕ, zero, suc, _+_, _-_, _≤_, _<_}
 use native.Mathlib.Numerals.{add-one}
-use native.Mathlib.Nat.{mul-le-mul}
 use native.Mathlib.Omega.{arith}
 use borrow.Author.Tests.{eq-eqb, ne-eqb, eqb-true, eqb-false}
 use lib.Bits.{bitOr, bitXor, or-add-and, and-le-l, and-le-r, xor-add-and, xor-self}
@@ -94,9 +93,6 @@ same-long (x ∷ xs) [] n = refl
 same-long (x ∷ xs) (y ∷ ys) n = rw (same-long xs ys (λ e. n (ap suc e)), and-false)
 
 -- ---- a sum that fits
-
-pub product : (p h f : ℕ) → p < 65536 → h < 65536 → f < 65536 → (p * h ≤ 65535 * h) × (p * h + f ≤ 65535 * h + 65535)
-product p h f u v w = let a : p ≤ 65535 = omega arith in let m : p * h ≤ 65535 * h = mul-le-mul a (native.Mathlib.Nat.le-refl h) in (m, omega arith)
 
 -- `&l[i..]` is lent
 pub from-place : (l : List ℕ) (i : ℕ) → take (length l - i) (drop i l) ≡ drop i l
