@@ -351,8 +351,6 @@ sequence39 =
     ∷ hurt ((391, 0x01) ∷ (392, 0x03) ∷ (394, 0x00) ∷ []) (obtain (nm (0xC1 ∷ []))) 3
     ∷ hurt ((706, 0xFF) ∷ (707, 0xFF) ∷ (708, 0x02) ∷ (709, 0xFE) ∷ []) lspace 3
     ∷ hurt ((706, 0xFF) ∷ (707, 0xFF) ∷ (708, 0x02) ∷ (709, 0xFE) ∷ []) (scratch (nm (0xC2 ∷ []))) 3
-    ∷ hurt ((682, 0x04) ∷ (684, 0x00) ∷ []) lspace 3
-    ∷ hurt ((682, 0x04) ∷ (684, 0x00) ∷ []) (release (nm (0xC2 ∷ [])) 0x1) 3
     ∷ hurt ((146, 0x01) ∷ (147, 0x02) ∷ (148, 0x01) ∷ []) lspace 3
     ∷ hurt ((146, 0x01) ∷ (147, 0x02) ∷ (148, 0x01) ∷ []) (allocate (request (nm (0xC3 ∷ [])) (attr 7) 0 0 1 0 0)) 3
     ∷ hurt ((147, 0x00) ∷ (148, 0xFF) ∷ []) lspace 3

@@ -73,8 +73,6 @@ fn wrapped(desk: &mut Desk) {
     // Extent 3, track 511: 65,535 × 255 + 766, with HH not below H.
     let format_3 = 5 * 140 + 4;
     hurt(desk, &[(format_3 + 2, &[0xFF, 0xFF, 0x02, 0xFE])], scratch("B"));
-    // B's second extent, 1,019 alone, goes one track too far.
-    hurt(desk, &[(extent(4, 1) + 6, &[0, 4, 0, 0])], release("B", 0, 1));
     // The free extent, 255 tracks: 258 × 255 + 1; 0 × 255 + 255, which is right but for the digits.
     let free = 140 + 4;
     hurt(desk, &[(free + 2, &[1, 2, 1])], tracks("C", 1, 0));
