@@ -162,5 +162,5 @@ fn computed_cases_would_be_taken_without_stops() {
             _ => panic!("{row:?}"),
         }
     }
-    assert_eq!(bad.len(), 12);
+    assert_eq!(bad.len(), 11);
 }
