@@ -6,7 +6,7 @@ ghost use lib.ListN.{length, take};
 ghost use Rattle.model.specs.Basics.{be2, zeros};
 ghost use Rattle.model.specs.Model.{Run, total};
 ghost use Rattle.model.specs.Predicates.{All};
-ghost use Rattle.rules.specs.Calls.{answer, givenBack, granted, numbers};
+ghost use Rattle.rules.specs.Calls.{answer, dateBytes, givenBack, granted, numbers};
 ghost use Rattle.choose_pieces.specs.Grant.{row};
 ghost use Rattle.dscb_write.specs.Put.{putAt};
 ghost use Rattle.answers.specs.Bytes24.{pieceBytes};
@@ -37,6 +37,16 @@ pub fn put_nothing(out: &mut [u8])
     ensures { λ _. ⌜ now (out .exit) ≡ zeros 24 ⌝ }
 {
     let all = [0u8; 24];
+    bytes::copy(&all, out);
+}
+
+// The answer of a conversion: these bytes first.
+pub fn put_first(out: &mut [u8], bs: &[u8])
+    requires { ⌜ (length (now out) ≡ 24) × (length (now bs) ≤ 24) ⌝ }
+    ensures { λ _. ⌜ now (out .exit) ≡ answer (dateBytes (now (bs .entry))) ⌝ }
+{
+    let mut all = [0u8; 24];
+    bytes::copy(bs, &mut all);
     bytes::copy(&all, out);
 }
 

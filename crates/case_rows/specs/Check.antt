@@ -1,14 +1,14 @@
 -- Cases made by the unrelated implementation under tests/, computed by the definitions: what a row means. Assumes nothing.
-use Prim.Native.Nat.{ℕ, zero, suc, _+_, _*_, _%_}
+use Prim.Native.Nat.{ℕ, zero, suc, _+_, _*_, _/_, _%_}
 use mathlib.Core.Bool.{Bool, true, _&&_}
 use mathlib.Core.List.{List, [], _∷_, _++_, map}
 use lib.ListN.{length, take, set, replicate}
 use lib.Dec.{eqb}
 use Rattle.model.specs.Basics.{fill, flat, same, upFrom}
 use Rattle.model.specs.Model.{Volume, slots}
-use Rattle.rules.specs.Calls.{Call, Outcome, accept, allocate, extend, lspace, obtain, preview, refuse, release, rename, rule, scratch}
+use Rattle.rules.specs.Calls.{Call, DateCall, Outcome, accept, allocate, extend, lspace, obtain, preview, refuse, release, rename, rule, scratch, tell}
 use Rattle.rules.specs.Contracts.{geometry}
-use Rattle.rules.specs.Entries.{Lent, Result, fresh, initialise, lent, perform}
+use Rattle.rules.specs.Entries.{Lent, Result, convertDate, fresh, initialise, lent, perform}
 use Rattle.rules.specs.Layout.{encode, extentPart}
 use Rattle.rules.specs.Listing.{listing}
 
@@ -17,7 +17,8 @@ use Rattle.rules.specs.Listing.{listing}
 -- the digest of its labels besides; a refused call, which changes nothing; a call on a damaged copy of the table; a call on a copy of
 -- another length, with buffers of these lengths; the digest of the listing of a copy that is damaged and has this length; the digest
 -- of all that `extentPart` gives for records of these lengths. The copies are thrown away. Bytes put into the table itself, as it may
--- come from elsewhere.
+-- come from elsewhere. A date that is converted, with the answer; one that is not; one that is not, with a table and an answer of these
+-- lengths.
 pub data Row : Type 0 where
   begin : (c h d s v number digest : ℕ) → Row
   beginSized : (c h d s v tableLength answerLength number : ℕ) → Row
@@ -30,8 +31,11 @@ pub data Row : Type 0 where
   listed : List (ℕ × ℕ) → (tableLength digest : ℕ) → Row
   parts : (length1 length3 digest : ℕ) → Row
   put : List (ℕ × ℕ) → Row
+  told : DateCall → (answer : ℕ) → Row
+  untold : DateCall → (number : ℕ) → Row
+  untoldSized : (tableLength answerLength : ℕ) → DateCall → (number : ℕ) → Row
 
--- ---- names, attributes, bytes as numbers
+-- ---- names, attributes, dates, bytes as numbers
 
 abbrev pub raw : ℕ → List ℕ → List ℕ
 raw n bs = take n (bs ++ replicate n 0x40)
@@ -44,6 +48,14 @@ attrN n k = map (λ i. k * i % 256) (upFrom 1 n)
 
 abbrev pub attr : ℕ → List ℕ
 attr k = attrN 52 k
+
+-- the n bytes of a number
+abbrev pub date : (n number : ℕ) → List ℕ
+date zero k = []
+date (suc n) k = date n (k / 256) ++ (k % 256 ∷ [])
+
+abbrev pub noDate : List ℕ
+noDate = replicate 4 0
 
 abbrev pub fold : (ℕ → ℕ → ℕ) → ℕ → List ℕ → ℕ
 fold f h [] = h
@@ -65,7 +77,7 @@ abbrev pub labelsFor : Call → List ℕ
 labelsFor (allocate q) = []
 labelsFor (extend n) = []
 labelsFor (release n ttr) = []
-labelsFor (scratch n) = []
+labelsFor (scratch n today override) = []
 labelsFor (rename old new) = []
 labelsFor (obtain n) = buffer 280
 labelsFor lspace = []
@@ -82,9 +94,13 @@ abbrev pub accepted : Result → ℕ → ℕ → Bool
 accepted r answer after =
     eqb (r .number) 0 && eqb (length (r .after .answer)) 24 && eqb (number (r .after .answer)) answer && eqb (digest (r .after .table)) after
 
+-- a refusal, which leaves every buffer as it was
+abbrev pub refused : Lent → Result → ℕ → Bool
+refused b r n = eqb (r .number) n && sameLent (r .after) b
+
 abbrev pub started : ℕ → ℕ → Lent → Result → Bool
 started zero after b r = accepted r 0 after
-started (suc n) after b r = eqb (r .number) (suc n) && sameLent (r .after) b
+started (suc n) after b r = refused b r (suc n)
 
 abbrev pub tableAfter : ℕ → List ℕ → Result → List ℕ
 tableAfter zero t r = r .after .table
@@ -93,6 +109,7 @@ tableAfter (suc n) t r = t
 abbrev pub volumeAfter : Volume → Outcome → Volume
 volumeAfter v (refuse n) = v
 volumeAfter v (accept r w) = w
+volumeAfter v (tell r) = v
 
 abbrev pub built : Volume → List Call → Volume
 built v [] = v
@@ -117,7 +134,7 @@ right t (begin c h d s v n after ∷ rows) =
 right t (beginSized c h d s v tl al n ∷ rows) =
     let b : Lent = lent (buffer tl) (buffer al) [] in
     let r : Result = initialise (geometry c h d s v) b in
-    eqb (r .number) n && sameLent (r .after) b && right t rows
+    refused b r n && right t rows
 right t (build c h d s v cs after ∷ rows) =
     let u : List ℕ = encode (built (fresh (geometry c h d s v)) cs) in
     eqb (digest u) after && right u rows
@@ -129,10 +146,12 @@ right t (okLabels c answer after labels ∷ rows) =
     accepted r answer after && eqb (digest (r .after .extra)) labels && right t rows
 right t (no c n ∷ rows) =
     let b : Lent = lent t (buffer 24) (labelsFor c) in
-    let r : Result = perform b c in
-    eqb (r .number) n && sameLent (r .after) b && right t rows
+    refused b (perform b c) n && right t rows
 right t (hurt ps c n ∷ rows) = eqb (perform (lent (damaged ps t) (buffer 24) (labelsFor c)) c .number) n && right t rows
 right t (sized tl al ll c n ∷ rows) = eqb (perform (lent (fill tl t) (buffer al) (buffer ll)) c .number) n && right t rows
 right t (listed ps tl text ∷ rows) = eqb (digest (listing (fill tl (damaged ps t)))) text && right t rows
 right t (parts l1 l3 text ∷ rows) = eqb (digest (partsOf (attrN l1 1) (attrN l3 3))) text && right t rows
 right t (put ps ∷ rows) = right (damaged ps t) rows
+right t (told c answer ∷ rows) = accepted (convertDate c (lent t (buffer 24) [])) answer (digest t) && right t rows
+right t (untold c n ∷ rows) = let b : Lent = lent t (buffer 24) [] in refused b (convertDate c b) n && right t rows
+right t (untoldSized tl al c n ∷ rows) = let b : Lent = lent (fill tl t) (buffer al) [] in refused b (convertDate c b) n && right t rows

@@ -4,7 +4,7 @@ use mathlib.Core.Path.{_≡_, _∙_, refl, sym, ap, ap₂}
 use mathlib.Core.List.{List, [], _∷_, _++_, append-nil}
 use native.Mathlib.Omega.{arith}
 use lib.ListN.{drop, drop-of-length-le, getD, length-set, length, set, length-take, replicate, take, length-replicate, replicate-append-replicate}
-use lib.Seq.{set-append-left, take-length, take-suc}
+use lib.Seq.{set-append-left, take-suc}
 use native.Mathlib.Numerals.{add-one}
 use Rattle.rules.specs.Layout.{whole}
 use Rattle.rules.proofs.Fields.{Lengths, field, startOf}
@@ -149,8 +149,3 @@ built-next {ns} {fs} b k h xs e =
       bytes = ap (λ (x : List ℕ). putAt x (startOf k ns) xs) (b .bytes) ∙ set-field k ns fs (b .long) h xs e;
       long = lengths-set k ns fs xs (b .long) e;
     }
-
--- all of it is copied
-pub copied : (r o : List ℕ) → length o ≡ length r → take (length r) r ++ drop (length r) o ≡ r
-copied r o e =
-    ap₂ (λ (x y : List ℕ). x ++ y) (take-length r) (drop-of-length-le o {i = length r} (omega arith)) ∙ append-nil r

@@ -8,6 +8,7 @@ use Rattle.model.specs.Choice.{choose}
 use Rattle.model.specs.Model.{Extent, Label, Run, Volume, extent, format0s, free, gaps, held, label, run, unused, used, volume}
 use Rattle.model.specs.Tracks.{tracksKept}
 use Rattle.rules.specs.Calls.{givenBack, grant, nothing, release, rule}
+use Rattle.rules.specs.Dates.{expiryFrom, toStored, withExpiry}
 use Rattle.rules.specs.Entries.{goodLengths, initialise, perform}
 use Rattle.rules.specs.Layout.{encode, extentPart, format1, format3, format4, format5, records}
 use Rattle.rules.specs.Reading.{read, readExtents, readGeometry, readLabel, readRecords}
@@ -68,5 +69,5 @@ abbrev pub cylindersHold : Bool
 cylindersHold = stepRight (encode plots) plotSteps
 
 pub cylinders : T cylindersHold
-unfolding held gaps free used unused format0s choose extentPart format4 format5 format1 format3 records encode readGeometry readExtents readLabel readRecords read goodName limits goodLabel valid taken goodLength settle grant tracksKept rule goodLengths perform initialise
+unfolding held gaps free used unused format0s choose extentPart format4 format5 format1 format3 records encode readGeometry readExtents readLabel readRecords read goodName limits goodLabel valid taken goodLength settle grant tracksKept toStored expiryFrom withExpiry rule goodLengths perform initialise
 cylinders = tt

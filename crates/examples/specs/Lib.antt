@@ -4,3 +4,4 @@ pub mod Blunders
 pub mod Options
 pub mod Cylinders
 pub mod Previews
+pub mod Dates

@@ -7,6 +7,7 @@ use lib.Dec.{T}
 use Rattle.model.specs.Choice.{choose}
 use Rattle.model.specs.Model.{Run, format0s, free, gaps, held, run, unused, used}
 use Rattle.rules.specs.Calls.{grant, granted, nothing, rule}
+use Rattle.rules.specs.Dates.{expiryFrom, toStored, withExpiry}
 use Rattle.rules.specs.Entries.{goodLengths, initialise, perform}
 use Rattle.rules.specs.Layout.{encode, extentPart, format1, format3, format4, format5, records}
 use Rattle.rules.specs.Reading.{read, readExtents, readGeometry, readLabel, readRecords}
@@ -58,5 +59,5 @@ abbrev pub optionsHold : Bool
 optionsHold = stepRight (startedA .after .table) optionSteps
 
 pub options : T optionsHold
-unfolding held gaps free used unused format0s choose extentPart format4 format5 format1 format3 records encode readGeometry readExtents readLabel readRecords read goodName limits goodLabel valid taken goodLength settle grant rule goodLengths perform initialise
+unfolding held gaps free used unused format0s choose extentPart format4 format5 format1 format3 records encode readGeometry readExtents readLabel readRecords read goodName limits goodLabel valid taken goodLength settle grant toStored expiryFrom withExpiry rule goodLengths perform initialise
 options = tt

@@ -1,4 +1,4 @@
-// Document 01's refusals by name. include/vtoc.h has the same words (VTOC_E_..), and what a host does with each.
+// The refusals of documents 01 and 02 by name. include/vtoc.h has the same words (VTOC_E_..), and what a host does with each.
 pub const E_GEOMETRY: u32 = 1;
 
 pub const E_LENGTH: u32 = 2;
@@ -22,3 +22,7 @@ pub const E_EXTENTS: u32 = 10;
 pub const E_VTOC_FULL: u32 = 11;
 
 pub const E_TTR: u32 = 12;
+
+pub const E_UNEXPIRED: u32 = 13;
+
+pub const E_DATE: u32 = 14;

@@ -10,7 +10,7 @@ use lib.ListN.{length}
 use Rattle.model.specs.Basics.{mapOption}
 use Rattle.model.specs.Model.{Volume}
 use Rattle.model.proofs.Lists.{by, true-is}
-use Rattle.rules.specs.Calls.{Call, Outcome, accept, onCopy, preview, refuse, rule, unless}
+use Rattle.rules.specs.Calls.{Call, Outcome, accept, onCopy, preview, refuse, rule, tell, unless}
 use Rattle.rules.specs.Contracts.{Performs}
 use Rattle.rules.specs.Demand3.{Deed, Did, Event, Ran, booked, booksAfter, performs, tableAfter, tableThen}
 use Rattle.rules.specs.Entries.{Lent, Result, goodLengths, lent, otherLengths, perform, result, ruled, written}
@@ -28,6 +28,7 @@ use Rattle.rules.proofs.Taken.{taken-is}
 copy-with : (b : Lent) (v : Volume) (o : Outcome) → encode v ≡ b .table → written b (onCopy v o) ≡ withTable (b .table) (written b o)
 copy-with b v (refuse n) e = refl
 copy-with b v (accept r w) e = ap (λ (t : List ℕ). withTable t (written b (accept r w))) e
+copy-with b v (tell r) e = refl
 
 pub as-on-copy : AsOnCopy
 unfolding perform goodLengths rule
@@ -45,10 +46,12 @@ module _ (v : Volume) (b b′ : Lent) (n : ℕ) (nz : n ≡ 0 → ⊥) where
   pub copied : (o : Outcome) → result n b′ ≡ written b o → result n b′ ≡ written b (onCopy v o)
   copied (refuse k) e = e
   copied (accept r w) e = absurd (nz (ap (λ (z : Result). z .number) e))
+  copied (tell r) e = e
 
   pub uncopied : (o : Outcome) → result n b′ ≡ written b (onCopy v o) → result n b′ ≡ written b o
   uncopied (refuse k) e = e
   uncopied (accept r w) e = absurd (nz (ap (λ (z : Result). z .number) e))
+  uncopied (tell r) e = e
 
 -- ---- preview, then call
 
@@ -61,6 +64,7 @@ Alike b d p q =
 written-alike : (v : Volume) (f : Effect) (b d : Lent) (o : Outcome) → Keeps v f o → Alike b d (written b o) (written d o)
 written-alike v f b d (refuse n) k = (refl, λ e. absurd (omega arith), λ n e. (refl, refl))
 written-alike v f b d (accept r w) k = (refl, λ e. refl, λ n e. absurd (omega arith))
+written-alike v f b d (tell r) k = absurd k
 
 -- what comes of a call goes by the table and by the lengths of the other buffers, not by their bytes
 perform-alike : (t : List ℕ) (c : Call) (a x b y : List ℕ) → length b ≡ length a → length y ≡ length x
@@ -103,10 +107,10 @@ each-foretold t a a₂ r r₂ t₂ a′ a₂′ l =
     let told : (c : Call) → Performs (preview c) t a [] r t a′ [] → Performs c t a₂ [] r₂ t₂ a₂′ [] → SameReply a a₂ r r₂ a′ a₂′
     = λ c p q. foretold c t a [] r t a′ [] p a₂ [] r₂ t₂ a₂′ [] q l refl in
     record {
-      allocates = λ name attributes kind start amount secondary option. told _;
+      allocates = λ name attributes kind start amount secondary option expiry. told _;
       extends = λ name. told _;
       releases = λ name ttr. told _;
-      scratches = λ name. told _;
+      scratches = λ name today override. told _;
     }
 
 -- ---- in a list

@@ -1,6 +1,6 @@
 -- No call answers a refusal that document 01 does not give it (specs/Refusals), on any buffers. Assumes nothing.
 use mathlib.Core.Path.{_≡_, refl, subst}
-use mathlib.Core.Bool.{Bool, true, false, _&&_}
+use mathlib.Core.Bool.{Bool, true, false, not, _&&_}
 use mathlib.Core.Option.{Option, none, some}
 use mathlib.Core.List.{List, _∷_, _++_}
 use Prim.Native.Nat.{ℕ, _+_, _-_, _*_}
@@ -8,11 +8,12 @@ use lib.ListN.{length}
 use lib.Dec.{eqb, leb}
 use Rattle.model.specs.Choice.{noOption}
 use Rattle.model.specs.Model.{Geometry, Label, Volume, overs, runsOf, slots, total}
-use Rattle.model.proofs.Lists.{by, clash, true-is}
-use Rattle.rules.specs.Calls.{Call, Outcome, Reply, accept, allocate, allocateAmount, allocateBy, allocatePieces, amountOf, extend, extendPieces, extendSet, given, givenBack, goodTtr, grant, granted, inRange, lspace, newSet, obtain, obtainSet, onCopy, optionFor, preview, refuse, release, releaseSet, removeSet, rename, renameSet, rule, scratch, secondaryOf, settled, shorter, tracksKeptOf, unless}
-use Rattle.rules.specs.Entries.{Lent, goodLengths, initialise, perform, written}
+use Rattle.model.proofs.Lists.{by, by-option, clash, true-is}
+use Rattle.rules.specs.Calls.{Call, DateCall, Outcome, Reply, accept, allocate, allocateAmount, allocateBy, allocatePieces, allocateStored, amountOf, dateToPacked, dateToStored, dated, extend, extendPieces, extendSet, given, givenBack, goodTtr, grant, granted, inRange, lspace, newSet, obtain, obtainSet, onCopy, optionFor, preview, refuse, release, releaseSet, removeSet, rename, renameSet, rule, scratch, scratchOn, scratchSet, tell, secondaryOf, settled, shorter, tracksKeptOf, unless}
+use Rattle.rules.specs.Dates.{toPacked, toStored, unexpired}
+use Rattle.rules.specs.Entries.{Lent, convertDate, dateLength, goodLengths, initialise, perform, written}
 use Rattle.rules.specs.Reading.{read}
-use Rattle.rules.specs.Refusals.{OneOf, ZeroOr, refusals, refusalsOfInitialise}
+use Rattle.rules.specs.Refusals.{OneOf, ZeroOr, refusals, refusalsOfDateCall, refusalsOfInitialise}
 use Rattle.rules.specs.Slots.{added, changed, found, isNew, removed, withExtents}
 use Rattle.rules.specs.Table.{goodName, limits, taken}
 use Rattle.rules.proofs.ScratchFits.{scratch-fits}
@@ -24,6 +25,7 @@ use Rattle.rules.specs.Predicates.{Valid}
 abbrev Within : Call → Outcome → Type 0
 Within c (refuse n) = OneOf (refusals c) n
 Within c (accept r w) = Unit {0}
+Within c (tell r) = ⊥
 
 record Listed (c : Call) (o : Outcome) : Type 0 where
   within : Within c o
@@ -51,6 +53,7 @@ module _ {c : Call} where
 listed-copy : (v : Volume) (c : Call) (o : Outcome) → Listed c o → Listed (preview c) (onCopy v o)
 listed-copy v c (refuse n) h = refused (h .within)
 listed-copy v c (accept r w) h = accepted
+listed-copy v c (tell r) h = absurd (h .within)
 
 -- ---- the rules, step by step as Calls has them: `refl` says that the refusal there is one of the call's
 
@@ -63,14 +66,16 @@ rule-listed : (v : Volume) → Valid v → (c : Call) → Listed c (rule v c)
 unfolding rule
 rule-listed v h (allocate q) =
     listed-unless (goodName (q .name)) _ _ refl
-    (listed-given (amountOf (q .kind) (q .start) (q .amount)) _ (allocateAmount v q) (λ _. refl)
+    (listed-given (dated q) _ (allocateStored v) (λ _. refl)
+    (λ q e.
+    listed-given (amountOf (q .kind) (q .start) (q .amount)) _ (allocateAmount v q) (λ _. refl)
     (λ a e.
     listed-given (optionFor a (q .option)) _ (allocateBy v q a) (λ _. refl)
     (λ o e.
     listed-unless (inRange (v .geometry) (q .secondary) a) _ _ refl
     (listed-unless (isNew v (q .name)) _ _ refl
     (listed-given (grant (v .geometry) (v .labels) o a) _ (allocatePieces v q a) (λ _. refl)
-    (λ es e. listed-settled (granted (overs es)) (added v (newSet q a es)) (λ _. refl)))))))
+    (λ es e. listed-settled (granted (overs es)) (added v (newSet q a es)) (λ _. refl))))))))
 rule-listed v h (extend n) =
     listed-named v (extend n) n (extendSet v n) refl refl
     (λ l e.
@@ -84,9 +89,14 @@ rule-listed v h (release n ttr) =
     (λ l e.
     listed-unless (goodTtr ttr (total (runsOf l))) _ _ refl
     (listed-settled _ (changed v n (shorter (tracksKeptOf (v .geometry) ttr l) ttr l)) (λ _. refl)))
-rule-listed v h (scratch n) =
-    listed-named v (scratch n) n (removeSet v n) refl refl
-    (λ l e. listed-settled (givenBack (total (runsOf l))) (removed v n) (λ full. absurd (scratch-fits v h n l e full)))
+rule-listed v h (scratch n today override) =
+    listed-unless (goodName n) _ _ refl
+    (listed-given (toStored today) _ (scratchOn v n override) (λ _. refl)
+    (λ s e.
+    listed-given (found v n) _ (scratchSet v n s override) (λ _. refl)
+    (λ l e.
+    listed-unless (not (unexpired (l .attributes) s override)) _ _ refl
+    (listed-settled (givenBack (total (runsOf l))) (removed v n) (λ full. absurd (scratch-fits v h n l e full))))))
 rule-listed v h (rename old new) =
     listed-unless (goodName old && goodName new) _ _ refl
     (listed-given (found v old) _ (renameSet v old new) (λ _. refl) (λ l e. listed-unless (isNew v new) _ _ refl accepted))
@@ -101,7 +111,7 @@ begins : (c : Call) → (own : List ℕ) × (refusals c ≡ 2 ∷ 3 ∷ own)
 begins (allocate q) = (_, refl)
 begins (extend n) = (_, refl)
 begins (release n ttr) = (_, refl)
-begins (scratch n) = (_, refl)
+begins (scratch n today override) = (_, refl)
 begins (rename old new) = (_, refl)
 begins (obtain n) = (_, refl)
 begins lspace = (_, refl)
@@ -110,6 +120,7 @@ begins (preview c) = begins c
 written-listed : (c : Call) (b : Lent) (o : Outcome) → Listed c o → ZeroOr (refusals c) (written b o .number)
 written-listed c b (refuse n) h = by (eqb n 0) (λ e. rw e) (λ e. rw e (h .within))
 written-listed c b (accept r w) h = refl
+written-listed c b (tell r) h = refl
 
 -- A CALL ANSWERS 0 OR ONE OF ITS REFUSALS, ON ANY BUFFERS
 pub refusals-listed : (b : Lent) (c : Call) → ZeroOr (refusals c) (perform b c .number)
@@ -131,6 +142,18 @@ initialise-listed g b =
     (λ l. by (eqb (length (b .table)) (slots g * 140) && eqb (length (b .answer)) 24) (λ u. rw (l, u)) (λ u. rw (l, u)))
     (λ l. rw l)
 
+pub dates-listed : (c : DateCall) (b : Lent) → ZeroOr refusalsOfDateCall (convertDate c b .number)
+unfolding convertDate
+dates-listed (dateToStored p) b =
+    by (eqb (length (b .answer)) 24 && dateLength p)
+    (λ u. by-option (toStored p) (λ e. rw (u, e)) (λ s e. rw (u, e)))
+    (λ u. rw u)
+dates-listed (dateToPacked s) b =
+    by (eqb (length (b .answer)) 24 && eqb (length s) 3)
+    (λ u. by-option (toPacked s) (λ e. rw (u, e)) (λ p e. rw (u, e)))
+    (λ u. rw u)
+
 -- so a scratch is never refused for a full VTOC
-pub scratch-answers : (b : Lent) (n : List ℕ) → perform b (scratch n) .number ≡ 11 → ⊥
-scratch-answers b n e = clash (subst (ZeroOr (refusals (scratch n))) e (refusals-listed b (scratch n))) refl
+pub scratch-answers : (b : Lent) (n today : List ℕ) (override : ℕ) → perform b (scratch n today override) .number ≡ 11 → ⊥
+scratch-answers b n today override e =
+    clash (subst (ZeroOr (refusals (scratch n today override))) e (refusals-listed b (scratch n today override))) refl

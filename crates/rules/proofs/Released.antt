@@ -14,7 +14,7 @@ use Rattle.model.specs.Tracks.{tracksOf}
 use Rattle.model.proofs.Cylinders.{KeptCount}
 use Rattle.model.proofs.Lists.{All-map, All-both, is-true, same-refl}
 use Rattle.model.specs.Predicates.{All}
-use Rattle.rules.specs.Calls.{Outcome, Reply, accept, cutType, given, givenBack, goodTtr, refuse, release, releaseTracks, releaseSet, rule, shorter, tracksKeptOf, unless}
+use Rattle.rules.specs.Calls.{Outcome, Reply, accept, cutType, given, givenBack, goodTtr, refuse, release, releaseTracks, releaseSet, rule, shorter, tell, tracksKeptOf, unless}
 use Rattle.rules.specs.Predicates.{GoodExtent, Unlike, Valid}
 use Rattle.rules.specs.Slots.{changed, found, without}
 use Rattle.rules.specs.Table.{goodName, named, unitIn}
@@ -28,6 +28,7 @@ use Rattle.rules.proofs.Placed.{Put}
 abbrev pub After : (Reply → Volume → Type 0) → Outcome → Type 0
 After P (refuse n) = Unit {0}
 After P (accept r w) = P r w
+After P (tell r) = ⊥
 
 after-unless : (P : Reply → Volume → Type 0) (b : Bool) (n : ℕ) (o : Outcome) → (T b → After P o) → After P (unless b n o)
 after-unless P true n o k = k tt

@@ -36,12 +36,13 @@ Foretells =
 
 -- of the four, by the contracts of their entry points
 pub record FourForetold (t a a₂ : List ℕ) (r r₂ : ℕ) (t₂ a′ a₂′ : List ℕ) : Type 0 where
-  pub allocates : (name attributes : List ℕ) (kind start amount secondary option : ℕ)
-      → PreviewsAllocate t name attributes kind start amount secondary option a r a′
-      → Allocates t name attributes kind start amount secondary option a₂ r₂ t₂ a₂′ → SameReply a a₂ r r₂ a′ a₂′
+  pub allocates : (name attributes : List ℕ) (kind start amount secondary option : ℕ) (expiry : List ℕ)
+      → PreviewsAllocate t name attributes kind start amount secondary option expiry a r a′
+      → Allocates t name attributes kind start amount secondary option expiry a₂ r₂ t₂ a₂′ → SameReply a a₂ r r₂ a′ a₂′
   pub extends : (name : List ℕ) → PreviewsExtend t name a r a′ → Extends t name a₂ r₂ t₂ a₂′ → SameReply a a₂ r r₂ a′ a₂′
   pub releases : (name : List ℕ) (ttr : ℕ) → PreviewsRelease t name ttr a r a′ → Releases t name ttr a₂ r₂ t₂ a₂′ → SameReply a a₂ r r₂ a′ a₂′
-  pub scratches : (name : List ℕ) → PreviewsScratch t name a r a′ → Scratches t name a₂ r₂ t₂ a₂′ → SameReply a a₂ r r₂ a′ a₂′
+  pub scratches : (name today : List ℕ) (override : ℕ)
+      → PreviewsScratch t name today override a r a′ → Scratches t name today override a₂ r₂ t₂ a₂′ → SameReply a a₂ r r₂ a′ a₂′
 
 abbrev pub EachForetold : Type 0
 EachForetold =

@@ -1,4 +1,4 @@
-use Rattle.dscb_write.proofs.Putting.{copied}
+use Rattle.model.proofs.Lists.{copied}
 use Rattle.answers.proofs.Laws.{back-is}
 use lib.ListN.{length}
 use mathlib.Core.Path.{_≡_, sym, _∙_}

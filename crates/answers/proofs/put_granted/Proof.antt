@@ -1,4 +1,4 @@
-use Rattle.dscb_write.proofs.Putting.{copied}
+use Rattle.model.proofs.Lists.{copied}
 use Rattle.answers.proofs.Laws.{pieces-all, pieces-next, pieces-none, piecesTo}
 use lib.ListN.{length}
 use native.Mathlib.Omega.{arith}

@@ -1,4 +1,4 @@
-use Rattle.dscb_write.proofs.Putting.{copied}
+use Rattle.model.proofs.Lists.{copied}
 use Rattle.model.specs.Basics.{zeros}
 use mathlib.Core.Path.{_∙_}
 use borrow.Author.Needs.{needs}

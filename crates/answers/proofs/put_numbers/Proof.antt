@@ -1,4 +1,4 @@
-use Rattle.dscb_write.proofs.Putting.{copied}
+use Rattle.model.proofs.Lists.{copied}
 use Rattle.answers.proofs.Laws.{numbers-all, numbers-next, numbers-none, numbersTo}
 use Rattle.model.proofs.Lists.{All-at}
 use lib.ListN.{length}

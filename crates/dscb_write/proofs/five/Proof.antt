@@ -4,7 +4,7 @@ use native.Mathlib.Omega.{arith}
 use lib.ListN.{length}
 use Rattle.dscb.specs.Forms.{geometryOf}
 use Rattle.bitmap.specs.Steps.{RestOfWord}
-use Rattle.dscb_write.proofs.Putting.{copied}
+use Rattle.model.proofs.Lists.{copied}
 use Rattle.dscb_write.proofs.Format5.{Filling, filling-ends, filling-full, filling-long, filling-next, filling-none}
 use borrow.Author.Needs.{needs}
 use Rattle.dscb_write.proofs.five.Statement.{statement}
