@@ -1,7 +1,7 @@
 //! Recordings: the scripted sequences, and lives of volumes from a seed, with hostile calls and
 //! damaged tables.
 
-use crate::call::{Call, Reference, NO_OPTION};
+use crate::call::{Call, Reference, NO_DATE, NO_OPTION, TODAY};
 use crate::cases::stories;
 use crate::coverage::Coverage;
 use crate::desk::Row;
@@ -9,6 +9,7 @@ use crate::generate::rng::Rng;
 use crate::generate::session::{Origin, Session};
 use crate::generate::shapes::Shape;
 use crate::replay::{puts, record, Player, Record, RECORD};
+use crate::short::{scratch, to_packed, to_stored};
 
 /// The most records that may put a damage in, or take it out again.
 const MOST_PUTS: usize = 3;
@@ -138,13 +139,16 @@ impl Recording {
             amount: 1,
             secondary: 0,
             option: NO_OPTION,
+            expiry: NO_DATE.to_vec(),
         };
         for (at, bytes) in [
             (0, vec![0]),
-            (0, vec![10]),
+            (0, vec![12]),
             (0, vec![0x81]),
             (0, vec![0x86]),
             (0, vec![0x89]),
+            (0, vec![0x8A]),
+            (0, vec![0x8B]),
             (0, vec![255]),
             (1, vec![47]),
             (1, vec![255]),
@@ -161,6 +165,12 @@ impl Recording {
                 record[at..at + bytes.len()].copy_from_slice(&bytes);
                 self.enter(&record);
             }
+        }
+        let dated = [to_stored(&TODAY), to_packed(&TODAY), scratch("A"), allocate];
+        for (call, length) in dated.iter().flat_map(|call| [8, 255].map(|length| (call, length))) {
+            let mut record = record(call, 1120, 24, 280).expect("right lengths fit");
+            record[128] = length;
+            self.enter(&record);
         }
         let mut put = [0x77; RECORD];
         put[0] = 9;

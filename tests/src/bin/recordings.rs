@@ -10,7 +10,7 @@ use std::path::{Path, PathBuf};
 use std::process::{Command, ExitCode, Stdio};
 use std::thread;
 
-use vtoc_tests::call::{Call, Reference, NO_OPTION};
+use vtoc_tests::call::{Call, Reference, NO_DATE, NO_OPTION};
 use vtoc_tests::recording::{recording, Recording};
 use vtoc_tests::replay::{record, Player, LINE, RECORD};
 use vtoc_tests::volumes::{cut_cylinders, name, ATTRIBUTES};
@@ -63,6 +63,7 @@ fn space_calls(table_len: usize, tracks: u32) -> Vec<u8> {
         amount,
         secondary: 0,
         option: NO_OPTION,
+        expiry: NO_DATE.to_vec(),
     };
     let calls = [Call::Lspace, allocate("CYL", 1, 1), allocate("TRK", 0, tracks)];
     calls.map(|call| record(&call, table_len, 24, 0).expect("right lengths fit")).concat()
@@ -243,7 +244,7 @@ fn compare(program: &str) -> Result<(), String> {
             leaves(program, &made, &place)?;
         }
         // A record cut short at the end is left out.
-        made.records.extend(vec![8; 37 * seed as usize % 128]);
+        made.records.extend(vec![8; 37 * seed as usize % RECORD]);
         records += made.calls();
         if printed(program, &[], &made.records)? != made.lines {
             return Err(format!("recording {seed}: the lines differ"));
