@@ -188,7 +188,8 @@ impl Recording {
         let [c, h, d, s, v] = geometry;
         self.table_len = (d * v) as usize * 140;
         self.plain(Call::Initialise { c, h, d, s, v });
-        let mut session = Session::on(rng.word(), self.table(), shape).with_previews();
+        let session = Session::on(rng.word(), self.table(), shape);
+        let mut session = session.with_previews().with_dates();
         for _ in 0..calls {
             let trial = session.next_trial();
             let lent = &trial.buffers;

@@ -17,7 +17,7 @@ use vtoc_tests::volumes::{cut_cylinders, name, ATTRIBUTES};
 
 /// The stored recording, and the most bytes that it may take with its lines.
 const SEED: u64 = 1;
-const CALLS: usize = 60;
+const CALLS: usize = 46;
 const MOST: usize = 300_000;
 
 fn stored() -> Result<Recording, String> {
@@ -150,7 +150,7 @@ fn left(player: &Player<Reference>, records: &[u8]) -> Vec<u8> {
 fn cut_short(program: &str) -> Result<(), String> {
     // LSPACE, by its operation alone: it has a line, of the result 2.
     let two = [8; 2 * RECORD];
-    for length in [0, 1, 64, RECORD - 2, RECORD - 1, RECORD, RECORD + 1, 2 * RECORD - 1] {
+    for length in [0, 1, 64, 128, RECORD - 2, RECORD - 1, RECORD, RECORD + 1, 2 * RECORD - 1] {
         let lines = printed(program, &[], &two[..length])?.len() / LINE;
         must(lines == length / RECORD, &format!("{lines} lines for {length} bytes"))?;
     }
