@@ -9,7 +9,7 @@
 
 #include "vtoc.h"
 
-static uint8_t table[VTOC_MOST_TABLE_LENGTH], record[128], answer[VTOC_ANSWER_LENGTH], labels[VTOC_LABELS_LENGTH];
+static uint8_t table[VTOC_MOST_TABLE_LENGTH], record[136], answer[VTOC_ANSWER_LENGTH], labels[VTOC_LABELS_LENGTH];
 
 static size_t read_file(const char *path, uint8_t *bytes, size_t most)
 {
@@ -32,7 +32,7 @@ static uint32_t number(unsigned i)
 
 int main(int count, char **arguments)
 {
-    const uint8_t *name = record + 28, *second = record + 74;
+    const uint8_t *name = record + 28, *second = record + 74, *date = record + 129;
     uint32_t result = 99;
     size_t length;
     if (count != 3)
@@ -45,7 +45,7 @@ int main(int count, char **arguments)
         break;
     case 2:
         result = vtoc_allocate(table, length, name, record[1], second, record[2], number(0), number(1), number(2), number(3),
-                               number(4), answer, sizeof answer);
+                               number(4), date, record[128], answer, sizeof answer);
         break;
     case 3:
         result = vtoc_extend(table, length, name, record[1], answer, sizeof answer);
@@ -54,7 +54,7 @@ int main(int count, char **arguments)
         result = vtoc_release(table, length, name, record[1], number(0), answer, sizeof answer);
         break;
     case 5:
-        result = vtoc_scratch(table, length, name, record[1], answer, sizeof answer);
+        result = vtoc_scratch(table, length, name, record[1], date, record[128], number(0), answer, sizeof answer);
         break;
     case 6:
         result = vtoc_rename(table, length, name, record[1], second, record[2], answer, sizeof answer);
@@ -65,9 +65,15 @@ int main(int count, char **arguments)
     case 8:
         result = vtoc_lspace(table, length, answer, sizeof answer);
         break;
+    case 10:
+        result = vtoc_date_to_stored(date, record[128], answer, sizeof answer);
+        break;
+    case 11:
+        result = vtoc_date_to_packed(date, record[128], answer, sizeof answer);
+        break;
     case 0x82:
         result = vtoc_preview_allocate(table, length, name, record[1], second, record[2], number(0), number(1), number(2),
-                                       number(3), number(4), answer, sizeof answer);
+                                       number(3), number(4), date, record[128], answer, sizeof answer);
         break;
     case 0x83:
         result = vtoc_preview_extend(table, length, name, record[1], answer, sizeof answer);
@@ -76,7 +82,7 @@ int main(int count, char **arguments)
         result = vtoc_preview_release(table, length, name, record[1], number(0), answer, sizeof answer);
         break;
     case 0x85:
-        result = vtoc_preview_scratch(table, length, name, record[1], answer, sizeof answer);
+        result = vtoc_preview_scratch(table, length, name, record[1], date, record[128], number(0), answer, sizeof answer);
         break;
     }
     printf("%lu\n", (unsigned long)result);

@@ -90,13 +90,14 @@ impl Room {
     }
 }
 
-/// Rooms for the five buffers that a call may be lent.
+/// Rooms for the six buffers that a call may be lent.
 pub struct Rooms {
     table: Room,
     answer: Room,
     labels: Room,
     name: Room,
     second: Room,
+    date: Room,
 }
 
 impl Rooms {
@@ -109,6 +110,7 @@ impl Rooms {
             labels: small(),
             name: small(),
             second: small(),
+            date: small(),
         }
     }
 }
@@ -129,28 +131,32 @@ pub fn both(
     let expected = expect(call, &mut after);
 
     let at_end = |bit: u32| sides >> bit & 1 == 1;
-    let [first, second] = read_only(call);
+    let [first, second, date] = read_only(call);
     rooms.table.lend(&buffers.table, at_end(0));
     rooms.answer.lend(&buffers.answer, at_end(1));
     rooms.labels.lend(&buffers.labels, at_end(2));
     rooms.name.lend(first, at_end(3));
     rooms.second.lend(second, at_end(4));
+    rooms.date.lend(date, at_end(5));
     let result = {
         let (table, answer, labels) =
             (rooms.table.part(), rooms.answer.part(), rooms.labels.part());
-        let (name, other) = (rooms.name.part(), rooms.second.part());
+        let (name, other, date) = (rooms.name.part(), rooms.second.part(), rooms.date.part());
         match *call {
             Call::Initialise { c, h, d, s, v } => manager.initialise(table, c, h, d, s, v, answer),
-            Call::Allocate { kind, start, amount, secondary, option, .. } => {
-                manager.allocate(table, name, other, kind, start, amount, secondary, option, answer)
-            }
+            Call::Allocate { kind, start, amount, secondary, option, .. } => manager
+                .allocate(table, name, other, kind, start, amount, secondary, option, date, answer),
             Call::Extend { .. } => manager.extend(table, name, answer),
             Call::Release { ttr, .. } => manager.release(table, name, ttr, answer),
-            Call::Scratch { .. } => manager.scratch(table, name, answer),
+            Call::Scratch { overriding, .. } => {
+                manager.scratch(table, name, date, overriding, answer)
+            }
             Call::Rename { .. } => manager.rename(table, name, other, answer),
             Call::Obtain { .. } => manager.obtain(table, name, labels, answer),
             Call::Lspace => manager.lspace(table, answer),
-            Call::Preview(ref call) => preview(manager, call, [table, name, other], answer),
+            Call::Preview(ref call) => preview(manager, call, [table, name, other, date], answer),
+            Call::DateToStored { .. } => manager.date_to_stored(date, answer),
+            Call::DateToPacked { .. } => manager.date_to_packed(date, answer),
         }
     };
     // The other side may have written anything: nothing of it is known.
@@ -163,6 +169,7 @@ pub fn both(
     rooms.labels.compare("labels", &after.labels)?;
     rooms.name.compare("name", first)?;
     rooms.second.compare("second name or attributes", second)?;
+    rooms.date.compare("date", date)?;
     if expected != 0 && after != *buffers {
         return Err(format!("refused with {expected}, but both have written"));
     }
@@ -181,30 +188,36 @@ fn expect(call: &Call, buffers: &mut Buffers) -> u32 {
     result
 }
 
-/// The preview of a call, with the table, the name and the attributes that are lent.
+/// The preview of a call, with the table, the name, the attributes and the date that are lent.
 fn preview(
-    manager: &impl Manager, call: &Call, [table, name, other]: [&[u8]; 3], answer: &mut [u8],
+    manager: &impl Manager, call: &Call, [table, name, other, date]: [&[u8]; 4], answer: &mut [u8],
 ) -> u32 {
     match *call {
-        Call::Allocate { kind, start, amount, secondary, option, .. } => manager
-            .preview_allocate(table, name, other, kind, start, amount, secondary, option, answer),
+        Call::Allocate { kind, start, amount, secondary, option, .. } => manager.preview_allocate(
+            table, name, other, kind, start, amount, secondary, option, date, answer,
+        ),
         Call::Extend { .. } => manager.preview_extend(table, name, answer),
         Call::Release { ttr, .. } => manager.preview_release(table, name, ttr, answer),
-        Call::Scratch { .. } => manager.preview_scratch(table, name, answer),
+        Call::Scratch { overriding, .. } => {
+            manager.preview_scratch(table, name, date, overriding, answer)
+        }
         _ => unreachable!("no preview of {call:?}"),
     }
 }
 
-/// The buffers that a call only reads, the table aside.
-fn read_only(call: &Call) -> [&[u8]; 2] {
+/// The buffers that a call only reads, the table aside: names or attributes, and a date.
+fn read_only(call: &Call) -> [&[u8]; 3] {
     match call {
-        Call::Allocate { name, attributes, .. } => [name, attributes],
-        Call::Extend { name }
-        | Call::Release { name, .. }
-        | Call::Scratch { name }
-        | Call::Obtain { name } => [name, &[]],
-        Call::Rename { old, new } => [old, new],
-        Call::Initialise { .. } | Call::Lspace => [&[], &[]],
+        Call::Allocate { name, attributes, expiry, .. } => [name, attributes, expiry],
+        Call::Scratch { name, today, .. } => [name, &[], today],
+        Call::Extend { name } | Call::Release { name, .. } | Call::Obtain { name } => {
+            [name, &[], &[]]
+        }
+        Call::Rename { old, new } => [old, new, &[]],
+        Call::Initialise { .. } | Call::Lspace => [&[], &[], &[]],
         Call::Preview(call) => read_only(call),
+        Call::DateToStored { packed: date } | Call::DateToPacked { stored: date } => {
+            [&[], &[], date]
+        }
     }
 }

@@ -20,6 +20,7 @@ pub enum Call {
         amount: u32,
         secondary: u32,
         option: u32,
+        expiry: Vec<u8>,
     },
     Extend {
         name: Vec<u8>,
@@ -30,6 +31,8 @@ pub enum Call {
     },
     Scratch {
         name: Vec<u8>,
+        today: Vec<u8>,
+        overriding: u32,
     },
     Rename {
         old: Vec<u8>,
@@ -41,6 +44,13 @@ pub enum Call {
     Lspace,
     /// The preview of an allocate, extend, release or scratch; there is none of another call.
     Preview(Box<Call>),
+    /// The conversions of dates have no table.
+    DateToStored {
+        packed: Vec<u8>,
+    },
+    DateToPacked {
+        stored: Vec<u8>,
+    },
 }
 
 /// Document 02's numbers of the space options.
@@ -49,7 +59,11 @@ pub const CONTIG: u32 = 1;
 pub const MXIG: u32 = 2;
 pub const ALX: u32 = 3;
 
-pub const CALL_NAMES: [&str; 12] = [
+/// No expiry date; and the date of a scratch where any will do: day 365 of 1980.
+pub const NO_DATE: [u8; 4] = [0; 4];
+pub const TODAY: [u8; 4] = [0x00, 0x80, 0x36, 0x5F];
+
+pub const CALL_NAMES: [&str; 14] = [
     "initialise",
     "allocate",
     "extend",
@@ -62,9 +76,11 @@ pub const CALL_NAMES: [&str; 12] = [
     "preview_extend",
     "preview_release",
     "preview_scratch",
+    "date_to_stored",
+    "date_to_packed",
 ];
 
-/// Anything that answers the twelve calls: the reference, or the library it is compared with.
+/// Anything that answers the fourteen calls: the reference, or the library it is compared with.
 pub trait Manager {
     #[allow(clippy::too_many_arguments)]
     fn initialise(
@@ -73,22 +89,28 @@ pub trait Manager {
     #[allow(clippy::too_many_arguments)]
     fn allocate(
         &self, table: &mut [u8], name: &[u8], attributes: &[u8], kind: u32, start: u32,
-        amount: u32, secondary: u32, option: u32, answer: &mut [u8],
+        amount: u32, secondary: u32, option: u32, expiry: &[u8], answer: &mut [u8],
     ) -> u32;
     fn extend(&self, table: &mut [u8], name: &[u8], answer: &mut [u8]) -> u32;
     fn release(&self, table: &mut [u8], name: &[u8], ttr: u32, answer: &mut [u8]) -> u32;
-    fn scratch(&self, table: &mut [u8], name: &[u8], answer: &mut [u8]) -> u32;
+    fn scratch(
+        &self, table: &mut [u8], name: &[u8], today: &[u8], overriding: u32, answer: &mut [u8],
+    ) -> u32;
     fn rename(&self, table: &mut [u8], old: &[u8], new: &[u8], answer: &mut [u8]) -> u32;
     fn obtain(&self, table: &[u8], name: &[u8], labels: &mut [u8], answer: &mut [u8]) -> u32;
     fn lspace(&self, table: &[u8], answer: &mut [u8]) -> u32;
     #[allow(clippy::too_many_arguments)]
     fn preview_allocate(
         &self, table: &[u8], name: &[u8], attributes: &[u8], kind: u32, start: u32, amount: u32,
-        secondary: u32, option: u32, answer: &mut [u8],
+        secondary: u32, option: u32, expiry: &[u8], answer: &mut [u8],
     ) -> u32;
     fn preview_extend(&self, table: &[u8], name: &[u8], answer: &mut [u8]) -> u32;
     fn preview_release(&self, table: &[u8], name: &[u8], ttr: u32, answer: &mut [u8]) -> u32;
-    fn preview_scratch(&self, table: &[u8], name: &[u8], answer: &mut [u8]) -> u32;
+    fn preview_scratch(
+        &self, table: &[u8], name: &[u8], today: &[u8], overriding: u32, answer: &mut [u8],
+    ) -> u32;
+    fn date_to_stored(&self, packed: &[u8], answer: &mut [u8]) -> u32;
+    fn date_to_packed(&self, stored: &[u8], answer: &mut [u8]) -> u32;
 }
 
 /// The reference as a manager.
@@ -102,9 +124,11 @@ impl Manager for Reference {
     }
     fn allocate(
         &self, table: &mut [u8], name: &[u8], attributes: &[u8], kind: u32, start: u32,
-        amount: u32, secondary: u32, option: u32, answer: &mut [u8],
+        amount: u32, secondary: u32, option: u32, expiry: &[u8], answer: &mut [u8],
     ) -> u32 {
-        reference::allocate(table, name, attributes, kind, start, amount, secondary, option, answer)
+        reference::allocate(
+            table, name, attributes, kind, start, amount, secondary, option, expiry, answer,
+        )
     }
     fn extend(&self, table: &mut [u8], name: &[u8], answer: &mut [u8]) -> u32 {
         reference::extend(table, name, answer)
@@ -112,8 +136,10 @@ impl Manager for Reference {
     fn release(&self, table: &mut [u8], name: &[u8], ttr: u32, answer: &mut [u8]) -> u32 {
         reference::release(table, name, ttr, answer)
     }
-    fn scratch(&self, table: &mut [u8], name: &[u8], answer: &mut [u8]) -> u32 {
-        reference::scratch(table, name, answer)
+    fn scratch(
+        &self, table: &mut [u8], name: &[u8], today: &[u8], overriding: u32, answer: &mut [u8],
+    ) -> u32 {
+        reference::scratch(table, name, today, overriding, answer)
     }
     fn rename(&self, table: &mut [u8], old: &[u8], new: &[u8], answer: &mut [u8]) -> u32 {
         reference::rename(table, old, new, answer)
@@ -126,10 +152,10 @@ impl Manager for Reference {
     }
     fn preview_allocate(
         &self, table: &[u8], name: &[u8], attributes: &[u8], kind: u32, start: u32, amount: u32,
-        secondary: u32, option: u32, answer: &mut [u8],
+        secondary: u32, option: u32, expiry: &[u8], answer: &mut [u8],
     ) -> u32 {
         reference::preview_allocate(
-            table, name, attributes, kind, start, amount, secondary, option, answer,
+            table, name, attributes, kind, start, amount, secondary, option, expiry, answer,
         )
     }
     fn preview_extend(&self, table: &[u8], name: &[u8], answer: &mut [u8]) -> u32 {
@@ -138,8 +164,16 @@ impl Manager for Reference {
     fn preview_release(&self, table: &[u8], name: &[u8], ttr: u32, answer: &mut [u8]) -> u32 {
         reference::preview_release(table, name, ttr, answer)
     }
-    fn preview_scratch(&self, table: &[u8], name: &[u8], answer: &mut [u8]) -> u32 {
-        reference::preview_scratch(table, name, answer)
+    fn preview_scratch(
+        &self, table: &[u8], name: &[u8], today: &[u8], overriding: u32, answer: &mut [u8],
+    ) -> u32 {
+        reference::preview_scratch(table, name, today, overriding, answer)
+    }
+    fn date_to_stored(&self, packed: &[u8], answer: &mut [u8]) -> u32 {
+        reference::date_to_stored(packed, answer)
+    }
+    fn date_to_packed(&self, stored: &[u8], answer: &mut [u8]) -> u32 {
+        reference::date_to_packed(stored, answer)
     }
 }
 
@@ -180,15 +214,21 @@ impl Call {
                 amount,
                 secondary,
                 option,
-            } => manager
-                .allocate(table, name, attributes, kind, start, amount, secondary, option, answer),
+                ref expiry,
+            } => manager.allocate(
+                table, name, attributes, kind, start, amount, secondary, option, expiry, answer,
+            ),
             Call::Extend { name } => manager.extend(table, name, answer),
             Call::Release { name, ttr } => manager.release(table, name, *ttr, answer),
-            Call::Scratch { name } => manager.scratch(table, name, answer),
+            Call::Scratch { name, today, overriding } => {
+                manager.scratch(table, name, today, *overriding, answer)
+            }
             Call::Rename { old, new } => manager.rename(table, old, new, answer),
             Call::Obtain { name } => manager.obtain(table, name, labels, answer),
             Call::Lspace => manager.lspace(table, answer),
             Call::Preview(call) => call.preview_on(manager, table, answer),
+            Call::DateToStored { packed } => manager.date_to_stored(packed, answer),
+            Call::DateToPacked { stored } => manager.date_to_packed(stored, answer),
         }
     }
 
@@ -203,12 +243,15 @@ impl Call {
                 amount,
                 secondary,
                 option,
+                ref expiry,
             } => manager.preview_allocate(
-                table, name, attributes, kind, start, amount, secondary, option, answer,
+                table, name, attributes, kind, start, amount, secondary, option, expiry, answer,
             ),
             Call::Extend { name } => manager.preview_extend(table, name, answer),
             Call::Release { name, ttr } => manager.preview_release(table, name, *ttr, answer),
-            Call::Scratch { name } => manager.preview_scratch(table, name, answer),
+            Call::Scratch { name, today, overriding } => {
+                manager.preview_scratch(table, name, today, *overriding, answer)
+            }
             _ => unreachable!("no preview of {self:?}"),
         }
     }
@@ -236,6 +279,8 @@ impl Call {
             Call::Obtain { .. } => 6,
             Call::Lspace => 7,
             Call::Preview(call) => FIRST_PREVIEW + call.index() - 1,
+            Call::DateToStored { .. } => 12,
+            Call::DateToPacked { .. } => 13,
         }
     }
 }
@@ -244,7 +289,7 @@ impl Call {
 const FIRST_PREVIEW: usize = 8;
 
 /// The refusals each call can give, in the order it checks them (0: accepted).
-pub const RESULTS: [&[u32]; 12] = [
+pub const RESULTS: [&[u32]; 14] = [
     &[0, 1, 2],
     ALLOCATE,
     EXTEND,
@@ -257,8 +302,10 @@ pub const RESULTS: [&[u32]; 12] = [
     EXTEND,
     RELEASE,
     SCRATCH,
+    &[0, 2, 14],
+    &[0, 2, 14],
 ];
-const ALLOCATE: &[u32] = &[0, 2, 3, 4, 7, 6, 9, 11];
+const ALLOCATE: &[u32] = &[0, 2, 3, 4, 14, 7, 6, 9, 11];
 const EXTEND: &[u32] = &[0, 2, 3, 4, 5, 8, 9, 10, 11];
 const RELEASE: &[u32] = &[0, 2, 3, 4, 5, 12, 11];
-const SCRATCH: &[u32] = &[0, 2, 3, 4, 5];
+const SCRATCH: &[u32] = &[0, 2, 3, 4, 14, 5, 13];

@@ -1,9 +1,10 @@
 //! A table with the calls in short form, for tests and scripted cases. Each call is kept as
 //! a row, and each is watched: a refused one must not write a byte.
 
-use crate::call::{Buffers, Call, Reference, NO_OPTION};
+use crate::call::{Buffers, Call, Reference, NO_DATE, NO_OPTION};
 use crate::reference::layout::extent_part;
 use crate::reference::{listing, taken};
+use crate::short;
 use crate::volumes::name;
 
 /// What came of a call.
@@ -164,8 +165,17 @@ impl Desk {
         &mut self, option: u32, text: &str, kind: u32, start: u32, amount: u32, secondary: u32,
     ) -> Outcome {
         let k = (self.rows.len() % 251) as u8;
-        let (name, attributes) = (name(text).to_vec(), attributes(k));
-        self.call(Call::Allocate { name, attributes, kind, start, amount, secondary, option })
+        let (name, attributes, expiry) = (name(text).to_vec(), attributes(k), NO_DATE.to_vec());
+        self.call(Call::Allocate {
+            name,
+            attributes,
+            kind,
+            start,
+            amount,
+            secondary,
+            option,
+            expiry,
+        })
     }
 
     #[track_caller]
@@ -220,7 +230,7 @@ impl Desk {
 
     #[track_caller]
     pub fn scratch(&mut self, text: &str) -> Outcome {
-        self.call(Call::Scratch { name: name(text).to_vec() })
+        self.call(short::scratch(text))
     }
 
     #[track_caller]
@@ -281,6 +291,14 @@ impl Outcome {
         self.accepted();
         assert_eq!(self.word(0), tracks);
         assert!(self.answer[2..].iter().all(|&b| b == 0));
+    }
+
+    /// Accepted with this date first in the answer, zeros after.
+    #[track_caller]
+    pub fn converted(&self, date: &[u8]) {
+        self.accepted();
+        let (first, rest) = self.answer.split_at(date.len());
+        assert_eq!((first, rest), (date, &[0; 24][date.len()..]));
     }
 
     /// Accepted with an answer of zeros.

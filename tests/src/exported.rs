@@ -1,4 +1,4 @@
-//! The reference with the library's twelve C functions: a stand-in to try hosts and tests with
+//! The reference with the library's fourteen C functions: a stand-in to try hosts and tests with
 //! before the library is built, or beside it. `tests/stand_in DIR` makes an archive of it.
 
 use crate::reference;
@@ -40,11 +40,14 @@ pub unsafe extern "C" fn vtoc_initialise(
 pub unsafe extern "C" fn vtoc_allocate(
     table: *mut u8, table_len: usize, name: *const u8, name_len: usize, attributes: *const u8,
     attributes_len: usize, kind: u32, start: u32, amount: u32, secondary: u32, option: u32,
-    answer: *mut u8, answer_len: usize,
+    expiry: *const u8, expiry_len: usize, answer: *mut u8, answer_len: usize,
 ) -> u32 {
     let (table, answer) = (lent_mut(table, table_len), lent_mut(answer, answer_len));
     let (name, attributes) = (lent(name, name_len), lent(attributes, attributes_len));
-    reference::allocate(table, name, attributes, kind, start, amount, secondary, option, answer)
+    let expiry = lent(expiry, expiry_len);
+    reference::allocate(
+        table, name, attributes, kind, start, amount, secondary, option, expiry, answer,
+    )
 }
 
 /// # Safety
@@ -73,11 +76,12 @@ pub unsafe extern "C" fn vtoc_release(
 /// See `vtoc_initialise`.
 #[no_mangle]
 pub unsafe extern "C" fn vtoc_scratch(
-    table: *mut u8, table_len: usize, name: *const u8, name_len: usize, answer: *mut u8,
-    answer_len: usize,
+    table: *mut u8, table_len: usize, name: *const u8, name_len: usize, today: *const u8,
+    today_len: usize, overriding: u32, answer: *mut u8, answer_len: usize,
 ) -> u32 {
     let (table, answer) = (lent_mut(table, table_len), lent_mut(answer, answer_len));
-    reference::scratch(table, lent(name, name_len), answer)
+    let (name, today) = (lent(name, name_len), lent(today, today_len));
+    reference::scratch(table, name, today, overriding, answer)
 }
 
 /// # Safety
@@ -117,12 +121,13 @@ pub unsafe extern "C" fn vtoc_lspace(
 pub unsafe extern "C" fn vtoc_preview_allocate(
     table: *const u8, table_len: usize, name: *const u8, name_len: usize, attributes: *const u8,
     attributes_len: usize, kind: u32, start: u32, amount: u32, secondary: u32, option: u32,
-    answer: *mut u8, answer_len: usize,
+    expiry: *const u8, expiry_len: usize, answer: *mut u8, answer_len: usize,
 ) -> u32 {
     let (table, answer) = (lent(table, table_len), lent_mut(answer, answer_len));
     let (name, attributes) = (lent(name, name_len), lent(attributes, attributes_len));
+    let expiry = lent(expiry, expiry_len);
     reference::preview_allocate(
-        table, name, attributes, kind, start, amount, secondary, option, answer,
+        table, name, attributes, kind, start, amount, secondary, option, expiry, answer,
     )
 }
 
@@ -152,9 +157,28 @@ pub unsafe extern "C" fn vtoc_preview_release(
 /// See `vtoc_initialise`.
 #[no_mangle]
 pub unsafe extern "C" fn vtoc_preview_scratch(
-    table: *const u8, table_len: usize, name: *const u8, name_len: usize, answer: *mut u8,
-    answer_len: usize,
+    table: *const u8, table_len: usize, name: *const u8, name_len: usize, today: *const u8,
+    today_len: usize, overriding: u32, answer: *mut u8, answer_len: usize,
 ) -> u32 {
     let (table, answer) = (lent(table, table_len), lent_mut(answer, answer_len));
-    reference::preview_scratch(table, lent(name, name_len), answer)
+    let (name, today) = (lent(name, name_len), lent(today, today_len));
+    reference::preview_scratch(table, name, today, overriding, answer)
+}
+
+/// # Safety
+/// See `vtoc_initialise`.
+#[no_mangle]
+pub unsafe extern "C" fn vtoc_date_to_stored(
+    packed: *const u8, packed_len: usize, answer: *mut u8, answer_len: usize,
+) -> u32 {
+    reference::date_to_stored(lent(packed, packed_len), lent_mut(answer, answer_len))
+}
+
+/// # Safety
+/// See `vtoc_initialise`.
+#[no_mangle]
+pub unsafe extern "C" fn vtoc_date_to_packed(
+    stored: *const u8, stored_len: usize, answer: *mut u8, answer_len: usize,
+) -> u32 {
+    reference::date_to_packed(lent(stored, stored_len), lent_mut(answer, answer_len))
 }

@@ -3,12 +3,13 @@
 
 use std::collections::HashSet;
 
+use crate::call::{NO_DATE, NO_OPTION};
 use crate::generate::glance::glance;
 use crate::generate::rng::Rng;
 use crate::generate::shuffle::shuffled;
 use crate::naming;
-use crate::reference::{allocate, extend, release, scratch, taken};
-use crate::volumes::{fresh, open_slots, ANSWER, ATTRIBUTES};
+use crate::reference::{allocate, extend, release, taken};
+use crate::volumes::{fresh, open_slots, scratch, ANSWER, ATTRIBUTES};
 
 type Name = [u8; 44];
 
@@ -173,8 +174,9 @@ impl Pack {
     fn allocate(&mut self, name: &Name, kind: u32, start: u32, amount: u32) -> u32 {
         let secondary = if kind == 2 { 0 } else { amount };
         let attributes = ATTRIBUTES.map(|byte| byte ^ name[0]);
-        let (table, answer) = (&mut self.table, &mut [0; ANSWER]);
-        allocate(table, name, &attributes, kind, start, amount, secondary, 0, answer)
+        let (table, option, expiry, answer) =
+            (&mut self.table, NO_OPTION, &NO_DATE, &mut [0; ANSWER]);
+        allocate(table, name, &attributes, kind, start, amount, secondary, option, expiry, answer)
     }
 
     /// `count` sets of up to `most` tracks, each at a random place in its share of the volume; none
@@ -194,7 +196,7 @@ impl Pack {
     }
 
     fn scratch(&mut self, name: &Name) {
-        scratch(&mut self.table, name, &mut [0; ANSWER]);
+        scratch(&mut self.table, name);
     }
 
     /// Sets that grow in turns, and between their extents those of neighbours that do not stay.

@@ -87,7 +87,7 @@ impl Ledger {
                 let entry = self.sets.entry(name.clone()).or_default();
                 entry.keep_first((ttr >> 8) as usize + 1, self.heads);
             }
-            Call::Scratch { name } => {
+            Call::Scratch { name, .. } => {
                 self.given_back += word(0);
                 self.sets.remove(name);
             }
@@ -96,6 +96,7 @@ impl Ledger {
                 self.sets.insert(new.clone(), entry);
             }
             Call::Obtain { .. } | Call::Lspace | Call::Preview(_) => {}
+            Call::DateToStored { .. } | Call::DateToPacked { .. } => {}
         }
     }
 

@@ -10,7 +10,7 @@ extern "C" {
     fn vtoc_allocate(
         table: *mut u8, table_len: usize, name: *const u8, name_len: usize, attributes: *const u8,
         attributes_len: usize, kind: u32, start: u32, amount: u32, secondary: u32, option: u32,
-        answer: *mut u8, answer_len: usize,
+        expiry: *const u8, expiry_len: usize, answer: *mut u8, answer_len: usize,
     ) -> u32;
     fn vtoc_extend(
         table: *mut u8, table_len: usize, name: *const u8, name_len: usize, answer: *mut u8,
@@ -21,8 +21,8 @@ extern "C" {
         answer: *mut u8, answer_len: usize,
     ) -> u32;
     fn vtoc_scratch(
-        table: *mut u8, table_len: usize, name: *const u8, name_len: usize, answer: *mut u8,
-        answer_len: usize,
+        table: *mut u8, table_len: usize, name: *const u8, name_len: usize, today: *const u8,
+        today_len: usize, overriding: u32, answer: *mut u8, answer_len: usize,
     ) -> u32;
     fn vtoc_rename(
         table: *mut u8, table_len: usize, old: *const u8, old_len: usize, new: *const u8,
@@ -36,7 +36,8 @@ extern "C" {
     fn vtoc_preview_allocate(
         table: *const u8, table_len: usize, name: *const u8, name_len: usize,
         attributes: *const u8, attributes_len: usize, kind: u32, start: u32, amount: u32,
-        secondary: u32, option: u32, answer: *mut u8, answer_len: usize,
+        secondary: u32, option: u32, expiry: *const u8, expiry_len: usize, answer: *mut u8,
+        answer_len: usize,
     ) -> u32;
     fn vtoc_preview_extend(
         table: *const u8, table_len: usize, name: *const u8, name_len: usize, answer: *mut u8,
@@ -47,8 +48,14 @@ extern "C" {
         answer: *mut u8, answer_len: usize,
     ) -> u32;
     fn vtoc_preview_scratch(
-        table: *const u8, table_len: usize, name: *const u8, name_len: usize, answer: *mut u8,
-        answer_len: usize,
+        table: *const u8, table_len: usize, name: *const u8, name_len: usize, today: *const u8,
+        today_len: usize, overriding: u32, answer: *mut u8, answer_len: usize,
+    ) -> u32;
+    fn vtoc_date_to_stored(
+        packed: *const u8, packed_len: usize, answer: *mut u8, answer_len: usize,
+    ) -> u32;
+    fn vtoc_date_to_packed(
+        stored: *const u8, stored_len: usize, answer: *mut u8, answer_len: usize,
     ) -> u32;
 }
 
@@ -81,7 +88,7 @@ impl Manager for Library {
     }
     fn allocate(
         &self, table: &mut [u8], name: &[u8], attributes: &[u8], kind: u32, start: u32,
-        amount: u32, secondary: u32, option: u32, answer: &mut [u8],
+        amount: u32, secondary: u32, option: u32, expiry: &[u8], answer: &mut [u8],
     ) -> u32 {
         let (t, a) = (table.len(), answer.len());
         unsafe {
@@ -97,6 +104,8 @@ impl Manager for Library {
                 amount,
                 secondary,
                 option,
+                read(expiry),
+                expiry.len(),
                 write(answer),
                 a,
             )
@@ -110,9 +119,12 @@ impl Manager for Library {
         let (t, a) = (table.len(), answer.len());
         unsafe { vtoc_release(write(table), t, read(name), name.len(), ttr, write(answer), a) }
     }
-    fn scratch(&self, table: &mut [u8], name: &[u8], answer: &mut [u8]) -> u32 {
-        let (t, a) = (table.len(), answer.len());
-        unsafe { vtoc_scratch(write(table), t, read(name), name.len(), write(answer), a) }
+    fn scratch(
+        &self, table: &mut [u8], name: &[u8], today: &[u8], overriding: u32, answer: &mut [u8],
+    ) -> u32 {
+        let (t, n, d, a) = (table.len(), name.len(), today.len(), answer.len());
+        let (table, answer) = (write(table), write(answer));
+        unsafe { vtoc_scratch(table, t, read(name), n, read(today), d, overriding, answer, a) }
     }
     fn rename(&self, table: &mut [u8], old: &[u8], new: &[u8], answer: &mut [u8]) -> u32 {
         let (t, a) = (table.len(), answer.len());
@@ -150,7 +162,7 @@ impl Manager for Library {
     }
     fn preview_allocate(
         &self, table: &[u8], name: &[u8], attributes: &[u8], kind: u32, start: u32, amount: u32,
-        secondary: u32, option: u32, answer: &mut [u8],
+        secondary: u32, option: u32, expiry: &[u8], answer: &mut [u8],
     ) -> u32 {
         let a = answer.len();
         unsafe {
@@ -166,6 +178,8 @@ impl Manager for Library {
                 amount,
                 secondary,
                 option,
+                read(expiry),
+                expiry.len(),
                 write(answer),
                 a,
             )
@@ -179,8 +193,19 @@ impl Manager for Library {
         let (t, n, a) = (table.len(), name.len(), answer.len());
         unsafe { vtoc_preview_release(read(table), t, read(name), n, ttr, write(answer), a) }
     }
-    fn preview_scratch(&self, table: &[u8], name: &[u8], answer: &mut [u8]) -> u32 {
-        let (t, n, a) = (table.len(), name.len(), answer.len());
-        unsafe { vtoc_preview_scratch(read(table), t, read(name), n, write(answer), a) }
+    fn preview_scratch(
+        &self, table: &[u8], name: &[u8], today: &[u8], overriding: u32, answer: &mut [u8],
+    ) -> u32 {
+        let (t, n, d, a) = (table.len(), name.len(), today.len(), answer.len());
+        let (table, name, today) = (read(table), read(name), read(today));
+        unsafe { vtoc_preview_scratch(table, t, name, n, today, d, overriding, write(answer), a) }
+    }
+    fn date_to_stored(&self, packed: &[u8], answer: &mut [u8]) -> u32 {
+        let a = answer.len();
+        unsafe { vtoc_date_to_stored(read(packed), packed.len(), write(answer), a) }
+    }
+    fn date_to_packed(&self, stored: &[u8], answer: &mut [u8]) -> u32 {
+        let a = answer.len();
+        unsafe { vtoc_date_to_packed(read(stored), stored.len(), write(answer), a) }
     }
 }

@@ -1,7 +1,7 @@
 //! Recordings: the scripted sequences, and lives of volumes from a seed, with hostile calls and
 //! damaged tables.
 
-use crate::call::{Call, Reference, NO_OPTION};
+use crate::call::{Call, Reference, NO_DATE, NO_OPTION, TODAY};
 use crate::cases::stories;
 use crate::coverage::Coverage;
 use crate::desk::Row;
@@ -9,6 +9,7 @@ use crate::generate::rng::Rng;
 use crate::generate::session::{Origin, Session};
 use crate::generate::shapes::Shape;
 use crate::replay::{puts, record, Player, Record, RECORD};
+use crate::short::{scratch, to_packed, to_stored};
 
 /// The most records that may put a damage in, or take it out again.
 const MOST_PUTS: usize = 3;
@@ -138,13 +139,16 @@ impl Recording {
             amount: 1,
             secondary: 0,
             option: NO_OPTION,
+            expiry: NO_DATE.to_vec(),
         };
         for (at, bytes) in [
             (0, vec![0]),
-            (0, vec![10]),
+            (0, vec![12]),
             (0, vec![0x81]),
             (0, vec![0x86]),
             (0, vec![0x89]),
+            (0, vec![0x8A]),
+            (0, vec![0x8B]),
             (0, vec![255]),
             (1, vec![47]),
             (1, vec![255]),
@@ -162,6 +166,12 @@ impl Recording {
                 self.enter(&record);
             }
         }
+        let dated = [to_stored(&TODAY), to_packed(&TODAY), scratch("A"), allocate];
+        for (call, length) in dated.iter().flat_map(|call| [8, 255].map(|length| (call, length))) {
+            let mut record = record(call, 1120, 24, 280).expect("right lengths fit");
+            record[128] = length;
+            self.enter(&record);
+        }
         let mut put = [0x77; RECORD];
         put[0] = 9;
         for (at, length) in [(65_500_u32, 100), (65_535, 1), (65_536, 1), (u32::MAX, 100), (0, 255)]
@@ -178,7 +188,8 @@ impl Recording {
         let [c, h, d, s, v] = geometry;
         self.table_len = (d * v) as usize * 140;
         self.plain(Call::Initialise { c, h, d, s, v });
-        let mut session = Session::on(rng.word(), self.table(), shape).with_previews();
+        let session = Session::on(rng.word(), self.table(), shape);
+        let mut session = session.with_previews().with_dates();
         for _ in 0..calls {
             let trial = session.next_trial();
             let lent = &trial.buffers;

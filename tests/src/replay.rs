@@ -1,36 +1,41 @@
-//! Recorded calls, as docs/REPLAY.md lays them down: 128 bytes in, a line of 73 bytes out.
+//! Recorded calls, as docs/REPLAY.md lays them down: 136 bytes in, a line of 73 bytes out.
 
 use crate::call::{Call, Manager};
 
-pub const RECORD: usize = 128;
+pub const RECORD: usize = 136;
 pub const LINE: usize = 73;
 
 /// The most bytes of each buffer that a record can lend.
 pub const TABLE: usize = 65_536;
 pub const NAME: usize = 46;
 pub const SECOND: usize = 54;
+pub const DATE: usize = 7;
 pub const ANSWER: usize = 32;
 pub const LABELS: usize = 288;
 /// The most bytes that one record puts into the table.
 pub const PUT: usize = 100;
 
-/// The operation that is no call, what a preview's is above that of its call, and the result of one
-/// that there is not.
+/// The operation that is no call, those of the date conversions, what a preview's is above that of its
+/// call, and the result of one that there is not.
 const PUTTING: u8 = 9;
+const TO_STORED: u8 = 10;
+const TO_PACKED: u8 = 11;
 const PREVIEW: u8 = 128;
 const UNKNOWN: u32 = 99;
 
 const NUMBERS_AT: usize = 8;
 const NAME_AT: usize = 28;
 const SECOND_AT: usize = NAME_AT + NAME;
+/// The length of the date stands before it.
+const DATE_AT: usize = SECOND_AT + SECOND + 1;
 
 pub type Record = [u8; RECORD];
 
 /// The record of a call with these lengths of the lent buffers; nothing where one does not fit.
 pub fn record(call: &Call, table: usize, answer: usize, labels: usize) -> Option<Record> {
-    let (numbers, name, second) = arguments(call);
-    let most = [NAME, SECOND, ANSWER, LABELS, 65_535];
-    let lengths = [name.len(), second.len(), answer, labels, table];
+    let (numbers, [name, second, date]) = arguments(call);
+    let most = [NAME, SECOND, DATE, ANSWER, LABELS, 65_535];
+    let lengths = [name.len(), second.len(), date.len(), answer, labels, table];
     if lengths.iter().zip(most).any(|(&length, most)| length > most) {
         return None;
     }
@@ -46,30 +51,38 @@ pub fn record(call: &Call, table: usize, answer: usize, labels: usize) -> Option
     }
     record[NAME_AT..][..name.len()].copy_from_slice(name);
     record[SECOND_AT..][..second.len()].copy_from_slice(second);
+    record[DATE_AT - 1] = date.len() as u8;
+    record[DATE_AT..][..date.len()].copy_from_slice(date);
     Some(record)
 }
 
 fn operation(call: &Call) -> u8 {
     match call {
         Call::Preview(call) => PREVIEW + operation(call),
+        Call::DateToStored { .. } => TO_STORED,
+        Call::DateToPacked { .. } => TO_PACKED,
         _ => call.index() as u8 + 1,
     }
 }
 
-/// The numbers, the name and the second name or the attributes of a call.
-fn arguments(call: &Call) -> ([u32; 5], &[u8], &[u8]) {
+/// The numbers of a call; its name, its second name or attributes, and its date.
+fn arguments(call: &Call) -> ([u32; 5], [&[u8]; 3]) {
     match call {
-        &Call::Initialise { c, h, d, s, v } => ([c, h, d, s, v], &[], &[]),
-        Call::Allocate { name, attributes, kind, start, amount, secondary, option } => {
-            ([*kind, *start, *amount, *secondary, *option], name, attributes)
+        &Call::Initialise { c, h, d, s, v } => ([c, h, d, s, v], [&[]; 3]),
+        Call::Allocate { name, attributes, kind, start, amount, secondary, option, expiry } => {
+            ([*kind, *start, *amount, *secondary, *option], [name, attributes, expiry])
         }
-        Call::Release { name, ttr } => ([*ttr, 0, 0, 0, 0], name, &[]),
-        Call::Extend { name } | Call::Scratch { name } | Call::Obtain { name } => {
-            ([0; 5], name, &[])
+        Call::Release { name, ttr } => ([*ttr, 0, 0, 0, 0], [name, &[], &[]]),
+        Call::Scratch { name, today, overriding } => {
+            ([*overriding, 0, 0, 0, 0], [name, &[], today])
         }
-        Call::Rename { old, new } => ([0; 5], old, new),
-        Call::Lspace => ([0; 5], &[], &[]),
+        Call::Extend { name } | Call::Obtain { name } => ([0; 5], [name, &[], &[]]),
+        Call::Rename { old, new } => ([0; 5], [old, new, &[]]),
+        Call::Lspace => ([0; 5], [&[]; 3]),
         Call::Preview(call) => arguments(call),
+        Call::DateToStored { packed: date } | Call::DateToPacked { stored: date } => {
+            ([0; 5], [&[], &[], date])
+        }
     }
 }
 
@@ -119,20 +132,25 @@ impl<'a, M: Manager> Player<'a, M> {
         let table = &mut self.table[..table_len];
         let name = &record[NAME_AT..][..length(1, NAME)];
         let second = &record[SECOND_AT..][..length(2, SECOND)];
+        let date = &record[DATE_AT..][..length(DATE_AT - 1, DATE)];
         let [a, b, c, d, e] = [0, 1, 2, 3, 4].map(number);
         let result = match record[0] {
             1 => self.manager.initialise(table, a, b, c, d, e, lent_answer),
-            2 => self.manager.allocate(table, name, second, a, b, c, d, e, lent_answer),
+            2 => self.manager.allocate(table, name, second, a, b, c, d, e, date, lent_answer),
             3 => self.manager.extend(table, name, lent_answer),
             4 => self.manager.release(table, name, a, lent_answer),
-            5 => self.manager.scratch(table, name, lent_answer),
+            5 => self.manager.scratch(table, name, date, a, lent_answer),
             6 => self.manager.rename(table, name, second, lent_answer),
             7 => self.manager.obtain(table, name, &mut labels[..labels_len], lent_answer),
             8 => self.manager.lspace(table, lent_answer),
-            0x82 => self.manager.preview_allocate(table, name, second, a, b, c, d, e, lent_answer),
+            0x82 => {
+                self.manager.preview_allocate(table, name, second, a, b, c, d, e, date, lent_answer)
+            }
             0x83 => self.manager.preview_extend(table, name, lent_answer),
             0x84 => self.manager.preview_release(table, name, a, lent_answer),
-            0x85 => self.manager.preview_scratch(table, name, lent_answer),
+            0x85 => self.manager.preview_scratch(table, name, date, a, lent_answer),
+            TO_STORED => self.manager.date_to_stored(date, lent_answer),
+            TO_PACKED => self.manager.date_to_packed(date, lent_answer),
             PUTTING => {
                 let bytes = &record[NAME_AT..][..length(1, PUT)];
                 for (i, &byte) in bytes.iter().enumerate() {

@@ -1,8 +1,9 @@
 //! Volumes of known make-up for benchmarks and tests, built by calls of the reference.
 
+use crate::call::{NO_DATE, NO_OPTION, TODAY};
 use crate::generate::rng::Rng;
 use crate::naming;
-use crate::reference::{allocate, extend, initialise, release, scratch};
+use crate::reference::{self, allocate, extend, initialise, release};
 
 pub const ANSWER: usize = 24;
 pub const ATTRIBUTES: [u8; 52] = [0x11; 52];
@@ -49,9 +50,16 @@ pub fn place(table: &mut [u8], text: &str, kind: u32, start: u32, amount: u32, s
 pub fn place_name(
     table: &mut [u8], name: &[u8; 44], kind: u32, start: u32, amount: u32, secondary: u32,
 ) {
-    let mut answer = [0; ANSWER];
-    let result = allocate(table, name, &ATTRIBUTES, kind, start, amount, secondary, 0, &mut answer);
+    let answer = &mut [0; ANSWER];
+    let (attributes, option, expiry) = (&ATTRIBUTES, NO_OPTION, &NO_DATE);
+    let result =
+        allocate(table, name, attributes, kind, start, amount, secondary, option, expiry, answer);
     assert_eq!(result, 0, "allocate {name:02X?}");
+}
+
+/// Scratches a set that has no expiry date; 0 or the refusal.
+pub fn scratch(table: &mut [u8], name: &[u8]) -> u32 {
+    reference::scratch(table, name, &TODAY, 0, &mut [0; ANSWER])
 }
 
 /// The name of a numbered set, as long as production names are.
@@ -89,7 +97,7 @@ pub fn small() -> Vec<u8> {
     place(&mut table, "FLT.A", 0, 0, 4, 0);
     place(&mut table, "FLT.B", 1, 0, 1, 0);
     place(&mut table, "FLT.C", 0, 0, 7, 0);
-    assert_eq!(scratch(&mut table, &name("FLT.B"), &mut [0; ANSWER]), 0);
+    assert_eq!(scratch(&mut table, &name("FLT.B")), 0);
     assert_eq!(release(&mut table, &name("FLT.C"), 0x000401, &mut [0; ANSWER]), 0);
     table
 }
@@ -123,7 +131,7 @@ pub fn many_extents() -> Vec<u8> {
             assert_eq!(extend(&mut table, &name(&text), &mut [0; ANSWER]), 0, "extend {text}");
         }
         for i in 0..round {
-            assert_eq!(scratch(&mut table, &name(&leaver(i)), &mut [0; ANSWER]), 0);
+            assert_eq!(scratch(&mut table, &name(&leaver(i))), 0);
         }
         sets += round;
     }

@@ -9,8 +9,8 @@ use vtoc_tests::generate::session::Session;
 /// Calls of a few lives until a difference is found, if one is.
 fn difference(manager: &impl Manager, sides: u64) -> Option<(Call, String)> {
     let mut rooms = Rooms::new();
-    for seed in 1..6 {
-        let mut session = Session::new(seed).with_previews();
+    for seed in 1..10 {
+        let mut session = Session::new(seed).with_previews().with_dates();
         for _ in 0..300 {
             let trial = session.next_trial();
             match both(manager, &trial.call, &trial.buffers, &mut rooms, sides) {
@@ -24,7 +24,7 @@ fn difference(manager: &impl Manager, sides: u64) -> Option<(Call, String)> {
 
 #[test]
 fn the_reference_is_like_itself() {
-    for sides in [0b00000, 0b11111, 0b01010] {
+    for sides in [0b000000, 0b111111, 0b101010] {
         assert_eq!(difference(&Reference, sides), None);
     }
 }
@@ -55,6 +55,18 @@ fn every_fault_is_noticed() {
             | Fault::PreviewCutsCylinders
             | Fault::PreviewRefusalAnswers => "answer: byte",
             Fault::PreviewMakesTheCall | Fault::PreviewRefusalWrites => "table: byte",
+            Fault::DateByte => "date: byte",
+            Fault::DateAndMore => "answer: byte",
+            Fault::ExpiryNotStored | Fault::AttributeBytesKept => "table: byte",
+            Fault::LeapYear1900
+            | Fault::SignC
+            | Fault::NoneIsToday
+            | Fault::OverrideOfABadDate
+            | Fault::DateAfterLookup => "not 14",
+            Fault::OnlyOneOverrides | Fault::EqualIsLater => "result 13, not 0",
+            Fault::OnlyDatesAreLater => "result 0, not 13",
+            Fault::DaysByTheLowByte | Fault::DayBeforeYear => "13",
+            Fault::PreviewForgetsDates => "not 1",
         };
         assert!(text.contains(expected), "{fault:?} {call:?}: {text}");
     }

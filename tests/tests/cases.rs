@@ -1,8 +1,9 @@
 //! The computed cases: complete, the same each time, and printed as agreed.
 
-use vtoc_tests::call::Call;
+use vtoc_tests::call::{Call, NO_DATE, TODAY};
 use vtoc_tests::cases::{coverage, print, sequences, size};
 use vtoc_tests::desk::Desk;
+use vtoc_tests::short::{expiring, scratch_on, to_packed, to_stored, tracks};
 use vtoc_tests::volumes::name;
 
 #[test]
@@ -20,9 +21,9 @@ fn digests() {
 fn all_is_covered() {
     let sequences = sequences();
     assert_eq!(coverage(&sequences).missing(&[]), [""; 0]);
-    assert!((20..=40).contains(&sequences.len()));
+    assert_eq!(sequences.len(), 42);
     let rows: usize = sequences.iter().map(|sequence| sequence.desk.rows.len()).sum();
-    assert!((300..=900).contains(&rows), "{rows} rows");
+    assert!((300..=1000).contains(&rows), "{rows} rows");
     let small = sequences.iter().filter(|s| size(s).0 <= 60 && size(s).1 <= 16).count();
     assert!(small + 3 >= sequences.len(), "more than three sequences on large volumes");
 }
@@ -58,16 +59,22 @@ fn rows_as_agreed() {
     desk.preview(&Call::Extend { name: name("A").to_vec() }).refused(5);
     desk.hurt(&damaged, release.preview().expect("there is one"));
     desk.sized(1119, 24, 280, release.preview().expect("there is one"));
+    desk.call(to_stored(&[0, 0, 0, 0x1F])).converted(&[0, 0, 1]);
+    desk.call(to_stored(&NO_DATE)).refused(14);
+    desk.call(to_packed(&[])).refused(2);
+    desk.call(to_packed(&[0xFF; 3])).refused(14);
+    desk.call(expiring(tracks("A", 1, 0), &[1, 2, 3, 4, 5])).refused(2);
+    desk.call(scratch_on("A", &TODAY, u32::MAX)).refused(5);
     let text = print::sequence("sequence9", "Title", &desk);
     let lines: Vec<&str> = text.lines().collect();
     assert_eq!(lines[..4], ["", "-- Title", "abbrev pub sequence9 : List Row", "sequence9 ="]);
     assert_eq!(lines[4], "    begin 0 5 4 1 2 1 0x0");
     assert!(lines[5].starts_with("    ∷ begin 4 5 4 1 2 0 0x"));
     let granted = "0x401000300040000000000000000000000000000000000";
-    let ok = "    ∷ ok (allocate (request (nm (0xC1 ∷ 0xC2 ∷ [])) (attr 2) 0 0 4 1 0))";
+    let ok = "    ∷ ok (allocate (request (nm (0xC1 ∷ 0xC2 ∷ [])) (attr 2) 0 0 4 1 0 noDate))";
     assert!(lines[6].starts_with(&format!("{ok} {granted} 0x")), "{}", lines[6]);
     assert!(lines[7].contains("(release (nm (0xC1 ∷ 0xC2 ∷ [])) 0x102)"));
-    assert_eq!(lines[8], "    ∷ no (scratch (nm [])) 4");
+    assert_eq!(lines[8], "    ∷ no (scratch (nm []) (date 4 0x0080365F) 0) 4");
     assert!(lines[9].starts_with("    ∷ ok lspace 0x"));
     let patches = "((0 , 0x00) ∷ (280 , 0x41) ∷ [])";
     let obtain = "(obtain (nm (0xC1 ∷ 0xC2 ∷ [])))";
@@ -85,5 +92,17 @@ fn rows_as_agreed() {
     assert_eq!(lines[17], "    ∷ no (preview (extend (nm (0xC1 ∷ [])))) 5");
     assert_eq!(lines[18], format!("    ∷ hurt {patches} {preview} 3"));
     assert_eq!(lines[19], format!("    ∷ sized 1119 24 280 {preview} 2"));
-    assert_eq!(lines[20], "    ∷ []");
+    let zeros = "0".repeat(42);
+    assert_eq!(
+        lines[20],
+        format!("    ∷ ok (dateToStored (date 4 0x0000001F)) 0x1{zeros} {after:#X}")
+    );
+    assert_eq!(lines[21], "    ∷ no (dateToStored noDate) 14");
+    assert_eq!(lines[22], "    ∷ no (dateToPacked (date 0 0x0)) 2");
+    assert_eq!(lines[23], "    ∷ no (dateToPacked (date 3 0xFFFFFF)) 14");
+    let request = "(request (nm (0xC1 ∷ [])) (attr 7) 0 0 1 0 0 (date 5 0x0102030405))";
+    assert_eq!(lines[24], format!("    ∷ no (allocate {request}) 2"));
+    let today = "(date 4 0x0080365F) 4294967295";
+    assert_eq!(lines[25], format!("    ∷ no (scratch (nm (0xC1 ∷ [])) {today}) 5"));
+    assert_eq!(lines[26], "    ∷ []");
 }

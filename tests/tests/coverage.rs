@@ -2,8 +2,8 @@
 
 use vtoc_tests::call::{CALL_NAMES, RESULTS};
 use vtoc_tests::coverage::{
-    Coverage, EACH, FEATURES, FULL_VOLUMES, OPTIONS, PREVIEWS, RELEASES, VOLUMES, WHOLE, WIDE,
-    WIDE_PREVIEWS,
+    Coverage, DATES, EACH, FEATURES, FULL_VOLUMES, OPTIONS, PREVIEWS, RELEASES, VOLUMES, WHOLE,
+    WIDE, WIDE_PREVIEWS,
 };
 
 /// Just enough of everything.
@@ -14,31 +14,34 @@ fn enough() -> Coverage {
             coverage.results.insert((call, result), EACH);
         }
     }
-    let features =
-        FEATURES.into_iter().chain(OPTIONS).chain(RELEASES).chain(PREVIEWS).chain(VOLUMES);
-    for feature in features.chain(WIDE).chain(WIDE_PREVIEWS).chain(FULL_VOLUMES) {
+    let features = FEATURES.into_iter().chain(OPTIONS).chain(RELEASES).chain(PREVIEWS);
+    for feature in
+        features.chain(DATES).chain(VOLUMES).chain(WIDE).chain(WIDE_PREVIEWS).chain(FULL_VOLUMES)
+    {
         coverage.features.insert(feature, 1);
     }
     coverage
 }
 
-/// Accepted, and document 01's refusals of each call, which its preview has too: `RESULTS` is what a
-/// run is held to.
+/// Accepted, and the refusals of each call, which its preview has too: `RESULTS` is what a run is held
+/// to.
 #[test]
 fn every_result_is_due() {
-    let expected: [(&str, &[u32]); 12] = [
+    let expected: [(&str, &[u32]); 14] = [
         ("initialise", &[0, 1, 2]),
-        ("allocate", &[0, 2, 3, 4, 6, 7, 9, 11]),
+        ("allocate", &[0, 2, 3, 4, 6, 7, 9, 11, 14]),
         ("extend", &[0, 2, 3, 4, 5, 8, 9, 10, 11]),
         ("release", &[0, 2, 3, 4, 5, 11, 12]),
-        ("scratch", &[0, 2, 3, 4, 5]),
+        ("scratch", &[0, 2, 3, 4, 5, 13, 14]),
         ("rename", &[0, 2, 3, 4, 5, 6]),
         ("obtain", &[0, 2, 3, 4, 5]),
         ("lspace", &[0, 2, 3]),
-        ("preview_allocate", &[0, 2, 3, 4, 6, 7, 9, 11]),
+        ("preview_allocate", &[0, 2, 3, 4, 6, 7, 9, 11, 14]),
         ("preview_extend", &[0, 2, 3, 4, 5, 8, 9, 10, 11]),
         ("preview_release", &[0, 2, 3, 4, 5, 11, 12]),
-        ("preview_scratch", &[0, 2, 3, 4, 5]),
+        ("preview_scratch", &[0, 2, 3, 4, 5, 13, 14]),
+        ("date_to_stored", &[0, 2, 14]),
+        ("date_to_packed", &[0, 2, 14]),
     ];
     for (call, expected) in expected.into_iter().enumerate() {
         let mut due = RESULTS[call].to_vec();
@@ -58,7 +61,8 @@ fn enough_is_enough() {
 #[test]
 fn nothing_seen_names_everything() {
     let due = RESULTS.iter().map(|results| results.len()).sum::<usize>();
-    let features = FEATURES.len() + OPTIONS.len() + RELEASES.len() + PREVIEWS.len() + VOLUMES.len();
+    let of_calls = FEATURES.len() + OPTIONS.len() + RELEASES.len() + PREVIEWS.len();
+    let features = of_calls + DATES.len() + VOLUMES.len();
     let besides = WIDE.len() + WIDE_PREVIEWS.len() + FULL_VOLUMES.len();
     assert_eq!(Coverage::default().too_few(WHOLE).len(), due + features + besides);
     assert_eq!(Coverage::default().missing(&[]).len(), due + features);

@@ -3,9 +3,10 @@
 
 use vtoc_tests::audit::{picture, table_with, Extent, Picture, Set};
 use vtoc_tests::call::{Buffers, Call, Reference, NO_OPTION};
-use vtoc_tests::desk::{attributes, Desk};
+use vtoc_tests::desk::Desk;
 use vtoc_tests::faulty::{Fault, Faulty};
 use vtoc_tests::ledger::Ledger;
+use vtoc_tests::short::{allocation, scratch};
 use vtoc_tests::volumes::name;
 
 const TRACKS: u8 = 0x80;
@@ -197,8 +198,7 @@ impl Books {
     }
 
     fn allocate(&mut self, text: &str, kind: u32, start: u32, amount: u32, secondary: u32) {
-        let (name, attributes, option) = (name(text).to_vec(), attributes(1), NO_OPTION);
-        self.enter(Call::Allocate { name, attributes, kind, start, amount, secondary, option });
+        self.enter(allocation(text, kind, start, amount, secondary, NO_OPTION));
     }
 
     /// Makes a call, which is accepted, and enters it; the table must say the same.
@@ -230,7 +230,7 @@ fn the_ledger_keeps_the_same_tracks() {
     assert_eq!([books.release("T", 1), books.release("C", 11), books.release("S", 1)], [6, 0, 2]);
     books.enter(Call::Rename { old: name("C").to_vec(), new: name("D").to_vec() });
     assert_eq!(books.release("D", 2), 10);
-    books.enter(Call::Scratch { name: name("D").to_vec() });
+    books.enter(scratch("D"));
     books.initialise(3);
     books.allocate("C", 1, 0, 3, 0);
     assert_eq!(books.release("C", 3), 3);

@@ -1,6 +1,6 @@
 //! Random and hostile calls over many volumes: what must hold whatever the calls are.
 
-use vtoc_tests::audit::picture;
+use vtoc_tests::audit::{dates, picture};
 use vtoc_tests::call::{Call, Reference};
 use vtoc_tests::coverage::Coverage;
 use vtoc_tests::generate::damage::{damage, DAMAGES};
@@ -27,11 +27,17 @@ fn run(mut session: Session, calls: usize, coverage: &mut Coverage) {
         let before = &trial.buffers.table;
         let (after, answer) = (&buffers.table, &buffers.answer);
         coverage.count(&trial.call, trial.origin, result, before, after, answer);
+        judge_dates(&trial.call, result, before, answer, after);
         if result != 0 {
             assert_eq!(buffers, trial.buffers, "{result} {:?}", trial.call);
-            let initialising = matches!(trial.call, Call::Initialise { .. });
             assert_eq!(taken(before), picture(before).is_some());
-            assert!(initialising || result <= 2 || taken(before) == (result != 3));
+            let any_table = converts(&trial.call) || matches!(trial.call, Call::Initialise { .. });
+            assert!(any_table || result <= 2 || taken(before) == (result != 3));
+            continue;
+        }
+        if converts(&trial.call) {
+            // On any table, which stays.
+            assert_eq!((after, &buffers.labels), (before, &trial.buffers.labels));
             continue;
         }
         let seen = picture(&buffers.table).expect("an accepted call leaves a sound table");
@@ -48,16 +54,57 @@ fn run(mut session: Session, calls: usize, coverage: &mut Coverage) {
     }
 }
 
+/// Whether it is the conversion of a date, which looks at no table.
+fn converts(call: &Call) -> bool {
+    matches!(call, Call::DateToStored { .. } | Call::DateToPacked { .. })
+}
+
+/// What the audit says of the dates: the refusals 13 and 14, what is stored and what is converted.
+fn judge_dates(call: &Call, result: u32, before: &[u8], answer: &[u8], after: &[u8]) {
+    let expiry_of = |table: &[u8], name: &[u8]| -> Option<Vec<u8>> {
+        let sets = picture(table)?.sets;
+        sets.iter().find(|set| set.name == *name).map(|set| set.expiry().to_vec())
+    };
+    let call = if let Call::Preview(call) = call { call } else { call };
+    match call {
+        Call::Allocate { name, expiry, .. } if ![2, 3, 4].contains(&result) => {
+            let stored = dates::expiry(expiry);
+            assert_eq!(result == 14, stored.is_none(), "{expiry:02X?}");
+            let made = expiry_of(after, name).filter(|_| result == 0 && before != after);
+            assert!(made.is_none_or(|made| Some(&made[..]) == stored.as_ref().map(|s| &s[..])));
+        }
+        Call::Scratch { name, today, overriding } if ![2, 3, 4].contains(&result) => {
+            let day = dates::of_packed(today).map(|(year, day)| dates::stored(year, day));
+            let expected = match (day, expiry_of(before, name)) {
+                (None, _) => 14,
+                (_, None) => 5,
+                (Some(day), Some(date)) if dates::is_later(&date, &day) && *overriding == 0 => 13,
+                _ => 0,
+            };
+            assert_eq!(result, expected, "{call:02X?}");
+        }
+        Call::DateToStored { packed } if result != 2 => {
+            let other = dates::of_packed(packed).map(|(year, day)| dates::stored(year, day));
+            assert_eq!(other.as_ref().map(|date| &date[..]), (result == 0).then(|| &answer[..3]));
+        }
+        Call::DateToPacked { stored } if result != 2 => {
+            let other = dates::of_stored(stored).map(|(year, day)| dates::packed(year, day));
+            assert_eq!(other.as_ref().map(|date| &date[..]), (result == 0).then(|| &answer[..4]));
+        }
+        _ => {}
+    }
+}
+
 #[test]
 fn random_calls() {
     let mut coverage = Coverage::default();
     // SESSIONS=5000 cargo test random_calls: for a long run.
     let sessions = std::env::var("SESSIONS").ok().and_then(|text| text.parse().ok());
     for seed in 0..sessions.unwrap_or(240) {
-        let session = Session::new(seed).with_previews();
+        let session = Session::new(seed).with_previews().with_dates();
         let calls = if session.shape == Shape::Large { 60 } else { 380 };
         run(session, calls, &mut coverage);
-        run(Session::elsewhere(seed).with_previews(), 40, &mut coverage);
+        run(Session::elsewhere(seed).with_previews().with_dates(), 40, &mut coverage);
     }
     println!("{coverage}");
     assert_eq!(coverage.missing(&[]), [""; 0], "not seen");

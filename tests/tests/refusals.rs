@@ -1,8 +1,9 @@
 //! Refusals 1 to 5 of each call, and which comes first where several apply.
 
-use vtoc_tests::call::{Call, NO_OPTION};
+use vtoc_tests::call::{Call, NO_DATE, NO_OPTION};
 use vtoc_tests::desk::{attributes, attributes_of, Desk};
 use vtoc_tests::reference::{initialise, taken};
+use vtoc_tests::short::scratch;
 use vtoc_tests::volumes::name;
 
 /// N = 4: two sets, the VTOC full, tracks 17–19 free. A has no secondary amount, B has.
@@ -23,17 +24,18 @@ fn unsound() -> Desk {
 
 fn allocate(text: &str, kind: u32, start: u32, amount: u32, secondary: u32) -> Call {
     let (name, attributes) = (name(text).to_vec(), attributes(3));
-    Call::Allocate { name, attributes, kind, start, amount, secondary, option: NO_OPTION }
+    let (option, expiry) = (NO_OPTION, NO_DATE.to_vec());
+    Call::Allocate { name, attributes, kind, start, amount, secondary, option, expiry }
 }
 
-/// Every call but initialise, with a lawful name that is on the volume; the previews last.
+/// Every call on a table but initialise, with a lawful name that is on the volume; the previews last.
 fn calls() -> Vec<Call> {
     let n = || name("B").to_vec();
     let mut calls = vec![
         allocate("NEW", 0, 0, 1, 0),
         Call::Extend { name: n() },
         Call::Release { name: n(), ttr: 1 },
-        Call::Scratch { name: n() },
+        scratch("B"),
         Call::Rename { old: n(), new: name("NEW").to_vec() },
         Call::Obtain { name: n() },
         Call::Lspace,
@@ -50,11 +52,11 @@ fn with_name(call: &Call, bytes: Vec<u8>) -> Call {
         Call::Allocate { name, .. }
         | Call::Extend { name }
         | Call::Release { name, .. }
-        | Call::Scratch { name }
+        | Call::Scratch { name, .. }
         | Call::Rename { old: name, .. }
         | Call::Obtain { name } => *name = bytes,
-        Call::Initialise { .. } | Call::Lspace => {}
         Call::Preview(call) => **call = with_name(call, bytes),
+        _ => {}
     }
     call
 }

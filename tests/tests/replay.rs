@@ -1,9 +1,10 @@
 //! Records and lines of docs/REPLAY.md.
 
-use vtoc_tests::call::{Call, Reference};
+use vtoc_tests::call::{Call, Reference, NO_DATE, TODAY};
 use vtoc_tests::desk::attributes;
 use vtoc_tests::recording::recording;
 use vtoc_tests::replay::{adler, puts, record, Player, LINE, RECORD};
+use vtoc_tests::short::{expiring, scratch, scratch_on, to_packed, to_stored};
 use vtoc_tests::volumes::{name, small};
 
 #[test]
@@ -20,6 +21,7 @@ fn allocation(kind: u8, amount: u8, option: u8) -> ([u8; RECORD], Call) {
     (written[11], written[19], written[27]) = (kind, amount, option);
     written[28..72].copy_from_slice(&name("FLT.A"));
     written[74..126].copy_from_slice(&attributes(1));
+    written[128] = 4;
     let call = Call::Allocate {
         name: name("FLT.A").to_vec(),
         attributes: attributes(1),
@@ -28,6 +30,7 @@ fn allocation(kind: u8, amount: u8, option: u8) -> ([u8; RECORD], Call) {
         amount: amount.into(),
         secondary: 0,
         option: option.into(),
+        expiry: NO_DATE.to_vec(),
     };
     (written, call)
 }
@@ -80,7 +83,7 @@ fn a_preview_in_its_record() {
     let line = String::from_utf8(player.play(&seen)).unwrap();
     assert_eq!(line, format!("82 00 {answer} 46E202CE 0ABA6271\n"));
     let line = String::from_utf8(player.play(&made)).unwrap();
-    assert_eq!(line, format!("02 00 {answer} 767716F7 0ABA6271\n"));
+    assert_eq!(line, format!("02 00 {answer} FF2116D0 0ABA6271\n"));
     let line = String::from_utf8(player.play(&seen)).unwrap();
     assert!(line.starts_with("82 06 A5A5"), "{line}");
 }
@@ -92,7 +95,7 @@ fn operations_of_previews() {
         (allocation(0, 4, 0).1, 0x82),
         (Call::Extend { name: name() }, 0x83),
         (Call::Release { name: name(), ttr: 0x010203 }, 0x84),
-        (Call::Scratch { name: name() }, 0x85),
+        (scratch("FLT.A"), 0x85),
     ] {
         let mut written = record(&call, 1120, 24, 280).expect("it fits");
         assert_eq!(written[0], operation - 0x80);
@@ -101,14 +104,68 @@ fn operations_of_previews() {
     }
 }
 
-/// Four operations above 9 are known.
+/// The date is bytes 129 to 135, with its length before it; the override is the first number.
+#[test]
+fn dates_in_their_records() {
+    let (mut written, call) = allocation(0, 4, 0);
+    written[128..133].copy_from_slice(&[4, 0x01, 0x26, 0x25, 0x5F]);
+    assert_eq!(record(&expiring(call, &written[129..133]), 1120, 24, 280), Some(written));
+
+    let mut written = [0; RECORD];
+    written[..12].copy_from_slice(&[5, 44, 0, 24, 1, 24, 4, 96, 0x80, 0, 0, 1]);
+    written[28..72].copy_from_slice(&name("FLT.A"));
+    written[128..].copy_from_slice(&[7, 1, 2, 3, 4, 5, 6, 7]);
+    let today = &written[129..];
+    assert_eq!(record(&scratch_on("FLT.A", today, 0x8000_0001), 1120, 24, 280), Some(written));
+    assert_eq!(record(&scratch_on("FLT.A", &[0; 8], 0), 1120, 24, 280), None);
+
+    let mut written = [0; RECORD];
+    written[0] = 10;
+    written[3] = 24;
+    written[128..133].copy_from_slice(&[4, 0x00, 0x80, 0x36, 0x5F]);
+    assert_eq!(record(&to_stored(&TODAY), 0, 24, 0), Some(written));
+    written[0] = 11;
+    written[128..].copy_from_slice(&[3, 80, 1, 109, 0, 0, 0, 0]);
+    assert_eq!(record(&to_packed(&[80, 1, 109]), 0, 24, 0), Some(written));
+}
+
+/// Lines of conversions: the date and zeros, and the digests of what is lent of table and labels.
+#[test]
+fn lines_of_dates() {
+    let mut player = Player::new(&Reference);
+    player.table[0] = 7;
+    let mut played = |call: &Call, answer: usize, length: u8| {
+        let mut record = record(call, 1, answer, 280).expect("it fits");
+        record[128] = length;
+        String::from_utf8(player.play(&record)).unwrap()
+    };
+    let (zeros, untouched, ends) = ("0".repeat(40), "A5".repeat(24), "00080008 0ABA6271\n");
+    let (one, other) = (to_stored(&TODAY), to_packed(&[80, 1, 109]));
+    assert_eq!(played(&one, 24, 4), format!("0A 00 50016D00{zeros} {ends}"));
+    assert_eq!(played(&other, 24, 3), format!("0B 00 0080365F{zeros} {ends}"));
+    // Day 109 of 1980 with its bytes the other way round; zeros; every other length.
+    assert_eq!(played(&to_packed(&[80, 109, 1]), 24, 3), format!("0B 14 {untouched} {ends}"));
+    assert_eq!(played(&to_stored(&NO_DATE), 24, 4), format!("0A 14 {untouched} {ends}"));
+    for length in [0, 1, 2, 5, 6, 7, 8, 255] {
+        assert_eq!(played(&one, 24, length), format!("0A 02 {untouched} {ends}"));
+        assert_eq!(played(&other, 24, length), format!("0B 02 {untouched} {ends}"));
+    }
+    assert_eq!(played(&one, 23, 4), format!("0A 02 {untouched} {ends}"));
+}
+
+/// Six operations above 9 are known: there is no table here, and no date.
 #[test]
 fn other_operations_are_unknown() {
     for operation in (10..=255).chain([0]) {
         let mut record = allocation(0, 4, 0).0;
         record[0] = operation;
         let line = String::from_utf8(Player::new(&Reference).play(&record)).unwrap();
-        let result = if (0x82..=0x85).contains(&operation) { "03" } else { "99" };
+        let result = match operation {
+            10 => "14",
+            11 => "02",
+            0x82..=0x85 => "03",
+            _ => "99",
+        };
         assert!(line.starts_with(&format!("{operation:02X} {result} A5A5")), "{line}");
     }
 }

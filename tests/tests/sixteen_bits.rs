@@ -144,11 +144,11 @@ fn each_kind_would_be_taken_without_its_stops() {
     assert_eq!(stops.len(), 7 * 3 + 3 * 4 + 4 + 4 + 2 + 2 + 1);
 }
 
-/// The damaged tables of the last computed sequence would be taken too.
+/// The damaged tables of the computed sequence 39 would be taken too.
 #[test]
 fn computed_cases_would_be_taken_without_stops() {
     let (mut table, mut bad) = (vec![], BTreeSet::new());
-    for row in &sequences().last().expect("sequences").desk.rows {
+    for row in &sequences()[39 - 1].desk.rows {
         match row {
             Row::Made { after, .. } => table.clone_from(after),
             Row::Hurt { patches, result, .. } => {

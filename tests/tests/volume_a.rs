@@ -76,7 +76,8 @@ fn step_1_allocate_tracks() {
     assert_eq!(format_1[..6], [0xC6, 0xD3, 0xE3, 0x4B, 0xC1, 0x40]);
     format_1[44] = 0xF1;
     let bytes = attributes(1);
-    format_1[45..59].copy_from_slice(&bytes[..14]);
+    // No expiry date: zeros in the place of three attribute bytes.
+    format_1[45..56].copy_from_slice(&bytes[..11]);
     format_1[59] = 1;
     format_1[60..94].copy_from_slice(&bytes[14..48]);
     format_1[94] = 0x80;

@@ -2,6 +2,7 @@
 //! the labels say, write the whole table anew from that, and compare all bytes. Free
 //! extents are not read but follow from the data extents.
 
+pub mod dates;
 mod render;
 
 use std::collections::BTreeSet;
@@ -20,7 +21,8 @@ pub struct Set {
     free_fields: Vec<u8>,
 }
 
-/// Where byte 94 stands in the free fields.
+/// Where bytes 56 to 58 stand in the free fields, and byte 94.
+const EXPIRY: std::ops::Range<usize> = 56 - 45..59 - 45;
 const UNIT: usize = 14 + 94 - 60;
 
 impl Set {
@@ -33,6 +35,17 @@ impl Set {
         free_fields[UNIT] = unit;
         free_fields[UNIT + 1..UNIT + 4].copy_from_slice(&secondary.to_be_bytes()[1..]);
         Set { slot, format_3, name, extents, free_fields }
+    }
+
+    /// The same set with these bytes in the place of its expiry date.
+    pub fn expiring(mut self, stored: [u8; 3]) -> Set {
+        self.free_fields[EXPIRY].copy_from_slice(&stored);
+        self
+    }
+
+    /// The bytes in the place of the expiry date.
+    pub fn expiry(&self) -> &[u8] {
+        &self.free_fields[EXPIRY]
     }
 
     pub fn unit(&self) -> u8 {

@@ -10,14 +10,14 @@ use std::path::{Path, PathBuf};
 use std::process::{Command, ExitCode, Stdio};
 use std::thread;
 
-use vtoc_tests::call::{Call, Reference, NO_OPTION};
+use vtoc_tests::call::{Call, Reference, NO_DATE, NO_OPTION};
 use vtoc_tests::recording::{recording, Recording};
 use vtoc_tests::replay::{record, Player, LINE, RECORD};
 use vtoc_tests::volumes::{cut_cylinders, name, ATTRIBUTES};
 
 /// The stored recording, and the most bytes that it may take with its lines.
 const SEED: u64 = 1;
-const CALLS: usize = 60;
+const CALLS: usize = 46;
 const MOST: usize = 300_000;
 
 fn stored() -> Result<Recording, String> {
@@ -63,6 +63,7 @@ fn space_calls(table_len: usize, tracks: u32) -> Vec<u8> {
         amount,
         secondary: 0,
         option: NO_OPTION,
+        expiry: NO_DATE.to_vec(),
     };
     let calls = [Call::Lspace, allocate("CYL", 1, 1), allocate("TRK", 0, tracks)];
     calls.map(|call| record(&call, table_len, 24, 0).expect("right lengths fit")).concat()
@@ -149,7 +150,7 @@ fn left(player: &Player<Reference>, records: &[u8]) -> Vec<u8> {
 fn cut_short(program: &str) -> Result<(), String> {
     // LSPACE, by its operation alone: it has a line, of the result 2.
     let two = [8; 2 * RECORD];
-    for length in [0, 1, 64, RECORD - 2, RECORD - 1, RECORD, RECORD + 1, 2 * RECORD - 1] {
+    for length in [0, 1, 64, 128, RECORD - 2, RECORD - 1, RECORD, RECORD + 1, 2 * RECORD - 1] {
         let lines = printed(program, &[], &two[..length])?.len() / LINE;
         must(lines == length / RECORD, &format!("{lines} lines for {length} bytes"))?;
     }
@@ -243,7 +244,7 @@ fn compare(program: &str) -> Result<(), String> {
             leaves(program, &made, &place)?;
         }
         // A record cut short at the end is left out.
-        made.records.extend(vec![8; 37 * seed as usize % 128]);
+        made.records.extend(vec![8; 37 * seed as usize % RECORD]);
         records += made.calls();
         if printed(program, &[], &made.records)? != made.lines {
             return Err(format!("recording {seed}: the lines differ"));

@@ -2,7 +2,7 @@
 //! otherwise.
 
 use super::{sequence, Sequence};
-use crate::call::Call;
+use crate::call::{Call, TODAY};
 use crate::desk::Desk;
 use crate::volumes::name;
 
@@ -45,7 +45,8 @@ fn bytes(characters: &[u8]) -> Vec<u8> {
 
 /// A name that obeys the rule is not found, another is refused for itself.
 fn named(desk: &mut Desk, characters: &[u8], result: u32) {
-    desk.call(Call::Scratch { name: bytes(characters) }).refused(result);
+    let (name, today) = (bytes(characters), TODAY.to_vec());
+    desk.call(Call::Scratch { name, today, overriding: 0 }).refused(result);
 }
 
 fn first_characters() -> Sequence {

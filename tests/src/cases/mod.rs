@@ -3,6 +3,7 @@
 mod chains;
 mod cylinders;
 mod damages;
+mod dates;
 mod edges;
 mod grants;
 mod options;
@@ -40,6 +41,7 @@ pub fn sequences() -> Vec<Sequence> {
     all.extend(cylinders::sequences());
     all.extend(previews::sequences());
     all.extend(sixteen_bits::sequences());
+    all.extend(dates::sequences());
     all
 }
 
@@ -49,6 +51,7 @@ pub fn stories() -> Vec<Sequence> {
     all.extend(options::stories());
     all.extend(cylinders::sequences());
     all.extend(previews::sequences());
+    all.extend(dates::sequences());
     all
 }
 

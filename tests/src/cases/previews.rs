@@ -92,7 +92,7 @@ fn with_name(mut call: Call, length: usize) -> Call {
         Call::Allocate { name, .. }
         | Call::Extend { name }
         | Call::Release { name, .. }
-        | Call::Scratch { name } => name.resize(length, 0x40),
+        | Call::Scratch { name, .. } => name.resize(length, 0x40),
         _ => unreachable!("no preview of {call:?}"),
     }
     call

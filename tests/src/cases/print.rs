@@ -1,6 +1,6 @@
 //! Rows of a sequence in the syntax of the checker.
 
-use crate::call::Call;
+use crate::call::{Call, NO_DATE};
 use crate::desk::{attributes_of, Desk, Row};
 
 /// The digest of some bytes: h × 257 + b + 1 modulo 2^61 − 1, from 0.
@@ -62,18 +62,22 @@ fn print_call(call: &Call) -> String {
     match call {
         // Only `begin` makes a table.
         Call::Initialise { .. } => unreachable!("an initialise is a row of its own"),
-        Call::Allocate { name, attributes, kind, start, amount, secondary, option } => format!(
-            "(allocate (request {} {} {kind} {start} {amount} {secondary} {option}))",
-            print_name(name),
-            print_attributes(attributes)
-        ),
+        Call::Allocate { name, attributes, kind, start, amount, secondary, option, expiry } => {
+            let (name, attributes) = (print_name(name), print_attributes(attributes));
+            let numbers = format!("{kind} {start} {amount} {secondary} {option}");
+            format!("(allocate (request {name} {attributes} {numbers} {}))", print_date(expiry))
+        }
         Call::Extend { name } => format!("(extend {})", print_name(name)),
         Call::Release { name, ttr } => format!("(release {} {ttr:#X})", print_name(name)),
-        Call::Scratch { name } => format!("(scratch {})", print_name(name)),
+        Call::Scratch { name, today, overriding } => {
+            format!("(scratch {} {} {overriding})", print_name(name), print_date(today))
+        }
         Call::Rename { old, new } => format!("(rename {} {})", print_name(old), print_name(new)),
         Call::Obtain { name } => format!("(obtain {})", print_name(name)),
         Call::Lspace => "lspace".into(),
         Call::Preview(call) => format!("(preview {})", print_call(call)),
+        Call::DateToStored { packed } => format!("(dateToStored {})", print_date(packed)),
+        Call::DateToPacked { stored } => format!("(dateToPacked {})", print_date(stored)),
     }
 }
 
@@ -98,6 +102,16 @@ fn print_attributes(bytes: &[u8]) -> String {
     match bytes.len() {
         52 => format!("(attr {k})"),
         other => format!("(attrN {other} {k})"),
+    }
+}
+
+/// The bytes as one numeral, and how many they are.
+fn print_date(bytes: &[u8]) -> String {
+    let digits: String = bytes.iter().map(|byte| format!("{byte:02X}")).collect();
+    match bytes.len() {
+        4 if *bytes == NO_DATE => "noDate".into(),
+        0 => "(date 0 0x0)".into(),
+        length => format!("(date {length} 0x{digits})"),
     }
 }
 

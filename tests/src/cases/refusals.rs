@@ -1,7 +1,7 @@
 //! Refusals, one by one and in their order.
 
 use super::{sequence, Sequence};
-use crate::call::{Call, ALX, CONTIG, MXIG, NO_OPTION};
+use crate::call::{Call, ALX, CONTIG, MXIG, NO_DATE, NO_OPTION, TODAY};
 use crate::desk::{attributes, attributes_of, Desk};
 use crate::volumes::name;
 
@@ -17,8 +17,9 @@ fn full(desk: &mut Desk) {
 }
 
 fn allocate(name: Vec<u8>, attributes: Vec<u8>) -> Call {
+    let (start, amount, secondary, expiry) = (0, 1, 0, NO_DATE.to_vec());
     let (kind, option) = (0, NO_OPTION);
-    Call::Allocate { name, attributes, kind, start: 0, amount: 1, secondary: 0, option }
+    Call::Allocate { name, attributes, kind, start, amount, secondary, option, expiry }
 }
 
 /// The seven calls with the name given (in a rename, as the old one).
@@ -28,11 +29,15 @@ fn calls(name: &[u8]) -> Vec<Call> {
         allocate(n(), attributes(9)),
         Call::Extend { name: n() },
         Call::Release { name: n(), ttr: 1 },
-        Call::Scratch { name: n() },
+        scratch(n()),
         Call::Rename { old: n(), new: crate::volumes::name("NEW").to_vec() },
         Call::Obtain { name: n() },
         Call::Lspace,
     ]
+}
+
+fn scratch(name: Vec<u8>) -> Call {
+    Call::Scratch { name, today: TODAY.to_vec(), overriding: 0 }
 }
 
 fn lengths() -> Sequence {
@@ -47,7 +52,7 @@ fn lengths() -> Sequence {
         }
         // Lengths that some table may have, but not this one.
         assert_eq!(desk.sized(420, 24, 280, Call::Lspace), 3);
-        assert_eq!(desk.sized(700, 24, 280, Call::Scratch { name: b.clone() }), 3);
+        assert_eq!(desk.sized(700, 24, 280, scratch(b.clone())), 3);
         for (i, length) in [43, 45, 0, 88, 43, 45].into_iter().enumerate() {
             let mut name = b.clone();
             name.resize(length, 0x40);
@@ -63,7 +68,7 @@ fn lengths() -> Sequence {
         let new = name("C")[..40].to_vec();
         assert_eq!(desk.sized(table, 24, 280, Call::Rename { old: b.clone(), new }), 2);
         // Labels count for obtain only.
-        assert_eq!(desk.sized(table, 24, 0, Call::Scratch { name: b }), 0);
+        assert_eq!(desk.sized(table, 24, 0, scratch(b)), 0);
     })
 }
 

@@ -1,5 +1,6 @@
 //! What a run of calls has touched: results of each call, and paths worth seeing.
 
+mod dates;
 mod full;
 mod options;
 mod previews;
@@ -11,6 +12,7 @@ use std::fmt;
 use crate::call::{Call, CALL_NAMES, NO_OPTION, RESULTS};
 use crate::generate::glance::{glance, Glance};
 use crate::generate::session::Origin;
+pub use dates::DATES;
 pub use full::FULL_VOLUMES;
 use options::Numbers;
 pub use options::OPTIONS;
@@ -77,6 +79,9 @@ pub const WIDE: [&str; 7] = [
 pub const WHOLE: usize = 150_000;
 pub const EACH: usize = 10;
 
+/// The highest refusal.
+const MOST: u32 = 14;
+
 #[derive(Clone, Debug, Default)]
 pub struct Coverage {
     pub results: BTreeMap<(usize, u32), usize>,
@@ -93,6 +98,8 @@ impl Coverage {
     ) {
         *self.results.entry((call.index(), result)).or_default() += 1;
         self.after_a_preview(call, result, before);
+        let paths = dates::shown(call, result, before, after);
+        paths.into_iter().for_each(|path| self.saw(path));
         match (origin, result) {
             (Origin::Changed, 3) => self.saw("damaged table refused"),
             (Origin::Changed, 2) => {}
@@ -274,7 +281,8 @@ impl Coverage {
 
 /// What every run must see, apart from results.
 fn due() -> impl Iterator<Item = &'static str> {
-    FEATURES.into_iter().chain(OPTIONS).chain(RELEASES).chain(PREVIEWS).chain(VOLUMES)
+    let of_calls = FEATURES.into_iter().chain(OPTIONS).chain(RELEASES).chain(PREVIEWS);
+    of_calls.chain(DATES).chain(VOLUMES)
 }
 
 /// What a long run must see besides.
@@ -301,7 +309,7 @@ fn numbers_with_option(call: &Call) -> Option<Numbers> {
 impl fmt::Display for Coverage {
     fn fmt(&self, f: &mut fmt::Formatter) -> fmt::Result {
         write!(f, "{:<17}{:>8}", "result", "all")?;
-        (0..=12).try_for_each(|result| write!(f, "{result:>7}"))?;
+        (0..=MOST).try_for_each(|result| write!(f, "{result:>7}"))?;
         writeln!(f)?;
         let sum = |wanted: &dyn Fn(usize, u32) -> bool| -> usize {
             let seen = self.results.iter();
@@ -309,7 +317,7 @@ impl fmt::Display for Coverage {
         };
         for (call, name) in CALL_NAMES.iter().enumerate() {
             write!(f, "{name:<17}{:>8}", sum(&|of, _| of == call))?;
-            for result in 0..=12 {
+            for result in 0..=MOST {
                 match self.results.get(&(call, result)) {
                     Some(count) => write!(f, "{count:>7}")?,
                     None if RESULTS[call].contains(&result) => write!(f, "{:>7}", "NONE")?,
@@ -319,7 +327,7 @@ impl fmt::Display for Coverage {
             writeln!(f)?;
         }
         write!(f, "{:<17}{:>8}", "all", sum(&|_, _| true))?;
-        (0..=12).try_for_each(|result| write!(f, "{:>7}", sum(&|_, of| of == result)))?;
+        (0..=MOST).try_for_each(|result| write!(f, "{:>7}", sum(&|_, of| of == result)))?;
         writeln!(f)?;
         for feature in due() {
             writeln!(f, "{:>8}  {feature}", self.features.get(feature).unwrap_or(&0))?;

@@ -88,7 +88,7 @@ pub fn shown(call: &Call, table: &Glance, result: u32, answer: &[u8]) -> Vec<&'s
         (Call::Release { name, .. }, 11) => {
             vec![(has_format_3(table, name), "11, set with a format 3")]
         }
-        (Call::Scratch { name }, 0) => vec![
+        (Call::Scratch { name, .. }, 0) => vec![
             (has_format_3(table, name), "set with a format 3"),
             (table.open.is_empty(), "full VTOC"),
         ],

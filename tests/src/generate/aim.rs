@@ -3,7 +3,7 @@
 use super::glance::{Glance, SetGlance};
 use super::names;
 use super::rng::Rng;
-use crate::call::{Call, ALX, CONTIG, MXIG, NO_OPTION};
+use crate::call::{Call, ALX, CONTIG, MXIG, NO_DATE, NO_OPTION, TODAY};
 use crate::desk::attributes;
 
 /// Names in use at a time; few, so that lookups hit and duplicates happen.
@@ -12,6 +12,11 @@ const VARIETY: usize = 600;
 pub struct Aim<'a> {
     pub rng: &'a mut Rng,
     pub glance: &'a Glance,
+}
+
+/// Scratch of a set that has no expiry date.
+pub fn scratch_of(name: Vec<u8>) -> Call {
+    Call::Scratch { name, today: TODAY.to_vec(), overriding: 0 }
 }
 
 impl Aim<'_> {
@@ -75,8 +80,8 @@ impl Aim<'_> {
         &mut self, kind: u32, start: u32, amount: u32, secondary: u32, option: u32,
     ) -> Call {
         let name = if self.rng.chance(4) { self.name() } else { names::lawful(self.rng, VARIETY) };
-        let attributes = attributes(self.rng.byte());
-        Call::Allocate { name, attributes, kind, start, amount, secondary, option }
+        let (attributes, expiry) = (attributes(self.rng.byte()), NO_DATE.to_vec());
+        Call::Allocate { name, attributes, kind, start, amount, secondary, option, expiry }
     }
 
     pub fn tracks(&mut self) -> Call {
@@ -191,7 +196,7 @@ impl Aim<'_> {
     }
 
     pub fn scratch(&mut self) -> Call {
-        Call::Scratch { name: self.name() }
+        scratch_of(self.name())
     }
 
     pub fn rename(&mut self) -> Call {

@@ -1,9 +1,10 @@
 //! Volumes on the brink: 26, 27, 52 or 53 free extents and hardly a slot left, so that the
 //! next call adds or drops a format 5, or finds the VTOC full.
 
+use super::aim::scratch_of;
 use super::names;
 use super::rng::Rng;
-use crate::call::{Buffers, Call, Reference, NO_OPTION};
+use crate::call::{Buffers, Call, Reference, NO_DATE, NO_OPTION};
 use crate::desk::attributes;
 use crate::volumes::open_slots;
 
@@ -47,7 +48,7 @@ impl Plan {
     fn allocate(&mut self, rng: &mut Rng, kind: u32, start: u32, amount: u32, secondary: u32) {
         let name = names::lawful(rng, 5000);
         let attributes = attributes(rng.byte());
-        let option = NO_OPTION;
+        let (option, expiry) = (NO_OPTION, NO_DATE.to_vec());
         self.calls.push(Call::Allocate {
             name,
             attributes,
@@ -56,6 +57,7 @@ impl Plan {
             amount,
             secondary,
             option,
+            expiry,
         });
     }
 
@@ -73,7 +75,7 @@ impl Plan {
             self.calls.extend(names.iter().map(|name| Call::Extend { name: name.clone() }));
         }
         if rng.chance(60) {
-            self.calls.push(Call::Scratch { name: names[0].clone() });
+            self.calls.push(scratch_of(names[0].clone()));
         }
         let table = self.play(255);
         let glance = super::glance::glance(&table).expect("a sound table");

@@ -14,6 +14,8 @@ pub struct SetGlance {
     pub kinds: Vec<u8>,
     pub unit: u8,
     pub secondary: u32,
+    /// What stands in the place of its expiry date.
+    pub expiry: [u8; 3],
 }
 
 impl SetGlance {
@@ -31,6 +33,16 @@ pub struct Glance {
     /// Slots of the format 5s and of the format 0s.
     pub format_5s: Vec<usize>,
     pub open: Vec<usize>,
+}
+
+/// The place of the expiry date in a format 1.
+pub const EXPIRY: std::ops::Range<usize> = 56..59;
+
+/// What the set with this name has there.
+pub fn stored_date(table: &[u8], name: &[u8]) -> Option<[u8; 3]> {
+    let mut labels = table.chunks_exact(140);
+    let label = labels.find(|label| label[44] == 0xF1 && label[..44] == *name)?;
+    label[EXPIRY].try_into().ok()
 }
 
 fn be(bytes: &[u8]) -> u32 {
@@ -64,7 +76,8 @@ pub fn glance(table: &[u8]) -> Option<Glance> {
             .unzip();
         let name = label[..44].to_vec();
         let (unit, secondary) = (label[94], be(&label[95..98]));
-        Some(SetGlance { slot: k, format_3, name, extents, kinds, unit, secondary })
+        let expiry = label[EXPIRY].try_into().ok()?;
+        Some(SetGlance { slot: k, format_3, name, extents, kinds, unit, secondary, expiry })
     };
     let format_1s: Vec<usize> = of_format(0xF1);
     let sets = format_1s.into_iter().filter_map(set).collect();

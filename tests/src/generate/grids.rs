@@ -4,11 +4,10 @@
 use super::elsewhere;
 use super::glance::glance;
 use super::rng::Rng;
-use crate::call::{Buffers, Call, ALX, CONTIG, MXIG, NO_OPTION};
-use crate::desk::attributes_of;
-use crate::reference::{extend, release, scratch};
-use crate::short::allocation;
-use crate::volumes::{fresh, name, open_slots, place, scattered, small};
+use crate::call::{Buffers, Call, ALX, CONTIG, MXIG, NO_OPTION, TODAY};
+use crate::reference::{extend, release};
+use crate::short::{self, allocation, to_packed, to_stored};
+use crate::volumes::{fresh, name, open_slots, place, scattered, scratch, small};
 
 /// The volumes from elsewhere.
 const ELSEWHERE: usize = 60;
@@ -28,10 +27,12 @@ fn accepted() -> Vec<Call> {
         allocation("FLT.NEW", 0, 0, 3, 1, NO_OPTION),
         Call::Extend { name: name("FLT.B").to_vec() },
         Call::Release { name: a(), ttr: 1 },
-        Call::Scratch { name: a() },
+        short::scratch("FLT.A"),
         Call::Rename { old: a(), new: name("FLT.NEW").to_vec() },
         Call::Obtain { name: a() },
         Call::Lspace,
+        to_stored(&TODAY),
+        to_packed(&[80, 1, 109]),
     ];
     let previews: Vec<Call> = calls.iter().filter_map(Call::preview).collect();
     calls.extend(previews);
@@ -70,30 +71,26 @@ pub fn lengths() -> Vec<Row> {
     rows
 }
 
-/// The call with each of its names, and its attributes, of another length.
+/// The call with each of its names, its attributes and its date of another length.
 fn with_lengths(call: &Call, len: usize) -> Vec<Call> {
-    let cut = |bytes: &[u8]| {
-        let mut bytes = bytes.to_vec();
-        bytes.resize(len, 0x40);
-        bytes
-    };
-    match call.clone() {
-        Call::Allocate { name, attributes, kind, start, amount, secondary, option } => {
-            let (short, cut) = (attributes_of(len, 7), cut(&name));
-            vec![
-                Call::Allocate { name, attributes: short, kind, start, amount, secondary, option },
-                Call::Allocate { name: cut, attributes, kind, start, amount, secondary, option },
-            ]
-        }
-        Call::Extend { name } => vec![Call::Extend { name: cut(&name) }],
-        Call::Release { name, ttr } => vec![Call::Release { name: cut(&name), ttr }],
-        Call::Scratch { name } => vec![Call::Scratch { name: cut(&name) }],
-        Call::Obtain { name } => vec![Call::Obtain { name: cut(&name) }],
-        Call::Rename { old, new } => vec![
-            Call::Rename { old: cut(&old), new: new.clone() },
-            Call::Rename { old: old.clone(), new: cut(&new) },
-        ],
-        Call::Preview(call) => with_lengths(&call, len).iter().filter_map(Call::preview).collect(),
+    (0..lent(&mut call.clone()).len())
+        .map(|which| {
+            let mut call = call.clone();
+            lent(&mut call)[which].resize(len, 0x40);
+            call
+        })
+        .collect()
+}
+
+/// The buffers of a call that are only read, the table aside.
+fn lent(call: &mut Call) -> Vec<&mut Vec<u8>> {
+    match call {
+        Call::Allocate { name, attributes, expiry, .. } => vec![name, attributes, expiry],
+        Call::Scratch { name, today, .. } => vec![name, today],
+        Call::Extend { name } | Call::Release { name, .. } | Call::Obtain { name } => vec![name],
+        Call::Rename { old, new } => vec![old, new],
+        Call::DateToStored { packed: date } | Call::DateToPacked { stored: date } => vec![date],
+        Call::Preview(call) => lent(call),
         Call::Initialise { .. } | Call::Lspace => vec![],
     }
 }
@@ -252,7 +249,7 @@ pub fn sixteen() -> Vec<u8> {
     }
     place(&mut table, "REST", 2, 211, 149, 0);
     assert_eq!(release(&mut table, &name("REST"), 0x1001, &mut answer), 0);
-    assert_eq!(scratch(&mut table, &name("WALL"), &mut answer), 0);
+    assert_eq!(scratch(&mut table, &name("WALL")), 0);
     while open_slots(&table) > 0 {
         let k = open_slots(&table);
         place(&mut table, &format!("FILL.N{k}"), 0, 0, 1, 0);

@@ -60,10 +60,13 @@ fn names_of(call: &mut Call) -> Vec<&mut Vec<u8>> {
         Call::Allocate { name, .. }
         | Call::Extend { name }
         | Call::Release { name, .. }
-        | Call::Scratch { name }
+        | Call::Scratch { name, .. }
         | Call::Obtain { name } => vec![name],
         Call::Rename { old, new } => vec![old, new],
-        Call::Initialise { .. } | Call::Lspace => vec![],
+        Call::Initialise { .. }
+        | Call::Lspace
+        | Call::DateToStored { .. }
+        | Call::DateToPacked { .. } => vec![],
         Call::Preview(call) => names_of(call),
     }
 }

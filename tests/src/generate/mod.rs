@@ -4,6 +4,7 @@ mod aim;
 pub mod around;
 mod brink;
 pub mod damage;
+pub mod dates;
 pub mod elsewhere;
 pub mod glance;
 pub mod grids;

@@ -1,10 +1,11 @@
 //! A volume's life: calls one after another, most of them kept, some on spoiled copies.
 
-use super::aim::Aim;
+use super::aim::{scratch_of, Aim};
 use super::brink;
 use super::damage::any_damage;
+use super::dates;
 use super::elsewhere;
-use super::glance::glance;
+use super::glance::{glance, EXPIRY};
 use super::hostile::spoil;
 use super::rng::Rng;
 use super::shapes::{beyond, geometry, Shape, SHAPES};
@@ -54,6 +55,8 @@ pub struct Session {
     greedy: Option<Vec<u8>>,
     /// Draws the previews, where there are any: lives without them are as they were before request [3].
     previews: Option<Rng>,
+    /// Draws the dates, alike: without them nothing has an expiry date, and no date is converted.
+    dates: Option<Rng>,
     /// What comes after a preview, the last one first.
     next: Vec<Trial>,
 }
@@ -127,7 +130,8 @@ impl Session {
 
     fn with(rng: Rng, table: Vec<u8>, shape: Shape) -> Session {
         let (phase, shuffles, greedy) = (Phase::Fill, false, None);
-        Session { rng, shape, phase, table, shuffles, greedy, previews: None, next: vec![] }
+        let (previews, dates, next) = (None, None, vec![]);
+        Session { rng, shape, phase, table, shuffles, greedy, previews, dates, next }
     }
 
     /// The same life with previews: before many calls their own, some of them twice, and now and then
@@ -135,6 +139,26 @@ impl Session {
     pub fn with_previews(mut self) -> Session {
         self.previews = Some(Rng::new(self.rng.clone().word()));
         self
+    }
+
+    /// The same life with dates: sets that expire, days before and after, conversions; and, where the
+    /// table may turn into another one without a call, any bytes where an expiry date is stored.
+    pub fn with_dates(mut self) -> Session {
+        let mut rng = Rng::new(!self.rng.clone().word());
+        if self.shuffles {
+            (0..8).for_each(|_| self.age(&mut rng));
+        }
+        self.dates = Some(rng);
+        self
+    }
+
+    /// Some set gets bytes of earlier days.
+    fn age(&mut self, rng: &mut Rng) {
+        let sets = glance(&self.table).map_or(vec![], |glance| glance.sets);
+        if let Some(set) = rng.pick(&sets) {
+            let label = &mut self.table[140 * set.slot..][..140];
+            label[EXPIRY].copy_from_slice(&dates::any_stored(rng));
+        }
     }
 
     pub fn table(&self) -> &[u8] {
@@ -156,7 +180,7 @@ impl Session {
         if let Some(trial) = self.next.pop() {
             return trial;
         }
-        let trial = self.call_alone();
+        let trial = self.dated_call();
         let (Some(rng), Some(call)) = (&mut self.previews, trial.call.preview()) else {
             return trial;
         };
@@ -175,7 +199,21 @@ impl Session {
         }
     }
 
-    /// A call that is no preview.
+    /// A call that is no preview, with its dates.
+    fn dated_call(&mut self) -> Trial {
+        let Some(mut rng) = self.dates.take() else {
+            return self.call_alone();
+        };
+        if self.shuffles && rng.chance(3) {
+            self.age(&mut rng);
+        }
+        let mut trial = self.call_alone();
+        dates::dress(&mut rng, &mut trial.call, &trial.buffers.table);
+        self.dates = Some(rng);
+        trial
+    }
+
+    /// A call without dates that is no preview.
     fn call_alone(&mut self) -> Trial {
         // A few calls end what is special about such a volume; most of them are only tried there.
         let is_special = matches!(self.shape, Shape::Brink | Shape::Elsewhere);
@@ -227,7 +265,7 @@ impl Session {
         match self.rng.below(8) {
             0 => None,
             1..=3 => Some(Call::Release { name, ttr: self.rng.range(0, 3) << 8 | 1 }),
-            _ => Some(Call::Scratch { name }),
+            _ => Some(scratch_of(name)),
         }
     }
 

@@ -10,6 +10,7 @@ pub const FORMAT_4: u8 = 0xF4;
 pub const FORMAT_5: u8 = 0xF5;
 
 /// Format 1 fields.
+pub const EXPIRY: usize = 56;
 pub const EXTENT_COUNT: usize = 59;
 pub const UNIT: usize = 94;
 pub const SECONDARY: usize = 95;

@@ -1,4 +1,4 @@
-//! The twelve calls and the listing, written from documents 01 and 02 alone.
+//! The fourteen calls and the listing, written from documents 01 and 02 alone.
 //!
 //! The route: check every rule on the bytes, read the format 5 chain into a sorted free
 //! list, split and join its entries, and write back the records that changed. A call
@@ -7,6 +7,7 @@
 mod calls;
 mod check;
 mod data_set;
+pub mod dates;
 mod free;
 pub mod geometry;
 mod grant;
@@ -16,6 +17,7 @@ pub mod name;
 mod sets;
 mod volume;
 
+pub use calls::dates::{date_to_packed, date_to_stored};
 pub use calls::grants::{allocate, extend, preview_allocate, preview_extend};
 pub use calls::initialise::initialise;
 pub use calls::reading::{lspace, obtain};
@@ -42,6 +44,8 @@ pub enum Refusal {
     Extents = 10,
     VtocFull = 11,
     Ttr = 12,
+    Unexpired = 13,
+    Date = 14,
 }
 
 /// Whether a table is taken; the length is judged too.

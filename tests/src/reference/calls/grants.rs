@@ -2,6 +2,7 @@
 
 use super::{answered, granted, lawful, lookup, sized, sound, Answer};
 use crate::reference::data_set::DataSet;
+use crate::reference::dates::{self, Packed, Stored};
 use crate::reference::free::Run;
 use crate::reference::grant::{self, Grant, SpaceOption};
 use crate::reference::layout::*;
@@ -87,18 +88,20 @@ struct Plan {
 }
 
 impl Plan {
+    /// With the expiry date that is stored.
     #[inline(always)]
     fn allocate(
-        volume: &Volume, records: &[Record], name: &Name, numbers: Numbers,
-    ) -> Result<Plan, Refusal> {
+        volume: &Volume, records: &[Record], name: &Name, numbers: Numbers, expiry: &Packed,
+    ) -> Result<(Stored, Plan), Refusal> {
         lawful(name)?;
+        let expiry = dates::expiry(expiry).ok_or(Refusal::Date)?;
         let amount = Amount::judge(volume, numbers)?;
         if volume.names.find(records, name).is_some() {
             return Err(Refusal::Duplicate);
         }
         let grant = amount.choose(volume)?;
         let needs_format_3 = grant.pieces().len() > IN_FORMAT_1;
-        Ok(Plan { amount, grant, needs_format_1: true, needs_format_3 })
+        Ok((expiry, Plan { amount, grant, needs_format_1: true, needs_format_3 }))
     }
 
     /// With the set that grows.
@@ -159,25 +162,26 @@ impl Plan {
     }
 }
 
-/// Gives a new set its tracks and labels. Refusals in order: 2, 3, 4, 7, 6, 9, 11.
+/// Gives a new set its tracks and labels. Refusals in order: 2, 3, 4, 14, 7, 6, 9, 11.
 #[allow(clippy::too_many_arguments)]
 pub fn allocate(
     table: &mut [u8], name: &[u8], attributes: &[u8], kind: u32, start: u32, amount: u32,
-    secondary: u32, option: u32, answer: &mut [u8],
+    secondary: u32, option: u32, expiry: &[u8], answer: &mut [u8],
 ) -> u32 {
     answered(answer, || {
         let records = records_mut(table)?;
         let name: &Name = sized(name)?;
         let attributes: &[u8; 52] = sized(attributes)?;
+        let expiry = sized(expiry)?;
         let mut volume = sound(records)?;
         let numbers = Numbers { kind, start, amount, secondary, option };
-        let plan = Plan::allocate(&volume, records, name, numbers)?;
+        let (expiry, plan) = Plan::allocate(&volume, records, name, numbers, expiry)?;
         plan.take(&mut volume)?;
 
         volume.trim_chain(records);
         let slot = volume.take_slot();
         volume.sets.insert(slot);
-        write_format_1(&mut records[slot], name, attributes, plan.amount.unit(), secondary);
+        write_format_1(&mut records[slot], name, attributes, plan.amount.unit(), secondary, expiry);
         Ok(plan.append(&mut volume, records, DataSet::fresh(slot)))
     })
 }
@@ -186,21 +190,24 @@ pub fn allocate(
 #[allow(clippy::too_many_arguments)]
 pub fn preview_allocate(
     table: &[u8], name: &[u8], attributes: &[u8], kind: u32, start: u32, amount: u32,
-    secondary: u32, option: u32, answer: &mut [u8],
+    secondary: u32, option: u32, expiry: &[u8], answer: &mut [u8],
 ) -> u32 {
     answered(answer, || {
         let records = records(table)?;
         let name: &Name = sized(name)?;
         let _: &[u8; 52] = sized(attributes)?;
+        let expiry = sized(expiry)?;
         let mut volume = sound(records)?;
         let numbers = Numbers { kind, start, amount, secondary, option };
-        Plan::allocate(&volume, records, name, numbers)?.preview(&mut volume)
+        let (_, plan) = Plan::allocate(&volume, records, name, numbers, expiry)?;
+        plan.preview(&mut volume)
     })
 }
 
-/// A format 1 without extents, its TTR zero.
+/// A format 1 without extents, its TTR zero. The expiry date replaces three of the attribute bytes.
 fn write_format_1(
     record: &mut Record, name: &Name, attributes: &[u8; 52], unit: u8, secondary: u32,
+    expiry: Stored,
 ) {
     *record = FORMAT_0;
     record[..name.len()].copy_from_slice(name);
@@ -211,6 +218,7 @@ fn write_format_1(
         record[from..to].copy_from_slice(part);
         rest = others;
     }
+    record[EXPIRY..EXPIRY + expiry.len()].copy_from_slice(&expiry);
     record[UNIT] = unit;
     put24(record, SECONDARY, secondary);
 }

@@ -1,5 +1,6 @@
 //! The calls, and what they share.
 
+pub mod dates;
 pub mod grants;
 pub mod initialise;
 pub mod reading;

@@ -2,6 +2,7 @@
 
 use super::{answered, lawful, lookup, sized, sound, tracks};
 use crate::reference::data_set::DataSet;
+use crate::reference::dates::{self, Packed, Stored};
 use crate::reference::free::Run;
 use crate::reference::layout::*;
 use crate::reference::name::Name;
@@ -122,21 +123,34 @@ pub fn preview_release(table: &[u8], name: &[u8], ttr: u32, answer: &mut [u8]) -
     })
 }
 
-/// The set to remove.
+/// The set to remove, which must have expired unless that is overridden.
 #[inline(always)]
-fn condemned(volume: &Volume, records: &[Record], name: &Name) -> Result<DataSet, Refusal> {
+fn condemned(
+    volume: &Volume, records: &[Record], name: &Name, today: &Packed, overriding: u32,
+) -> Result<DataSet, Refusal> {
     lawful(name)?;
+    let today = dates::stored(today).ok_or(Refusal::Date)?;
     let slot = lookup(volume, records, name)?;
+    if overriding == 0 && expiry_of(&records[slot]) > today {
+        return Err(Refusal::Unexpired);
+    }
     Ok(DataSet::read(volume, records, slot))
 }
 
-/// Removes a set. Refusals in order: 2, 3, 4, 5.
-pub fn scratch(table: &mut [u8], name: &[u8], answer: &mut [u8]) -> u32 {
+/// What stands where the expiry date is stored: of volumes from elsewhere any three bytes.
+fn expiry_of(record: &Record) -> Stored {
+    [record[EXPIRY], record[EXPIRY + 1], record[EXPIRY + 2]]
+}
+
+/// Removes a set. Refusals in order: 2, 3, 4, 14, 5, 13.
+pub fn scratch(
+    table: &mut [u8], name: &[u8], today: &[u8], overriding: u32, answer: &mut [u8],
+) -> u32 {
     answered(answer, || {
         let records = records_mut(table)?;
-        let name: &Name = sized(name)?;
+        let (name, today): (&Name, &Packed) = (sized(name)?, sized(today)?);
         let mut volume = sound(records)?;
-        let set = condemned(&volume, records, name)?;
+        let set = condemned(&volume, records, name, today, overriding)?;
         // No refusal 11: at most 16 new entries want one format 5, and a slot comes free.
         set.extents().iter().for_each(|&extent| volume.free.give(extent));
         volume.trim_chain(records);
@@ -150,11 +164,13 @@ pub fn scratch(table: &mut [u8], name: &[u8], answer: &mut [u8]) -> u32 {
 }
 
 /// What scratch would answer; its refusals.
-pub fn preview_scratch(table: &[u8], name: &[u8], answer: &mut [u8]) -> u32 {
+pub fn preview_scratch(
+    table: &[u8], name: &[u8], today: &[u8], overriding: u32, answer: &mut [u8],
+) -> u32 {
     answered(answer, || {
         let records = records(table)?;
-        let name: &Name = sized(name)?;
+        let (name, today): (&Name, &Packed) = (sized(name)?, sized(today)?);
         let volume = sound(records)?;
-        Ok(tracks(condemned(&volume, records, name)?.tracks()))
+        Ok(tracks(condemned(&volume, records, name, today, overriding)?.tracks()))
     })
 }

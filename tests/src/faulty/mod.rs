@@ -1,8 +1,11 @@
 //! A manager with a fault planted in it, to see that a comparison notices.
 
+mod dates;
+
 use std::hint::black_box;
 
-use crate::call::{Manager, ALX, CONTIG, MXIG};
+use crate::call::{Manager, ALX, CONTIG, MXIG, NO_DATE, TODAY};
+use crate::generate::glance::{stored_date, EXPIRY};
 use crate::reference::layout::{
     put16, FORMAT, FORMAT_1, RECORD, UNIT, UNIT_CYLINDERS, UNIT_TRACKS,
 };
@@ -58,9 +61,39 @@ pub enum Fault {
     PreviewRefusalWrites,
     /// A refused preview clears the answer.
     PreviewRefusalAnswers,
+    /// The last byte of a date, which is only read.
+    DateByte,
+    /// 1900 is a leap year.
+    LeapYear1900,
+    /// Sign C is as good as sign F.
+    SignC,
+    /// The answer of a conversion has something after the date.
+    DateAndMore,
+    /// Four zero bytes are a date for a scratch.
+    NoneIsToday,
+    /// An override makes up for a bad date.
+    OverrideOfABadDate,
+    /// No override but 1 is one.
+    OnlyOneOverrides,
+    /// A set that expires today is unexpired.
+    EqualIsLater,
+    /// Days are compared by their low byte.
+    DaysByTheLowByte,
+    /// Days are compared, years are not.
+    DayBeforeYear,
+    /// Stored bytes that are no date have expired.
+    OnlyDatesAreLater,
+    /// A scratch looks at the date after it has looked for the name.
+    DateAfterLookup,
+    /// Zeros are stored, whatever the expiry date.
+    ExpiryNotStored,
+    /// Without an expiry date the attributes are stored as they are.
+    AttributeBytesKept,
+    /// A preview of a scratch looks at no date.
+    PreviewForgetsDates,
 }
 
-pub const FAULTS: [Fault; 24] = [
+pub const FAULTS: [Fault; 39] = [
     Fault::RefusesAll,
     Fault::AcceptsAll,
     Fault::OtherRefusal,
@@ -85,6 +118,21 @@ pub const FAULTS: [Fault; 24] = [
     Fault::PreviewMakesTheCall,
     Fault::PreviewRefusalWrites,
     Fault::PreviewRefusalAnswers,
+    Fault::DateByte,
+    Fault::LeapYear1900,
+    Fault::SignC,
+    Fault::DateAndMore,
+    Fault::NoneIsToday,
+    Fault::OverrideOfABadDate,
+    Fault::OnlyOneOverrides,
+    Fault::EqualIsLater,
+    Fault::DaysByTheLowByte,
+    Fault::DayBeforeYear,
+    Fault::OnlyDatesAreLater,
+    Fault::DateAfterLookup,
+    Fault::ExpiryNotStored,
+    Fault::AttributeBytesKept,
+    Fault::PreviewForgetsDates,
 ];
 
 pub struct Faulty<'a, M> {
@@ -105,11 +153,16 @@ fn reverse_pieces(answer: &mut [u8]) {
     pieces.reverse();
 }
 
-/// The unit byte of the set with this name.
-fn unit_of<'a>(table: &'a mut [u8], name: &[u8]) -> Option<&'a mut u8> {
+/// The format 1 of the set with this name.
+fn label_of<'a>(table: &'a mut [u8], name: &[u8]) -> Option<&'a mut [u8; RECORD]> {
     let (records, _) = table.as_chunks_mut::<RECORD>();
     let named = |record: &&mut [u8; RECORD]| record[FORMAT] == FORMAT_1 && record[..44] == *name;
-    records.iter_mut().find(named).map(|record| &mut record[UNIT])
+    records.iter_mut().find(named)
+}
+
+/// The unit byte of the set with this name.
+fn unit_of<'a>(table: &'a mut [u8], name: &[u8]) -> Option<&'a mut u8> {
+    label_of(table, name).map(|label| &mut label[UNIT])
 }
 
 /// Writes a buffer that was lent for reading, as a library in another language could.
@@ -150,6 +203,58 @@ impl<M: Manager> Faulty<'_, M> {
         let result = self.manager.release(table, name, ttr, answer);
         *unit_of(table, name)? = unit;
         Some(result)
+    }
+
+    /// Spoils the expiry date of a set that was just allocated.
+    fn spoil_expiry(&self, table: &mut [u8], name: &[u8], attributes: &[u8], expiry: &[u8]) {
+        let stored = match self.fault {
+            Fault::ExpiryNotStored => [0; 3],
+            Fault::AttributeBytesKept if *expiry == NO_DATE => {
+                [attributes[11], attributes[12], attributes[13]]
+            }
+            _ => return,
+        };
+        if let Some(label) = label_of(table, name) {
+            label[EXPIRY].copy_from_slice(&stored);
+        }
+    }
+
+    /// What the fault makes of the day and the override of a scratch on this table; a refusal where it
+    /// makes one.
+    fn scratch_for(
+        &self, table: &[u8], name: &[u8], today: &[u8], overriding: u32,
+    ) -> Result<(Vec<u8>, u32), u32> {
+        let date = dates::today_for(self.fault, today, overriding);
+        let overriding = dates::override_for(self.fault, overriding);
+        let seen =
+            |day: &[u8]| self.manager.preview_scratch(table, name, day, overriding, &mut [0; 24]);
+        let result = seen(&date);
+        if (self.fault, result, seen(&TODAY)) == (Fault::DateAfterLookup, 14, 5) {
+            return Err(5);
+        }
+        let stored = stored_date(table, name);
+        let later = stored.and_then(|stored| dates::later(self.fault, &stored, &date));
+        match (later, overriding, result) {
+            (Some((true, false)), 0, 0) => Err(13),
+            (Some((false, true)), 0, 13) => Ok((date, 1)),
+            _ => Ok((date, overriding)),
+        }
+    }
+
+    /// Spoils a conversion: what is wrong of day 366 of 1900, which has the other form `leap_day`.
+    fn spoil_date(
+        &self, mut result: u32, date: &[u8], is_leap_day: bool, leap_day: &[u8], answer: &mut [u8],
+    ) -> u32 {
+        if self.fault == Fault::LeapYear1900 && is_leap_day && result == 14 {
+            answer.fill(0);
+            answer[..leap_day.len()].copy_from_slice(leap_day);
+            result = 0;
+        }
+        if (self.fault, result) == (Fault::DateAndMore, 0) {
+            answer[leap_day.len()] = 1;
+        }
+        self.spoil_read(Fault::DateByte, date);
+        self.spoil(result, &mut [], answer)
     }
 
     /// Spoils a preview, whose call is `call`.
@@ -202,20 +307,25 @@ impl<M: Manager> Manager for Faulty<'_, M> {
     }
     fn allocate(
         &self, table: &mut [u8], name: &[u8], attributes: &[u8], kind: u32, start: u32,
-        amount: u32, secondary: u32, option: u32, answer: &mut [u8],
+        amount: u32, secondary: u32, option: u32, expiry: &[u8], answer: &mut [u8],
     ) -> u32 {
+        let date = &dates::packed_for(self.fault, expiry);
         let taken_for = match (self.fault, option) {
             (Fault::MxigAmountOnly, MXIG) => CONTIG,
             _ => option,
         };
-        let result = self
-            .manager
-            .allocate(table, name, attributes, kind, start, amount, secondary, taken_for, answer);
+        let result = self.manager.allocate(
+            table, name, attributes, kind, start, amount, secondary, taken_for, date, answer,
+        );
+        if result == 0 {
+            self.spoil_expiry(table, name, attributes, expiry);
+        }
         if (self.fault, option, result) == (Fault::AlxShortestFirst, ALX, 0) {
             reverse_pieces(answer);
         }
         self.spoil_read(Fault::NameByte, name);
         self.spoil_read(Fault::SecondByte, attributes);
+        self.spoil_read(Fault::DateByte, expiry);
         self.spoil(result, table, answer)
     }
     fn extend(&self, table: &mut [u8], name: &[u8], answer: &mut [u8]) -> u32 {
@@ -237,9 +347,15 @@ impl<M: Manager> Manager for Faulty<'_, M> {
         self.spoil_read(Fault::NameByte, name);
         self.spoil(result, table, answer)
     }
-    fn scratch(&self, table: &mut [u8], name: &[u8], answer: &mut [u8]) -> u32 {
-        let result = self.manager.scratch(table, name, answer);
+    fn scratch(
+        &self, table: &mut [u8], name: &[u8], today: &[u8], overriding: u32, answer: &mut [u8],
+    ) -> u32 {
+        let result = match self.scratch_for(table, name, today, overriding) {
+            Ok((date, overriding)) => self.manager.scratch(table, name, &date, overriding, answer),
+            Err(refusal) => refusal,
+        };
         self.spoil_read(Fault::NameByte, name);
+        self.spoil_read(Fault::DateByte, today);
         self.spoil(result, table, answer)
     }
     fn rename(&self, table: &mut [u8], old: &[u8], new: &[u8], answer: &mut [u8]) -> u32 {
@@ -264,18 +380,21 @@ impl<M: Manager> Manager for Faulty<'_, M> {
     }
     fn preview_allocate(
         &self, table: &[u8], name: &[u8], attributes: &[u8], kind: u32, start: u32, amount: u32,
-        secondary: u32, option: u32, answer: &mut [u8],
+        secondary: u32, option: u32, expiry: &[u8], answer: &mut [u8],
     ) -> u32 {
+        let date = &dates::packed_for(self.fault, expiry);
         let result = self.manager.preview_allocate(
-            table, name, attributes, kind, start, amount, secondary, option, answer,
+            table, name, attributes, kind, start, amount, secondary, option, date, answer,
         );
         if (self.fault, result) == (Fault::PreviewOfTheAmount, 0) {
             put16(answer, 0, amount);
         }
         self.spoil_read(Fault::SecondByte, attributes);
+        self.spoil_read(Fault::DateByte, expiry);
         self.spoil_preview(result, table, name, answer, |table, answer| {
-            self.manager
-                .allocate(table, name, attributes, kind, start, amount, secondary, option, answer)
+            self.manager.allocate(
+                table, name, attributes, kind, start, amount, secondary, option, date, answer,
+            )
         })
     }
     fn preview_extend(&self, table: &[u8], name: &[u8], answer: &mut [u8]) -> u32 {
@@ -288,7 +407,7 @@ impl<M: Manager> Manager for Faulty<'_, M> {
         let result = self.manager.preview_release(table, name, ttr, answer);
         match (self.fault, result) {
             (Fault::PreviewOfAllTracks, 0) => {
-                self.manager.preview_scratch(table, name, answer);
+                self.manager.preview_scratch(table, name, &TODAY, 1, answer);
             }
             (Fault::PreviewCutsCylinders, 0) => {
                 let mut copy = table.to_vec();
@@ -303,10 +422,31 @@ impl<M: Manager> Manager for Faulty<'_, M> {
             self.manager.release(table, name, ttr, answer)
         })
     }
-    fn preview_scratch(&self, table: &[u8], name: &[u8], answer: &mut [u8]) -> u32 {
-        let result = self.manager.preview_scratch(table, name, answer);
+    fn preview_scratch(
+        &self, table: &[u8], name: &[u8], today: &[u8], overriding: u32, answer: &mut [u8],
+    ) -> u32 {
+        let made = self.scratch_for(table, name, today, overriding);
+        let (date, overriding) = made.clone().unwrap_or((today.to_vec(), overriding));
+        let mut result = match made {
+            Ok(_) => self.manager.preview_scratch(table, name, &date, overriding, answer),
+            Err(refusal) => refusal,
+        };
+        if self.fault == Fault::PreviewForgetsDates && [13, 14].contains(&result) {
+            result = self.manager.preview_scratch(table, name, &TODAY, 1, answer);
+        }
+        self.spoil_read(Fault::DateByte, today);
         self.spoil_preview(result, table, name, answer, |table, answer| {
-            self.manager.scratch(table, name, answer)
+            self.manager.scratch(table, name, &date, overriding, answer)
         })
+    }
+    fn date_to_stored(&self, packed: &[u8], answer: &mut [u8]) -> u32 {
+        let result = self.manager.date_to_stored(&dates::packed_for(self.fault, packed), answer);
+        let (from, to) = dates::no_leap_day();
+        self.spoil_date(result, packed, *packed == from, &to, answer)
+    }
+    fn date_to_packed(&self, stored: &[u8], answer: &mut [u8]) -> u32 {
+        let result = self.manager.date_to_packed(stored, answer);
+        let (to, from) = dates::no_leap_day();
+        self.spoil_date(result, stored, *stored == from, &to, answer)
     }
 }
