@@ -4,9 +4,10 @@
  *   rt staticlib vtoc && cc -std=c99 -Iinclude examples/host.c target/staticlib/libvtoc.a -o target/host
  *   target/host target/week.vtoc && target/bin/vtlist < target/week.vtoc
  *
- * A volume is a 3330 pack: 404 cylinders of 19 tracks, a VTOC of two tracks with 39 records each from track 1. The program
- * prints what it does in clear words, and ends with status 1 where a call answers otherwise than the week needs. At the end it
- * writes the table of the survey volume to the file named by its argument, for vtlist.
+ * A volume is a 3330 pack: 404 cylinders of 19 tracks, a VTOC of two tracks with 39 records each from track 1. The week is the last
+ * of 1999; a date is printed as its year and its day, 1999.365. The program prints what it does in clear words, and ends with
+ * status 1 where a call answers otherwise than the week needs. At the end it writes the table of the survey volume to the file
+ * named by its argument, for vtlist.
  */
 #include <stdarg.h>
 #include <stdio.h>
@@ -24,6 +25,12 @@ static uint8_t *table = tables[0]; /* of the volume that the calls are for: SURV
 static uint8_t answer[VTOC_ANSWER_LENGTH];
 static uint8_t table_before[TABLE_LENGTH], answer_before[sizeof answer]; /* as they were before a call */
 
+struct date {
+    uint32_t year, day;
+};
+static struct date today; /* a real host has it from its clock */
+static const struct date no_date = {0, 0};
+
 /* ---- What the operator reads --------------------------------------------------------------------------------------------- */
 
 static void print_track(uint32_t track)
@@ -39,6 +46,19 @@ static void print_pieces(void)
         print_track(vtoc_answer_start(answer, i));
         printf("\n");
     }
+}
+
+/* The expiry date of a label, converted. A volume of earlier days may have any bytes there. */
+static void print_expiry(const uint8_t *label)
+{
+    const uint8_t *stored = label + VTOC_LABEL_EXPIRY;
+    uint8_t packed[VTOC_ANSWER_LENGTH];
+    if (vtoc_date_to_packed(stored, VTOC_STORED_LENGTH, packed, sizeof packed) == VTOC_OK)
+        printf("kept until %lu.%03lu\n", (unsigned long)vtoc_packed_year(packed), (unsigned long)vtoc_packed_day(packed));
+    else if (memcmp(stored, vtoc_no_expiry(), VTOC_STORED_LENGTH) == 0)
+        printf("no expiry date\n");
+    else
+        printf("no date in bytes 56-58: X'%02X%02X%02X'\n", (unsigned)stored[0], (unsigned)stored[1], (unsigned)stored[2]);
 }
 
 static void check(int holds, const char *what)
@@ -82,6 +102,41 @@ static void expect(uint32_t result, uint32_t wanted)
         print_refusal(result);
 }
 
+/* ---- Dates --------------------------------------------------------------------------------------------------------------- */
+
+static struct date date(uint32_t year, uint32_t day)
+{
+    struct date d;
+    d.year = year;
+    d.day = day;
+    return d;
+}
+
+static void begin(const char *weekday, struct date d, const char *what)
+{
+    today = d;
+    printf("%s, %lu.%03lu: %s\n", weekday, (unsigned long)d.year, (unsigned long)d.day, what);
+}
+
+/* What a call is handed for an expiry date. A day that the year does not have makes bytes that the call refuses. */
+static void pack(uint8_t *packed, struct date d)
+{
+    if (d.day == 0)
+        memcpy(packed, vtoc_no_expiry(), VTOC_PACKED_LENGTH);
+    else
+        vtoc_packed_date(packed, d.year, d.day);
+}
+
+/* The expiry date in a line about an allocate. */
+static const char *until(struct date d)
+{
+    static char text[64];
+    text[0] = '\0';
+    if (d.day != 0)
+        sprintf(text, ", kept until %lu.%03lu", (unsigned long)d.year, (unsigned long)d.day);
+    return text;
+}
+
 /* ---- The calls with the table of one volume and text for names ----------------------------------------------------------- */
 
 static void initialise(void)
@@ -91,22 +146,29 @@ static void initialise(void)
            VTOC_OK);
 }
 
-static void allocate(const char *text, uint32_t kind, uint32_t start, uint32_t amount, uint32_t secondary, uint32_t option,
-                     uint32_t wanted)
+static void allocate_until(struct date expiry, const char *text, uint32_t kind, uint32_t start, uint32_t amount,
+                           uint32_t secondary, uint32_t option, uint32_t wanted)
 {
     static const char *const units[] = {"tracks", "cylinders", "tracks from an absolute start"};
     static const char *const options[] = {"", ", CONTIG", ", MXIG", ", ALX"};
-    uint8_t name[VTOC_NAME_LENGTH];
-    uint8_t attributes[VTOC_ATTRIBUTES_LENGTH] = {0}; /* a real host fills in dates, organisation, block sizes */
+    uint8_t name[VTOC_NAME_LENGTH], packed[VTOC_PACKED_LENGTH];
+    uint8_t attributes[VTOC_ATTRIBUTES_LENGTH] = {0}; /* a real host fills in organisation, block sizes, the creation date */
     uint32_t result;
     vtoc_name_from_text(name, text);
-    say("allocate %s, %lu %s, secondary %lu%s", text, (unsigned long)amount, units[kind], (unsigned long)secondary,
-        options[option]);
+    pack(packed, expiry);
+    say("allocate %s, %lu %s, secondary %lu%s%s", text, (unsigned long)amount, units[kind], (unsigned long)secondary,
+        options[option], until(expiry));
     result = vtoc_allocate(table, TABLE_LENGTH, name, sizeof name, attributes, sizeof attributes, kind, start, amount, secondary,
-                           option, answer, sizeof answer);
+                           option, packed, sizeof packed, answer, sizeof answer);
     expect(result, wanted);
     if (result == VTOC_OK)
         print_pieces();
+}
+
+static void allocate(const char *text, uint32_t kind, uint32_t start, uint32_t amount, uint32_t secondary, uint32_t option,
+                     uint32_t wanted)
+{
+    allocate_until(no_date, text, kind, start, amount, secondary, option, wanted);
 }
 
 static void extend(const char *text, uint32_t wanted)
@@ -133,13 +195,14 @@ static void release(const char *text, uint32_t tt, uint32_t r, uint32_t wanted)
         printf("      %lu tracks given back\n", (unsigned long)vtoc_answer_tracks(answer));
 }
 
-static void scratch(const char *text, uint32_t wanted)
+static void scratch(const char *text, uint32_t override, uint32_t wanted)
 {
-    uint8_t name[VTOC_NAME_LENGTH];
+    uint8_t name[VTOC_NAME_LENGTH], packed[VTOC_PACKED_LENGTH];
     uint32_t result;
     vtoc_name_from_text(name, text);
-    say("scratch %s", text);
-    result = vtoc_scratch(table, TABLE_LENGTH, name, sizeof name, answer, sizeof answer);
+    vtoc_packed_date(packed, today.year, today.day);
+    say("scratch %s%s", text, override == VTOC_NO_OVERRIDE ? "" : ", override");
+    result = vtoc_scratch(table, TABLE_LENGTH, name, sizeof name, packed, sizeof packed, override, answer, sizeof answer);
     expect(result, wanted);
     if (result == VTOC_OK)
         printf("      %lu tracks given back\n", (unsigned long)vtoc_answer_tracks(answer));
@@ -154,7 +217,8 @@ static void rename_set(const char *old_text, const char *new_text, uint32_t want
     expect(vtoc_rename(table, TABLE_LENGTH, old_name, sizeof old_name, new_name, sizeof new_name, answer, sizeof answer), wanted);
 }
 
-/* Reads the labels of a data set and prints its extents, which lie in the format 1 and, from the fourth on, in the format 3. */
+/* Reads the labels of a data set and prints its extents, which lie in the format 1 and, from the fourth on, in the format 3; then
+   its expiry date. */
 static void obtain(const char *text)
 {
     uint8_t name[VTOC_NAME_LENGTH], labels[VTOC_LABELS_LENGTH];
@@ -169,6 +233,36 @@ static void obtain(const char *text)
         print_track(vtoc_track(extent + VTOC_EXTENT_LAST, HEADS));
         printf("%s\n", extent[VTOC_EXTENT_TYPE] == 0x81 ? ", whole cylinders" : "");
     }
+    printf("      ");
+    print_expiry(labels);
+}
+
+/* The expiry dates of a volume, from its format 1s. */
+static void list_dates(void)
+{
+    say("the data sets and their dates");
+    for (unsigned slot = 2; slot < TABLE_LENGTH / VTOC_RECORD_LENGTH; slot++) {
+        const uint8_t *record = table + slot * VTOC_RECORD_LENGTH;
+        char text[VTOC_TEXT_LENGTH];
+        if (record[VTOC_LABEL_ID] == 0xF1) {
+            printf("      %s: ", vtoc_text_from_name(text, record));
+            print_expiry(record);
+        }
+    }
+}
+
+/* Writes another expiry date into the label. No call does that: the host may write it, as it may where it closes a file. */
+static void move_date(const char *text, struct date expiry)
+{
+    uint8_t name[VTOC_NAME_LENGTH], packed[VTOC_PACKED_LENGTH];
+    uint32_t slot;
+    vtoc_name_from_text(name, text);
+    vtoc_packed_date(packed, expiry.year, expiry.day);
+    say("%s is to be kept longer, until %lu.%03lu", text, (unsigned long)expiry.year, (unsigned long)expiry.day);
+    slot = vtoc_find_slot(table, TABLE_LENGTH, name);
+    check(slot != 0, "the data set is on the volume");
+    expect(vtoc_date_to_stored(packed, sizeof packed, answer, sizeof answer), VTOC_OK);
+    memcpy(table + slot * VTOC_RECORD_LENGTH + VTOC_LABEL_EXPIRY, answer, VTOC_STORED_LENGTH);
 }
 
 static unsigned long space_number(uint32_t which)
@@ -194,17 +288,18 @@ struct offer {
 };
 
 /* What a volume would grant to a cylinder file. A preview takes nothing: to it the table is const. */
-static struct offer preview(unsigned volume, const char *text, uint32_t amount, uint32_t secondary)
+static struct offer preview(unsigned volume, struct date expiry, const char *text, uint32_t amount, uint32_t secondary)
 {
-    uint8_t name[VTOC_NAME_LENGTH];
+    uint8_t name[VTOC_NAME_LENGTH], packed[VTOC_PACKED_LENGTH];
     uint8_t attributes[VTOC_ATTRIBUTES_LENGTH] = {0};
     struct offer offer;
     vtoc_name_from_text(name, text);
+    pack(packed, expiry);
     table = tables[volume];
-    say("preview on %s: allocate %s, %lu cylinders, secondary %lu", serials[volume], text, (unsigned long)amount,
-        (unsigned long)secondary);
+    say("preview on %s: allocate %s, %lu cylinders, secondary %lu%s", serials[volume], text, (unsigned long)amount,
+        (unsigned long)secondary, until(expiry));
     offer.result = vtoc_preview_allocate(table, TABLE_LENGTH, name, sizeof name, attributes, sizeof attributes, VTOC_CYLINDERS, 0,
-                                         amount, secondary, VTOC_NO_OPTION, answer, sizeof answer);
+                                         amount, secondary, VTOC_NO_OPTION, packed, sizeof packed, answer, sizeof answer);
     memcpy(offer.answer, answer, sizeof answer);
     check(memcmp(table, table_before, TABLE_LENGTH) == 0, "a preview writes no byte of the table");
     if (offer.result == VTOC_OK)
@@ -224,12 +319,12 @@ static int is_better(const struct offer *one, const struct offer *other)
 
 /* Allocates a cylinder file on the volume with the best offer. Of equal offers the first is taken, so that the last volume stays
    free the longest. No call came between: the volume grants, or refuses, as it said. */
-static void place(const char *text, uint32_t amount, uint32_t secondary)
+static void place(struct date expiry, const char *text, uint32_t amount, uint32_t secondary)
 {
-    struct offer best = preview(0, text, amount, secondary);
+    struct offer best = preview(0, expiry, text, amount, secondary);
     unsigned chosen = 0;
     for (unsigned volume = 1; volume < VOLUMES; volume++) {
-        struct offer offer = preview(volume, text, amount, secondary);
+        struct offer offer = preview(volume, expiry, text, amount, secondary);
         if (is_better(&offer, &best)) {
             best = offer;
             chosen = volume;
@@ -237,7 +332,7 @@ static void place(const char *text, uint32_t amount, uint32_t secondary)
     }
     table = tables[chosen];
     say("%s is chosen", serials[chosen]);
-    allocate(text, VTOC_CYLINDERS, 0, amount, secondary, VTOC_NO_OPTION, best.result);
+    allocate_until(expiry, text, VTOC_CYLINDERS, 0, amount, secondary, VTOC_NO_OPTION, best.result);
     check(memcmp(answer, best.answer, sizeof answer) == 0, "the grant is the one foreseen");
 }
 
@@ -249,33 +344,38 @@ int main(int count, char **arguments)
     FILE *file;
     uint32_t freed_track, granted, kept;
 
-    printf("Monday: a new volume, and the survey's files\n");
+    begin("Monday", date(1999, 361), "a new volume, and the survey's files");
     initialise();
     space();
     allocate("SURVEY.STRIP01", VTOC_CYLINDERS, 0, 60, 24, VTOC_NO_OPTION, VTOC_OK);
     allocate("SURVEY.NAV", VTOC_CYLINDERS, 0, 20, 0, VTOC_NO_OPTION, VTOC_OK);
     allocate("SURVEY.WEATHER", VTOC_CYLINDERS, 0, 12, 0, VTOC_NO_OPTION, VTOC_OK);
-    allocate("SURVEY.PHOTO", VTOC_CYLINDERS, 0, 150, 0, VTOC_NO_OPTION, VTOC_OK);
-    allocate("SURVEY.TRIAL", VTOC_CYLINDERS, 0, 14, 0, VTOC_NO_OPTION, VTOC_OK);
-    allocate("SURVEY.BASE", VTOC_CYLINDERS, 0, 147, 0, VTOC_NO_OPTION, VTOC_OK);
+    allocate_until(date(1999, 366), "SURVEY.PHOTO", VTOC_CYLINDERS, 0, 150, 0, VTOC_NO_OPTION, VTOC_E_DATE);
+    say("1999 has no such day: the job is corrected");
+    allocate_until(date(1999, 365), "SURVEY.PHOTO", VTOC_CYLINDERS, 0, 150, 0, VTOC_NO_OPTION, VTOC_OK);
+    allocate_until(date(2000, 10), "SURVEY.TRIAL", VTOC_CYLINDERS, 0, 14, 0, VTOC_NO_OPTION, VTOC_OK);
+    allocate_until(date(2000, 366), "SURVEY.BASE", VTOC_CYLINDERS, 0, 147, 0, VTOC_NO_OPTION, VTOC_OK);
     allocate("SURVEY.LABEL", VTOC_ABSOLUTE, 3, 4, 0, VTOC_NO_OPTION, VTOC_OK);
 
-    printf("Tuesday: the strip is full, and so is the volume\n");
+    begin("Tuesday", date(1999, 362), "the strip is full, and so is the volume");
     extend("SURVEY.STRIP01", VTOC_E_NO_SPACE);
-    scratch("SURVEY.WEATHER", VTOC_OK);
-    scratch("SURVEY.TRIAL", VTOC_OK);
+    scratch("SURVEY.WEATHER", VTOC_NO_OVERRIDE, VTOC_OK);
+    scratch("SURVEY.TRIAL", VTOC_NO_OVERRIDE, VTOC_E_UNEXPIRED);
+    obtain("SURVEY.TRIAL");
+    say("its owner tells the operator that the trial is over, and the operator overrides the date");
+    scratch("SURVEY.TRIAL", VTOC_OVERRIDE, VTOC_OK);
     say("two gaps now lie between the other files, and the strip grows into both");
     extend("SURVEY.STRIP01", VTOC_OK);
     check(vtoc_answer_pieces(answer) == 2 && vtoc_answer_tracks(answer) == 24 * HEADS, "24 cylinders in two pieces");
     extend("SURVEY.NAV", VTOC_E_NO_SECONDARY);
 
-    printf("Wednesday: the flight has a number\n");
+    begin("Wednesday", date(1999, 363), "the flight has a number");
     rename_set("SURVEY.STRIP01", "SURVEY.PHOTO", VTOC_E_DUPLICATE);
     rename_set("SURVEY.STRIP01", "SURVEY.FLT0317.STRIP01", VTOC_OK);
     rename_set("SURVEY.STRIP01", "SURVEY.STRIP02", VTOC_E_NOT_FOUND);
     allocate("SURVEY.STRIP 02", VTOC_TRACKS, 0, 5, 0, VTOC_NO_OPTION, VTOC_E_NAME);
 
-    printf("Thursday: what the strip does not use goes to others\n");
+    begin("Thursday", date(1999, 364), "what the strip does not use goes to others");
     obtain("SURVEY.FLT0317.STRIP01");
     release("SURVEY.FLT0317.STRIP01", 2000, 1, VTOC_E_TTR);
     release("SURVEY.FLT0317.STRIP01", 1349, 7, VTOC_OK);
@@ -287,23 +387,25 @@ int main(int count, char **arguments)
     say("a scratch pool takes every gap of 30 tracks or more, for the night");
     allocate("SURVEY.POOL", VTOC_TRACKS, 0, 30, 0, VTOC_ALX, VTOC_OK);
     check(vtoc_answer_pieces(answer) == 2 && vtoc_answer_tracks(answer) == 228 + 38, "two gaps, whole");
-    scratch("SURVEY.POOL", VTOC_OK);
+    scratch("SURVEY.POOL", VTOC_NO_OVERRIDE, VTOC_OK);
     freed_track = 255 * HEADS; /* the first one after the strip's second extent */
     say("38 tracks fit the gap that the release left behind the strip, and are granted there:");
     allocate("SURVEY.INDEX", VTOC_TRACKS, 0, 38, 8, VTOC_NO_OPTION, VTOC_OK);
     check(vtoc_answer_pieces(answer) == 1 && vtoc_answer_start(answer, 0) == freed_track && vtoc_answer_count(answer, 0) == 38,
           "SURVEY.INDEX has the very tracks that the strip gave back");
+    say("the photographs are kept until tomorrow, and nobody is asked to give them up a day early");
+    scratch("SURVEY.PHOTO", VTOC_NO_OVERRIDE, VTOC_E_UNEXPIRED);
 
-    printf("Friday: room for the next week\n");
-    scratch("SURVEY.PHOTO", VTOC_OK);
-    scratch("SURVEY.PHOTO", VTOC_E_NOT_FOUND);
+    begin("Friday", date(1999, 365), "room for the next week");
+    scratch("SURVEY.PHOTO", VTOC_NO_OVERRIDE, VTOC_OK); /* on its date */
+    scratch("SURVEY.PHOTO", VTOC_NO_OVERRIDE, VTOC_E_NOT_FOUND);
     space();
 
-    printf("Saturday: the sort and the plotter have the volume to themselves\n");
+    begin("Saturday", date(2000, 1), "the sort and the plotter have the volume to themselves");
     allocate("SURVEY.SORTWK01", VTOC_TRACKS, 0, 240, 0, VTOC_CONTIG, VTOC_OK);
     check(vtoc_answer_pieces(answer) == 1 && vtoc_answer_tracks(answer) == 240, "240 tracks in one piece");
     say("the plotter wants 60 cylinders and more where there are more: the longest gap, whole");
-    allocate("SURVEY.PLOT", VTOC_CYLINDERS, 0, 60, 0, VTOC_MXIG, VTOC_OK);
+    allocate_until(date(2000, 91), "SURVEY.PLOT", VTOC_CYLINDERS, 0, 60, 0, VTOC_MXIG, VTOC_OK);
     granted = vtoc_answer_tracks(answer); /* MXIG and ALX: the answer has the number, not the request */
     check(vtoc_answer_pieces(answer) == 1 && granted >= 60 * HEADS && granted % HEADS == 0, "60 whole cylinders or more");
     say("the plot has %lu tracks and fills 100 cylinders of them and four tracks", (unsigned long)granted);
@@ -315,19 +417,22 @@ int main(int count, char **arguments)
     release("SURVEY.PLOT", kept - 1, 9, VTOC_OK);
     check(vtoc_answer_tracks(answer) == 0, "nothing to give back is no refusal");
     obtain("SURVEY.PLOT");
-    scratch("SURVEY.SORTWK01", VTOC_OK);
+    scratch("SURVEY.SORTWK01", VTOC_NO_OVERRIDE, VTOC_OK);
     space();
 
-    printf("Sunday: the next flight's files, on this volume or a new one\n");
+    begin("Sunday", date(2000, 2), "the next flight's files, on this volume or a new one");
     table = tables[1];
     initialise();
-    place("SURVEY.FLT0318.PHOTO", 150, 0);
+    place(date(2000, 14), "SURVEY.FLT0318.PHOTO", 150, 0);
     check(table == tables[1], "only the new volume has so many cylinders");
-    place("SURVEY.FLT0318.STRIP01", 55, 24);
+    move_date("SURVEY.FLT0318.PHOTO", date(2000, 28));
+    obtain("SURVEY.FLT0318.PHOTO");
+    place(no_date, "SURVEY.FLT0318.STRIP01", 55, 24);
     check(table == tables[1], "one piece is better than two");
-    place("SURVEY.FLT0318.NAV", 20, 0);
+    place(no_date, "SURVEY.FLT0318.NAV", 20, 0);
     check(table == tables[0], "of equal offers the first");
     space();
+    list_dates();
 
     file = fopen(path, "wb");
     if (file == NULL || fwrite(tables[0], 1, TABLE_LENGTH, file) != TABLE_LENGTH || fclose(file) != 0) {

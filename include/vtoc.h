@@ -11,23 +11,35 @@
  *   vtoc_release     gives back tracks after the last block       vtoc_lspace   says how much is free
  *   vtoc_preview_allocate, vtoc_preview_extend, vtoc_preview_release, vtoc_preview_scratch
  *                    say what the call would answer, and change nothing
+ *   vtoc_date_to_stored, vtoc_date_to_packed
+ *                    convert a date; they have no table
  * Each takes numbers of 32 bits and byte buffers, a buffer as a pointer and its length, and answers VTOC_OK (0) or the number
- * of a refusal (1 to 12, below). Any bytes, numbers and lengths may be handed over: every call ends in one of the two.
+ * of a refusal (1 to 14, below). Any bytes, numbers and lengths may be handed over: every call ends in one of the two.
  *
  * WHAT IS NEW
+ * Version 400: expiry dates. Every host must change, and every file of it be compiled anew: no linker sees that an old one lacks
+ * an argument.
+ *   - vtoc_allocate and its preview have an expiry date after option, four bytes. As before: vtoc_no_expiry(), four zeros.
+ *   - vtoc_scratch and its preview have today's date, four bytes, and an override after the name. Today's date must always be
+ *     given (vtoc_packed_date makes it from the host's clock). A data set with a later expiry date is refused, VTOC_E_UNEXPIRED.
+ *     As before, scratched whatever its date: VTOC_OVERRIDE.
+ *   - Attribute bytes 11-13 (from 0) are no longer stored: format 1 bytes 56-58 have the expiry date, or zeros. A host that had its
+ *     date there hands it over as expiry; vtoc_date_to_packed makes it of those bytes. vtoc_label_set_attributes leaves 56-58.
+ *   - Volumes of earlier versions are taken as they are. What an attribute left in bytes 56-58 counts as an expiry date now.
+ *   - New: the two conversions, VTOC_E_UNEXPIRED (13) and VTOC_E_DATE (14), functions for dates ('Dates', below).
  * Version 302: the check of the table adds up tracks in 16 bits. No answer changed, and no host must change.
  * Version 301: the four previews. A host of version 300 stays as it is.
  * Version 300: of a cylinder file vtoc_release keeps the cylinder of the last block to its end, so more than TT + 1 tracks. A host
  * that works out from TT what is kept or given back must take it from the answer or the labels; any other stays as it is.
  * Version 200: vtoc_allocate has a space option after secondary (CONTIG, MXIG, ALX). A host of version 100 hands over
- * VTOC_NO_OPTION there, and all is as before. Compile every file of it anew: no linker sees that an old one lacks the argument.
+ * VTOC_NO_OPTION there, and all is as before.
  *
  * WHAT IS PROVED
  * The result, the answer, the labels and every byte of the table equal the definitions of the rules, for good calls and for
  * refused ones; a preview has the result and the answer of its call on a copy of the table, and leaves the table; no call reads
  * or writes outside the buffers it was lent; every call ends. docs/THEOREM.md has the one theorem about lists of calls: each track
- * lies in exactly one place, and the data sets are those that the replies have granted. Previews may stand anywhere in such a
- * list, and count for nothing.
+ * lies in exactly one place, and the data sets are those that the replies have granted. Previews and conversions of dates may stand
+ * anywhere in such a list, and count for nothing.
  *
  * The inline functions of this header are plain C and are not proved; tests/header.c tries each of them.
  *
@@ -36,8 +48,8 @@
  *      be written where it is not const. With length 0 it may be null.
  *   2. What a call may write (each buffer that is not const) overlaps no other buffer of that call, not by a byte: `restrict`
  *      below. Buffers that a call only reads may overlap or be one buffer, since they are shared borrows (`&`) in Rattle: the two
- *      names of vtoc_rename, name and attributes of vtoc_allocate, and in vtoc_obtain and the previews a name or attributes that
- *      lie in the table.
+ *      names of vtoc_rename; name, attributes and expiry of vtoc_allocate; name and today of vtoc_scratch; and in vtoc_obtain and
+ *      the previews any of these that lies in the table.
  *   3. While a call runs, nothing else (a thread, a signal handler, a device) writes a buffer that was lent to it, or reads one
  *      that it may write. So no two threads are at one table, but for the calls that take it as const (vtoc_obtain, vtoc_lspace and
  *      the previews): these may run side by side on one table, each with an answer and labels of its own. Calls on different tables
@@ -52,13 +64,16 @@
  * The library has no state of its own, takes no lock, allocates nothing and makes no system call.
  *
  * A FILE IS CLOSED by the host itself, in the table: no call is needed. In the format 1 of a data set it may write the TTR of the
- * last block (bytes 98-100, DS1LSTAR) and the attributes (bytes 45-58, 60-93 and 101-104; DS1TRBAL is among them), and no other
- * byte of the table. The layout lets these be any bytes, so the table stays taken, and no track, name or record changes hands.
- * The theorem about lists of calls does not speak of such a write; tests/promises.c tries all values of each of these bytes.
+ * last block (bytes 98-100, DS1LSTAR) and the attributes (bytes 45-58, 60-93 and 101-104; DS1TRBAL and the expiry date, DS1EXPDT,
+ * are among them), and no other byte of the table. The layout lets these be any bytes, so the table stays taken, and no track, name
+ * or record changes hands. The theorem about lists of calls does not speak of such a write; tests/promises.c tries all values of
+ * each of these bytes.
  *   uint32_t slot = vtoc_find_slot(table, table_length, name);
  *   if (slot != 0 && vtoc_label_set_last_block(table + slot * VTOC_RECORD_LENGTH, vtoc_ttr(tt, r)) == VTOC_OK)
  *       .. write record slot back to the volume ..
- * vtoc_release stores a TTR too, and gives back tracks behind it.
+ * vtoc_release stores a TTR too, and gives back tracks behind it. A later or earlier expiry date is written in the same way:
+ *   if (slot != 0 && vtoc_date_to_stored(packed, VTOC_PACKED_LENGTH, answer, VTOC_ANSWER_LENGTH) == VTOC_OK)
+ *       memcpy(table + slot * VTOC_RECORD_LENGTH + VTOC_LABEL_EXPIRY, answer, VTOC_STORED_LENGTH);
  *
  * BUILD
  *   rt staticlib vtoc && cc -Iinclude examples/host.c target/staticlib/libvtoc.a -o target/host
@@ -96,8 +111,8 @@ extern "C" {
 
 /* ---- Version ------------------------------------------------------------------------------------------------------------ */
 
-#define VTOC_VERSION 302 /* of this header, 100 x major + minor: a new major number where a host must change, else a new minor */
-#define VTOC_REQUESTS 4  /* how many of document 02's requests are in, from the first on */
+#define VTOC_VERSION 400 /* of this header, 100 x major + minor: a new major number where a host must change, else a new minor */
+#define VTOC_REQUESTS 5  /* how many of document 02's requests are in, from the first on */
 
 /* ---- Lengths, in bytes unless said otherwise ---------------------------------------------------------------------------- */
 
@@ -107,7 +122,9 @@ extern "C" {
 #define VTOC_MOST_TABLE_LENGTH 65520 /* 468 records */
 #define VTOC_NAME_LENGTH 44       /* a data set name, filled up with blanks, X'40' */
 #define VTOC_TEXT_LENGTH 45       /* the same as a C string */
-#define VTOC_ATTRIBUTES_LENGTH 52 /* format 1 bytes 45-58, 60-93 and 101-104, in this order: any bytes */
+#define VTOC_ATTRIBUTES_LENGTH 52 /* format 1 bytes 45-58, 60-93 and 101-104, in this order: any bytes, 56-58 not looked at */
+#define VTOC_PACKED_LENGTH 4      /* a date as the calls take it */
+#define VTOC_STORED_LENGTH 3      /* a date as a format 1 has it */
 #define VTOC_ANSWER_LENGTH 24     /* the answer of every call */
 #define VTOC_LABELS_LENGTH 280    /* vtoc_obtain: format 1, then format 3 or zeros */
 #define VTOC_MOST_PIECES 5        /* pieces of one grant */
@@ -133,6 +150,19 @@ extern "C" {
 #define VTOC_MXIG 2      /* one piece: the longest candidate, whole, if it is at least the amount */
 #define VTOC_ALX 3       /* every candidate of at least the amount, whole, longest first; of more than five the five longest */
 
+/* ---- Override of an expiry date (vtoc_scratch) --------------------------------------------------------------------------- */
+
+#define VTOC_NO_OVERRIDE 0 /* a data set is scratched from its expiry date on, not before */
+#define VTOC_OVERRIDE 1    /* on any day; so is any other number but 0 */
+
+/* ---- Dates: a year, 1900 to 2099, and a day from 1 on, 366 in leap years only (1900 is none, 2000 is one) ----------------- */
+
+/* Packed, as the calls take it, four bytes: digits 0, C, Y, Y, D, D, D and sign F, a half byte each, with C 0 for 1900, 1 for 2000.
+     1999 day 365: 00 99 36 5F        2000 day 1: 01 00 00 1F
+   Stored, as a format 1 has it (bytes 56-58, DS1EXPDT), three bytes: the year less 1900, 1 byte, and the day, 2 bytes.
+     1999 day 365: 63 01 6D           2000 day 1: 64 00 01        zeros: none
+   vtoc_packed_date, below, makes a packed date of two numbers; other functions there read year and day. */
+
 /* ---- Results ------------------------------------------------------------------------------------------------------------ */
 
 /* Accepted: the answer is written, and the table by the calls that change it. */
@@ -143,7 +173,8 @@ extern "C" {
 #define VTOC_E_GEOMETRY 1
 
 /* 2, length: a buffer has the wrong length (a table not 140 times 3 to 468, for vtoc_initialise not V x D x 140; a name not 44,
-   attributes not 52, an answer not 24, labels not 280). An error in the host: correct the call. */
+   attributes not 52, a packed date not 4, a stored one not 3, an answer not 24, labels not 280). An error in the host: correct
+   the call. */
 #define VTOC_E_LENGTH 2
 
 /* 3, VTOC unsound: the table does not meet the layout. Nothing more is granted on this volume until it is put right: mount it
@@ -188,6 +219,16 @@ extern "C" {
    0. An error in the host, or the data set has changed since it was opened: read its labels again. */
 #define VTOC_E_TTR 12
 
+/* 13, unexpired: vtoc_scratch, the data set's expiry date is later than today and no override was given. Keep it: from its date on
+   it can be scratched. Or ask the operator, and where he agrees call again with VTOC_OVERRIDE; do not do so unasked. Bytes 56-58
+   are compared as they stand, first the year, then the day, also where they are no date: X'FFFFFF' never expires. */
+#define VTOC_E_UNEXPIRED 13
+
+/* 14, date: what was handed over is no date of its form. Zeros are none for the expiry of vtoc_allocate alone; today's date must
+   be a date with an override too. For expiry: fail the job step, or ask for a right date. For today: an error in the host, look at
+   its clock. For vtoc_date_to_packed: the label has no date there. */
+#define VTOC_E_DATE 14
+
 /* ---- The calls. Refusals are checked in the order given; the first that holds is the result. ----------------------------- */
 
 /*
@@ -202,14 +243,16 @@ uint32_t vtoc_initialise(uint8_t *VTOC_RESTRICT table, size_t table_length, uint
 
 /*
  * Gives a new data set its tracks. option says which (above); without one it is the shortest free extent that holds the amount,
- * or else up to five, longest first. secondary is what each later vtoc_extend grants, in the unit of kind. The answer has the
- * tracks granted and the pieces: take both from there, since VTOC_MXIG and VTOC_ALX may grant more than the amount, up to all that
- * is free (vtoc_release gives back what is not used). Refusals: 2, 3, 4, 7, 6, 9, 11.
+ * or else up to five, longest first. secondary is what each later vtoc_extend grants, in the unit of kind. expiry is the packed
+ * date before which vtoc_scratch refuses the data set, any date, or vtoc_no_expiry(); it is stored in place of attribute bytes
+ * 11-13. The answer has the tracks granted and the pieces: take both from there, since VTOC_MXIG and VTOC_ALX may grant more than
+ * the amount, up to all that is free (vtoc_release gives back what is not used). Refusals: 2, 3, 4, 14, 7, 6, 9, 11.
  */
 VTOC_NODISCARD
 uint32_t vtoc_allocate(uint8_t *VTOC_RESTRICT table, size_t table_length, const uint8_t *name, size_t name_length,
                        const uint8_t *attributes, size_t attributes_length, uint32_t kind, uint32_t start, uint32_t amount,
-                       uint32_t secondary, uint32_t option, uint8_t *VTOC_RESTRICT answer, size_t answer_length);
+                       uint32_t secondary, uint32_t option, const uint8_t *expiry, size_t expiry_length,
+                       uint8_t *VTOC_RESTRICT answer, size_t answer_length);
 
 /*
  * Grants the secondary amount once more, without an option; the new pieces follow the extents that the data set has, and are not
@@ -233,11 +276,14 @@ uint32_t vtoc_release(uint8_t *VTOC_RESTRICT table, size_t table_length, const u
                       uint32_t ttr, uint8_t *VTOC_RESTRICT answer, size_t answer_length);
 
 /*
- * Removes a data set; its tracks and records are free again. The answer has the tracks given back. Refusals: 2, 3, 4, 5.
+ * Removes a data set; its tracks and records are free again. today is the packed date of today: before the data set's expiry date
+ * the call is refused, unless override is not 0 (VTOC_OVERRIDE). On that date, after it, and without one it is accepted. The answer
+ * has the tracks given back. Refusals: 2, 3, 4, 14, 5, 13.
  */
 VTOC_NODISCARD
 uint32_t vtoc_scratch(uint8_t *VTOC_RESTRICT table, size_t table_length, const uint8_t *name, size_t name_length,
-                      uint8_t *VTOC_RESTRICT answer, size_t answer_length);
+                      const uint8_t *today, size_t today_length, uint32_t override, uint8_t *VTOC_RESTRICT answer,
+                      size_t answer_length);
 
 /*
  * Changes the name of a data set. The answer is 24 zeros. Refusals: 2, 3, 4 (either name), 5, 6. Old and new name may be one
@@ -278,8 +324,8 @@ uint32_t vtoc_lspace(const uint8_t *table, size_t table_length, uint8_t *VTOC_RE
 VTOC_NODISCARD
 uint32_t vtoc_preview_allocate(const uint8_t *table, size_t table_length, const uint8_t *name, size_t name_length,
                                const uint8_t *attributes, size_t attributes_length, uint32_t kind, uint32_t start,
-                               uint32_t amount, uint32_t secondary, uint32_t option, uint8_t *VTOC_RESTRICT answer,
-                               size_t answer_length);
+                               uint32_t amount, uint32_t secondary, uint32_t option, const uint8_t *expiry,
+                               size_t expiry_length, uint8_t *VTOC_RESTRICT answer, size_t answer_length);
 
 /* The tracks and pieces that the next vtoc_extend would grant. */
 VTOC_NODISCARD
@@ -291,10 +337,23 @@ VTOC_NODISCARD
 uint32_t vtoc_preview_release(const uint8_t *table, size_t table_length, const uint8_t *name, size_t name_length, uint32_t ttr,
                               uint8_t *VTOC_RESTRICT answer, size_t answer_length);
 
-/* The tracks that vtoc_scratch would give back, which are all that the data set has. */
+/* The tracks that vtoc_scratch would give back, which are all that the data set has. With VTOC_NO_OVERRIDE it also says whether the
+   data set is unexpired on a day, any day. */
 VTOC_NODISCARD
 uint32_t vtoc_preview_scratch(const uint8_t *table, size_t table_length, const uint8_t *name, size_t name_length,
-                              uint8_t *VTOC_RESTRICT answer, size_t answer_length);
+                              const uint8_t *today, size_t today_length, uint32_t override, uint8_t *VTOC_RESTRICT answer,
+                              size_t answer_length);
+
+/* ---- Conversions of dates ------------------------------------------------------------------------------------------------ */
+
+/* The stored form of a packed date: the first 3 bytes of the answer, then zeros. Refusals: 2, 14 (four zeros too). */
+VTOC_NODISCARD
+uint32_t vtoc_date_to_stored(const uint8_t *packed, size_t packed_length, uint8_t *VTOC_RESTRICT answer, size_t answer_length);
+
+/* The packed form of a stored date, as in a label from VTOC_LABEL_EXPIRY on: the first 4 bytes of the answer, then zeros.
+   Refusals: 2, 14 (three zeros too: a data set without a date). */
+VTOC_NODISCARD
+uint32_t vtoc_date_to_packed(const uint8_t *stored, size_t stored_length, uint8_t *VTOC_RESTRICT answer, size_t answer_length);
 
 /* ---- Readers of the answer. Each is for an answer of 24 bytes that a call with result VTOC_OK has written. --------------- */
 
@@ -347,13 +406,14 @@ static inline const char *vtoc_refusal_word(uint32_t result)
 {
     static const char *const words[] = {"accepted",  "geometry", "length",       "VTOC unsound", "name",    "not found",
                                         "duplicate", "amount",   "no secondary", "no space",     "extents", "VTOC full",
-                                        "TTR"};
+                                        "TTR",       "unexpired", "date"};
     return result < sizeof words / sizeof words[0] ? words[result] : "unknown";
 }
 
 /* ---- Labels: the 280 bytes that vtoc_obtain has written. A format 1 in the table has the same places. -------------------- */
 
 #define VTOC_LABEL_ID 44         /* X'F1', a format 1 (DS1FMTID) */
+#define VTOC_LABEL_EXPIRY 56     /* the expiry date, stored form, 3 bytes (DS1EXPDT) */
 #define VTOC_LABEL_EXTENTS 59    /* the number of extents, 1 to 16 (DS1NOEPV) */
 #define VTOC_LABEL_UNIT 94       /* X'80' tracks, X'C0' cylinders, X'00' absolute (DS1SCALO) */
 #define VTOC_LABEL_SECONDARY 95  /* the secondary amount, 3 bytes */
@@ -402,18 +462,71 @@ static inline uint32_t vtoc_attribute_place(uint32_t i)
     return i < 14 ? 45 + i : i < 48 ? 60 + (i - 14) : i < VTOC_ATTRIBUTES_LENGTH ? 101 + (i - 48) : 0;
 }
 
-/* Copies the 52 attribute bytes out of a format 1 of 140 bytes. */
+/* Copies the 52 attribute bytes out of a format 1 of 140 bytes; 11-13 are its expiry date, stored form. */
 static inline void vtoc_label_attributes(const uint8_t *label, uint8_t *attributes)
 {
     for (uint32_t i = 0; i < VTOC_ATTRIBUTES_LENGTH; i++)
         attributes[i] = label[vtoc_attribute_place(i)];
 }
 
-/* Writes the 52 attribute bytes into a format 1 of 140 bytes. */
+/* Writes the 52 attribute bytes into a format 1 of 140 bytes, all but 11-13: the expiry date stays, as vtoc_allocate stored it. */
 static inline void vtoc_label_set_attributes(uint8_t *label, const uint8_t *attributes)
 {
     for (uint32_t i = 0; i < VTOC_ATTRIBUTES_LENGTH; i++)
-        label[vtoc_attribute_place(i)] = attributes[i];
+        if (i < 11 || i > 13)
+            label[vtoc_attribute_place(i)] = attributes[i];
+}
+
+/* ---- Dates --------------------------------------------------------------------------------------------------------------- */
+
+/* No expiry date, for vtoc_allocate: four zeros, VTOC_PACKED_LENGTH of them. */
+static inline const uint8_t *vtoc_no_expiry(void)
+{
+    static const uint8_t none[] = {0, 0, 0, 0};
+    return none;
+}
+
+/* Makes the four bytes of a packed date: VTOC_OK. Of a year and a day that are no date: VTOC_E_DATE and four times X'FF'. Zeros
+   would be none; these bytes every call refuses with that number, so the result may be left aside. From a struct tm:
+     vtoc_packed_date(today, (uint32_t)tm.tm_year + 1900, (uint32_t)tm.tm_yday + 1); */
+static inline uint32_t vtoc_packed_date(uint8_t *packed, uint32_t year, uint32_t day)
+{
+    uint32_t days = year % 4 == 0 && year != 1900 ? 366 : 365;
+    uint32_t is_one = year >= 1900 && year <= 2099 && day >= 1 && day <= days;
+    packed[0] = (uint8_t)(!is_one ? 0xFF : year < 2000 ? 0 : 1);
+    packed[1] = (uint8_t)(!is_one ? 0xFF : year / 10 % 10 << 4 | year % 10);
+    packed[2] = (uint8_t)(!is_one ? 0xFF : day / 100 << 4 | day / 10 % 10);
+    packed[3] = (uint8_t)(!is_one ? 0xFF : day % 10 << 4 | 0xF);
+    return is_one ? VTOC_OK : VTOC_E_DATE;
+}
+
+/* The number of two decimal digits, a half byte each. */
+static inline uint32_t vtoc_digits(uint8_t byte)
+{
+    return 10 * (uint32_t)(byte >> 4) + (byte & 0xF);
+}
+
+/* Year and day of a packed date, as vtoc_date_to_packed answers it. Of other bytes the numbers mean nothing. */
+static inline uint32_t vtoc_packed_year(const uint8_t *packed)
+{
+    return 1900 + 100 * vtoc_digits(packed[0]) + vtoc_digits(packed[1]);
+}
+
+static inline uint32_t vtoc_packed_day(const uint8_t *packed)
+{
+    return 10 * vtoc_digits(packed[2]) + (packed[3] >> 4);
+}
+
+/* Year and day of a stored date, as vtoc_date_to_stored answers it and as a label has it from VTOC_LABEL_EXPIRY on. The day is 0
+   where there is no expiry date. A label may have any bytes: year 1900 to 2155, day up to 65,535. */
+static inline uint32_t vtoc_stored_year(const uint8_t *stored)
+{
+    return 1900 + (uint32_t)stored[0];
+}
+
+static inline uint32_t vtoc_stored_day(const uint8_t *stored)
+{
+    return vtoc_two(stored + 1);
 }
 
 /* ---- Tables and tracks --------------------------------------------------------------------------------------------------- */

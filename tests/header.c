@@ -16,8 +16,8 @@
 
 #define IS(constant, number) typedef char constant##_is_not_##number[(constant) == (number) ? 1 : -1]
 
-IS(VTOC_VERSION, 302);
-IS(VTOC_REQUESTS, 4);
+IS(VTOC_VERSION, 400);
+IS(VTOC_REQUESTS, 5);
 IS(VTOC_RECORD_LENGTH, 140);
 IS(VTOC_LEAST_RECORDS, 3);
 IS(VTOC_MOST_RECORDS, 468);
@@ -25,6 +25,8 @@ IS(VTOC_MOST_TABLE_LENGTH, 65520);
 IS(VTOC_NAME_LENGTH, 44);
 IS(VTOC_TEXT_LENGTH, 45);
 IS(VTOC_ATTRIBUTES_LENGTH, 52);
+IS(VTOC_PACKED_LENGTH, 4);
+IS(VTOC_STORED_LENGTH, 3);
 IS(VTOC_ANSWER_LENGTH, 24);
 IS(VTOC_LABELS_LENGTH, 280);
 IS(VTOC_MOST_PIECES, 5);
@@ -42,6 +44,8 @@ IS(VTOC_NO_OPTION, 0);
 IS(VTOC_CONTIG, 1);
 IS(VTOC_MXIG, 2);
 IS(VTOC_ALX, 3);
+IS(VTOC_NO_OVERRIDE, 0);
+IS(VTOC_OVERRIDE, 1);
 
 IS(VTOC_OK, 0);
 IS(VTOC_E_GEOMETRY, 1);
@@ -56,6 +60,8 @@ IS(VTOC_E_NO_SPACE, 9);
 IS(VTOC_E_EXTENTS, 10);
 IS(VTOC_E_VTOC_FULL, 11);
 IS(VTOC_E_TTR, 12);
+IS(VTOC_E_UNEXPIRED, 13);
+IS(VTOC_E_DATE, 14);
 
 IS(VTOC_SPACE_CYLINDERS, 0);
 IS(VTOC_SPACE_ODD_TRACKS, 1);
@@ -65,6 +71,7 @@ IS(VTOC_SPACE_LONGEST_ODD, 4);
 IS(VTOC_SPACE_RECORDS, 5);
 
 IS(VTOC_LABEL_ID, 44);
+IS(VTOC_LABEL_EXPIRY, 56);
 IS(VTOC_LABEL_EXTENTS, 59);
 IS(VTOC_LABEL_UNIT, 94);
 IS(VTOC_LABEL_SECONDARY, 95);
@@ -81,18 +88,21 @@ extern "C" {
 #endif
 uint32_t vtoc_initialise(uint8_t *, size_t, uint32_t, uint32_t, uint32_t, uint32_t, uint32_t, uint8_t *, size_t);
 uint32_t vtoc_allocate(uint8_t *, size_t, const uint8_t *, size_t, const uint8_t *, size_t, uint32_t, uint32_t, uint32_t,
-                       uint32_t, uint32_t, uint8_t *, size_t);
+                       uint32_t, uint32_t, const uint8_t *, size_t, uint8_t *, size_t);
 uint32_t vtoc_extend(uint8_t *, size_t, const uint8_t *, size_t, uint8_t *, size_t);
 uint32_t vtoc_release(uint8_t *, size_t, const uint8_t *, size_t, uint32_t, uint8_t *, size_t);
-uint32_t vtoc_scratch(uint8_t *, size_t, const uint8_t *, size_t, uint8_t *, size_t);
+uint32_t vtoc_scratch(uint8_t *, size_t, const uint8_t *, size_t, const uint8_t *, size_t, uint32_t, uint8_t *, size_t);
 uint32_t vtoc_rename(uint8_t *, size_t, const uint8_t *, size_t, const uint8_t *, size_t, uint8_t *, size_t);
 uint32_t vtoc_obtain(const uint8_t *, size_t, const uint8_t *, size_t, uint8_t *, size_t, uint8_t *, size_t);
 uint32_t vtoc_lspace(const uint8_t *, size_t, uint8_t *, size_t);
 uint32_t vtoc_preview_allocate(const uint8_t *, size_t, const uint8_t *, size_t, const uint8_t *, size_t, uint32_t, uint32_t,
-                               uint32_t, uint32_t, uint32_t, uint8_t *, size_t);
+                               uint32_t, uint32_t, uint32_t, const uint8_t *, size_t, uint8_t *, size_t);
 uint32_t vtoc_preview_extend(const uint8_t *, size_t, const uint8_t *, size_t, uint8_t *, size_t);
 uint32_t vtoc_preview_release(const uint8_t *, size_t, const uint8_t *, size_t, uint32_t, uint8_t *, size_t);
-uint32_t vtoc_preview_scratch(const uint8_t *, size_t, const uint8_t *, size_t, uint8_t *, size_t);
+uint32_t vtoc_preview_scratch(const uint8_t *, size_t, const uint8_t *, size_t, const uint8_t *, size_t, uint32_t, uint8_t *,
+                              size_t);
+uint32_t vtoc_date_to_stored(const uint8_t *, size_t, uint8_t *, size_t);
+uint32_t vtoc_date_to_packed(const uint8_t *, size_t, uint8_t *, size_t);
 #ifdef __cplusplus
 }
 #endif
@@ -175,8 +185,10 @@ static void words(void)
     CHECK(strcmp(vtoc_refusal_word(10), "extents") == 0);
     CHECK(strcmp(vtoc_refusal_word(11), "VTOC full") == 0);
     CHECK(strcmp(vtoc_refusal_word(12), "TTR") == 0);
-    CHECK(strcmp(vtoc_refusal_word(13), "unknown") == 0);
-    CHECK(strcmp(vtoc_refusal_word(14), "unknown") == 0);
+    CHECK(strcmp(vtoc_refusal_word(13), "unexpired") == 0);
+    CHECK(strcmp(vtoc_refusal_word(14), "date") == 0);
+    CHECK(strcmp(vtoc_refusal_word(15), "unknown") == 0);
+    CHECK(strcmp(vtoc_refusal_word(16), "unknown") == 0);
     CHECK(strcmp(vtoc_refusal_word(MOST), "unknown") == 0);
 }
 
@@ -241,9 +253,77 @@ static void attribute_bytes(void)
     lent = (const uint8_t *)edge(attributes, 52);
     vtoc_label_set_attributes(label, lent);
     for (uint32_t i = 0; i < 52; i++)
-        CHECK(label[places[i]] == i + 1);
-    CHECK(untouched(label, 0, 45, 0xA5) && untouched(label, 59, 60, 0xA5) && untouched(label, 94, 101, 0xA5)
+        CHECK(label[places[i]] == (i >= 11 && i <= 13 ? 0xA5 : i + 1));
+    CHECK(untouched(label, 0, 45, 0xA5) && untouched(label, 56, 60, 0xA5) && untouched(label, 94, 101, 0xA5)
           && untouched(label, 105, 140, 0xA5));
+}
+
+/* Whether a year and a day give this result and these four bytes, big-endian, and nothing beside them. */
+static int packs(uint32_t year, uint32_t day, uint32_t result, uint32_t wanted)
+{
+    uint8_t bytes[6];
+    memset(bytes, 0x5A, sizeof bytes);
+    return vtoc_packed_date(bytes + 1, year, day) == result && bytes[0] == 0x5A && bytes[5] == 0x5A
+           && ((uint32_t)bytes[1] << 24 | (uint32_t)bytes[2] << 16 | (uint32_t)bytes[3] << 8 | bytes[4]) == wanted;
+}
+
+/* Document 02's packed form: the decimal digits of CYYDDD, a half byte each, and sign F. */
+static uint32_t half_bytes(uint32_t year, uint32_t day)
+{
+    uint32_t packed = 0xF;
+    for (uint32_t shift = 4, left = (year - 1900) * 1000 + day; left > 0; shift += 4, left /= 10)
+        packed |= left % 10 << shift;
+    return packed;
+}
+
+static void packed_dates(void)
+{
+    uint32_t wrong = 0;
+    CHECK(packs(1900, 1, 0, 0x0000001F) && packs(1999, 365, 0, 0x0099365F) && packs(2000, 1, 0, 0x0100001F));
+    CHECK(packs(2000, 366, 0, 0x0100366F) && packs(2026, 321, 0, 0x0126321F) && packs(2099, 365, 0, 0x0199365F));
+    CHECK(packs(1900, 366, 14, MOST) && packs(1904, 366, 0, 0x0004366F) && packs(2096, 366, 0, 0x0196366F));
+    for (uint32_t year = 1900; year < 2100; year++) {
+        uint32_t days = 365;
+        for (uint32_t leap = 1904; leap < 2100; leap += 4)
+            days += leap == year;
+        for (uint32_t day = 0; day < 1024; day++)
+            if (day == 0 || day > days)
+                wrong += !packs(year, day, 14, MOST);
+            else
+                wrong += !packs(year, day, 0, half_bytes(year, day));
+    }
+    CHECK(wrong == 0);
+    CHECK(packs(1899, 1, 14, MOST) && packs(2100, 1, 14, MOST) && packs(0, 0, 14, MOST) && packs(100, 1, 14, MOST));
+    CHECK(packs(1896, 366, 14, MOST) && packs(2104, 366, 14, MOST) && packs(MOST, 1, 14, MOST) && packs(2000, MOST, 14, MOST));
+    CHECK(packs((uint32_t)-1 + 1900, 1, 14, MOST) && packs((uint32_t)99 + 1900, (uint32_t)-1 + 1, 14, MOST)); /* of a struct tm */
+    CHECK(packs(2000, 257, 0, 0x0100257F) && packs(2000, 65537, 14, MOST) && packs(67436, 1, 14, MOST));
+}
+
+static void date_readers(void)
+{
+    static const uint8_t zeros[4] = {0, 0, 0, 0}, last[4] = {0x01, 0x98, 0x36, 0x5F}, other[4] = {0x00, 0x07, 0x24, 0x9F};
+    static const uint8_t stored[3] = {0xC6, 0x01, 0x6D}, late[3] = {0xFF, 0xFF, 0xFE}, low[3] = {0x07, 0x00, 0xF9};
+    uint8_t packed[4];
+    const uint8_t *at;
+    uint32_t wrong = 0;
+    CHECK(memcmp(vtoc_no_expiry(), zeros, 4) == 0 && vtoc_no_expiry() == vtoc_no_expiry());
+    for (uint32_t byte = 0; byte < 256; byte++)
+        wrong += vtoc_digits((uint8_t)byte) != byte / 16 * 10 + byte % 16;
+    CHECK(wrong == 0);
+    at = (const uint8_t *)edge(last, 4);
+    CHECK(vtoc_packed_year(at) == 2098 && vtoc_packed_day(at) == 365);
+    CHECK(vtoc_packed_year(other) == 1907 && vtoc_packed_day(other) == 249);
+    for (uint32_t year = 1900; year < 2100; year++)
+        for (uint32_t day = 1; day < 366; day++)
+            wrong += vtoc_packed_date(packed, year, day) != 0 || vtoc_packed_year(packed) != year || vtoc_packed_day(packed) != day;
+    CHECK(wrong == 0);
+    memset(packed, 0xFF, sizeof packed); /* any bytes give numbers */
+    CHECK(vtoc_packed_year(packed) == 1900 + 165 * 101 && vtoc_packed_day(packed) == 1665);
+    at = (const uint8_t *)edge(stored, 3);
+    CHECK(vtoc_stored_year(at) == 2098 && vtoc_stored_day(at) == 365);
+    CHECK(vtoc_stored_year(late) == 2155 && vtoc_stored_day(late) == 65534);
+    CHECK(vtoc_stored_year(low) == 1907 && vtoc_stored_day(low) == 249);
+    CHECK(vtoc_stored_year(zeros) == 1900 && vtoc_stored_day(zeros) == 0);
 }
 
 static uint32_t track_of(unsigned cc, unsigned hh, uint32_t h)
@@ -433,6 +513,8 @@ int main(void)
     extents();
     last_blocks();
     attribute_bytes();
+    packed_dates();
+    date_readers();
     tracks();
     geometries();
     slots();

@@ -1,7 +1,7 @@
 /*
  * promises.c: what include/vtoc.h tells hosts they may do, done with the library. One buffer for two that are only read; a file
  * closed in the table; the space options; what a release keeps; previews beside their calls, on a table that cannot be written;
- * the header's limits, its readers and other inline functions on tables and labels that the library writes.
+ * expiry dates; the header's limits, its readers and other inline functions on tables and labels that the library writes.
  *
  *   cc -std=c99 -Iinclude tests/promises.c target/staticlib/libvtoc.a -o target/promises && target/promises
  */
@@ -19,6 +19,9 @@ static uint8_t table[LENGTH], copy[LENGTH];
 static uint8_t answer[VTOC_ANSWER_LENGTH], other_answer[VTOC_ANSWER_LENGTH];
 static uint8_t labels[VTOC_LABELS_LENGTH];
 static uint8_t attributes[VTOC_ATTRIBUTES_LENGTH];
+/* The dates and the override of allocates and scratches: none, 2026 day 321, and none, where no test sets them. */
+static uint8_t expiry[VTOC_PACKED_LENGTH], today[VTOC_PACKED_LENGTH] = {0x01, 0x26, 0x32, 0x1F};
+static uint32_t override = VTOC_NO_OVERRIDE;
 
 static void check_at(int holds, int line, const char *what)
 {
@@ -46,8 +49,8 @@ static uint32_t initialise(void)
 
 static uint32_t allocate_by(uint32_t option, const char *text, uint32_t kind, uint32_t start, uint32_t amount, uint32_t secondary)
 {
-    return vtoc_allocate(table, LENGTH, name_of(text), 44, attributes, 52, kind, start, amount, secondary, option, answer,
-                         sizeof answer);
+    return vtoc_allocate(table, LENGTH, name_of(text), 44, attributes, 52, kind, start, amount, secondary, option, expiry,
+                         sizeof expiry, answer, sizeof answer);
 }
 
 static uint32_t allocate(const char *text, uint32_t kind, uint32_t start, uint32_t amount, uint32_t secondary)
@@ -60,6 +63,11 @@ static uint32_t extend(const char *text)
     return vtoc_extend(table, LENGTH, name_of(text), 44, answer, sizeof answer);
 }
 
+static uint32_t scratch(const char *text)
+{
+    return vtoc_scratch(table, LENGTH, name_of(text), 44, today, sizeof today, override, answer, sizeof answer);
+}
+
 static uint32_t obtain(const char *text)
 {
     return vtoc_obtain(table, LENGTH, name_of(text), 44, labels, sizeof labels, answer, sizeof answer);
@@ -68,6 +76,9 @@ static uint32_t obtain(const char *text)
 /* A volume with three data sets. */
 static void volume(void)
 {
+    memcpy(expiry, vtoc_no_expiry(), sizeof expiry);
+    CHECK(vtoc_packed_date(today, 2026, 321) == VTOC_OK);
+    override = VTOC_NO_OVERRIDE;
     for (unsigned i = 0; i < sizeof attributes; i++)
         attributes[i] = (uint8_t)(3 * i + 1);
     CHECK(initialise() == VTOC_OK);
@@ -125,16 +136,19 @@ static void other_pairs(void)
 {
     uint8_t both[VTOC_ATTRIBUTES_LENGTH], apart[VTOC_NAME_LENGTH], other_labels[VTOC_LABELS_LENGTH];
     uint32_t slot;
-    /* The name is the first 44 attribute bytes. */
+    /* The name is the first 44 attribute bytes, the expiry date the next four. */
     volume();
     memcpy(copy, table, LENGTH);
     memset(both, 0x77, sizeof both);
     memcpy(both, name_of("FLT.D"), 44);
+    memcpy(both + 44, today, 4);
     memcpy(apart, both, 44);
-    CHECK(vtoc_allocate(table, LENGTH, both, 44, both, 52, VTOC_TRACKS, 0, 3, 1, VTOC_NO_OPTION, answer, 24) == VTOC_OK);
-    CHECK(vtoc_allocate(copy, LENGTH, apart, 44, both, 52, VTOC_TRACKS, 0, 3, 1, VTOC_NO_OPTION, other_answer, 24) == VTOC_OK);
+    CHECK(vtoc_allocate(table, LENGTH, both, 44, both, 52, VTOC_TRACKS, 0, 3, 1, VTOC_NO_OPTION, both + 44, 4, answer, 24)
+          == VTOC_OK);
+    CHECK(vtoc_allocate(copy, LENGTH, apart, 44, both, 52, VTOC_TRACKS, 0, 3, 1, VTOC_NO_OPTION, today, 4, other_answer, 24)
+          == VTOC_OK);
     CHECK(memcmp(table, copy, LENGTH) == 0 && memcmp(answer, other_answer, sizeof answer) == 0);
-    CHECK(memcmp(both, apart, 44) == 0 && both[44] == 0x77 && both[51] == 0x77);
+    CHECK(memcmp(both, apart, 44) == 0 && memcmp(both + 44, today, 4) == 0 && both[48] == 0x77 && both[51] == 0x77);
     /* The name is the one in the format 1 that it is looked up in. */
     slot = vtoc_find_slot(table, LENGTH, both);
     CHECK(slot != 0);
@@ -142,6 +156,11 @@ static void other_pairs(void)
     CHECK(vtoc_obtain(copy, LENGTH, apart, 44, other_labels, 280, other_answer, 24) == VTOC_OK);
     CHECK(memcmp(labels, other_labels, sizeof labels) == 0 && memcmp(answer, other_answer, sizeof answer) == 0);
     CHECK(memcmp(table, copy, LENGTH) == 0);
+    /* Its stored date, converted where it lies. */
+    CHECK(vtoc_date_to_packed(table + slot * 140 + VTOC_LABEL_EXPIRY, 3, answer, 24) == VTOC_OK && memcmp(answer, today, 4) == 0);
+    /* A name is no date: one buffer for both is refused as two are. */
+    CHECK(vtoc_scratch(table, LENGTH, both, 44, both, 4, VTOC_OVERRIDE, answer, 24) == VTOC_E_DATE);
+    CHECK(vtoc_scratch(table, LENGTH, both, 44, both + 44, 4, VTOC_NO_OVERRIDE, answer, 24) == VTOC_OK);
 }
 
 /* ---- A file closed in the table ------------------------------------------------------------------------------------------ */
@@ -158,6 +177,8 @@ static void closings(void)
     CHECK(obtain("FLT.B") == VTOC_OK && memcmp(labels, label, 140) == 0);
     CHECK(vtoc_label_last_block(label) == 0);
     vtoc_label_attributes(label, seen);
+    CHECK(seen[11] == 0 && seen[12] == 0 && seen[13] == 0); /* no expiry date */
+    memcpy(seen + 11, attributes + 11, 3);
     CHECK(memcmp(seen, attributes, sizeof seen) == 0);
 
     CHECK(vtoc_lspace(table, LENGTH, other_answer, sizeof other_answer) == VTOC_OK);
@@ -167,6 +188,8 @@ static void closings(void)
     CHECK(vtoc_label_set_last_block(label, vtoc_ttr(7, 12)) == VTOC_OK);
     CHECK(obtain("FLT.B") == VTOC_OK && memcmp(labels, label, 140) == 0 && vtoc_label_last_block(labels) == 0x70C);
     vtoc_label_attributes(labels, seen);
+    CHECK(seen[11] == 0 && seen[12] == 0 && seen[13] == 0);
+    memcpy(seen + 11, changed + 11, 3);
     CHECK(memcmp(seen, changed, sizeof seen) == 0);
 
     /* Each of these bytes may be any: the table stays taken, and the space is what it was. */
@@ -177,8 +200,10 @@ static void closings(void)
                 CHECK(vtoc_lspace(table, LENGTH, answer, sizeof answer) == VTOC_OK);
                 CHECK(memcmp(answer, other_answer, sizeof answer) == 0);
             }
-    CHECK(vtoc_scratch(table, LENGTH, name_of("FLT.B"), 44, answer, sizeof answer) == VTOC_OK);
-    CHECK(vtoc_answer_tracks(answer) == 2 * H);
+    /* X'FFFFFF' is an expiry date by now, later than any day. */
+    CHECK(scratch("FLT.B") == VTOC_E_UNEXPIRED);
+    memset(label + VTOC_LABEL_EXPIRY, 0, VTOC_STORED_LENGTH);
+    CHECK(scratch("FLT.B") == VTOC_OK && vtoc_answer_tracks(answer) == 2 * H);
 }
 
 /* ---- Space options ------------------------------------------------------------------------------------------------------- */
@@ -268,7 +293,8 @@ static void options_apart(void)
     memcpy(table, copy, LENGTH);
     CHECK(allocate_by(VTOC_CONTIG, "WORK", VTOC_TRACKS, 0, 30, 20) == VTOC_OK);
     memcpy(other_answer, answer, sizeof answer);
-    CHECK(vtoc_allocate(copy, LENGTH, name_of("WORK"), 44, attributes, 52, VTOC_TRACKS, 0, 30, 20, VTOC_NO_OPTION, answer, 24)
+    CHECK(vtoc_allocate(copy, LENGTH, name_of("WORK"), 44, attributes, 52, VTOC_TRACKS, 0, 30, 20, VTOC_NO_OPTION,
+                        vtoc_no_expiry(), VTOC_PACKED_LENGTH, answer, 24)
           == VTOC_OK);
     CHECK(memcmp(table, copy, LENGTH) == 0 && memcmp(answer, other_answer, sizeof answer) == 0);
     CHECK(extend("WORK") == VTOC_OK && vtoc_answer_pieces(answer) == 2);
@@ -353,7 +379,7 @@ static void in_one_cylinder(uint8_t unit)
     CHECK(allocate("NINE", VTOC_ABSOLUTE, 9, 1, 0) == VTOC_OK && allocate("TEN", VTOC_ABSOLUTE, 10, 1, 0) == VTOC_OK);
     CHECK(allocate("HIGH", VTOC_ABSOLUTE, 14, 186, 0) == VTOC_OK && allocate("PLOT", VTOC_TRACKS, 0, 2, 1) == VTOC_OK);
     CHECK(extend("PLOT") == VTOC_OK && vtoc_answer_start(answer, 0) == 13);
-    CHECK(vtoc_scratch(table, LENGTH, name_of("TEN"), 44, answer, sizeof answer) == VTOC_OK);
+    CHECK(scratch("TEN") == VTOC_OK);
     CHECK(extend("PLOT") == VTOC_OK && vtoc_answer_start(answer, 0) == 10);
     set_unit("PLOT", unit);
 }
@@ -393,7 +419,7 @@ static void releases_by_list(void)
 /* ---- Previews ------------------------------------------------------------------------------------------------------------ */
 
 /* The lengths that a preview and its call are lent. */
-static size_t table_lent = LENGTH, name_lent = 44, attributes_lent = 52, answer_lent = 24;
+static size_t table_lent = LENGTH, name_lent = 44, attributes_lent = 52, date_lent = 4, answer_lent = 24;
 
 /* The table as it is, in memory that can be read alone: a byte written there ends the program. Both answers are filled. */
 static const uint8_t *read_only(void)
@@ -423,9 +449,9 @@ static uint32_t both_allocate(uint32_t option, const char *text, uint32_t kind, 
 {
     const uint8_t *name = name_of(text), *lent = read_only();
     uint32_t preview = vtoc_preview_allocate(lent, table_lent, name, name_lent, attributes, attributes_lent, kind, start, amount,
-                                             secondary, option, other_answer, answer_lent);
+                                             secondary, option, expiry, date_lent, other_answer, answer_lent);
     return foreseen(preview, vtoc_allocate(table, table_lent, name, name_lent, attributes, attributes_lent, kind, start, amount,
-                                           secondary, option, answer, answer_lent));
+                                           secondary, option, expiry, date_lent, answer, answer_lent));
 }
 
 static uint32_t both_extend(const char *text)
@@ -445,8 +471,9 @@ static uint32_t both_release(const char *text, uint32_t ttr)
 static uint32_t both_scratch(const char *text)
 {
     const uint8_t *name = name_of(text), *lent = read_only();
-    uint32_t preview = vtoc_preview_scratch(lent, table_lent, name, name_lent, other_answer, answer_lent);
-    return foreseen(preview, vtoc_scratch(table, table_lent, name, name_lent, answer, answer_lent));
+    uint32_t preview
+        = vtoc_preview_scratch(lent, table_lent, name, name_lent, today, date_lent, override, other_answer, answer_lent);
+    return foreseen(preview, vtoc_scratch(table, table_lent, name, name_lent, today, date_lent, override, answer, answer_lent));
 }
 
 /* The life of a volume, each step foreseen. */
@@ -469,20 +496,24 @@ static void previews(void)
     CHECK(both_allocate(VTOC_ALX, "FLT.H", VTOC_TRACKS, 0, 1, 0) == VTOC_OK && vtoc_answer_pieces(other_answer) == 1);
 }
 
-/* A preview reads the table too: a name and attributes may lie in it. */
+/* A preview reads the table too: a name, attributes and a date may lie in it. */
 static void previews_of_parts(void)
 {
-    const uint8_t *lent, *label;
+    const uint8_t *lent, *label, *date;
     volume();
+    memcpy(label_of("FLT.B") + 45, today, 4);
     lent = read_only();
     label = lent + vtoc_find_slot(lent, LENGTH, name_of("FLT.B")) * VTOC_RECORD_LENGTH;
     CHECK(label != lent);
     CHECK(vtoc_preview_extend(lent, LENGTH, label, 44, answer, 24) == VTOC_OK && vtoc_answer_tracks(answer) == H);
     CHECK(vtoc_preview_release(lent, LENGTH, label, 44, 0, answer, 24) == VTOC_OK && vtoc_answer_tracks(answer) == H);
-    CHECK(vtoc_preview_scratch(lent, LENGTH, label, 44, answer, 24) == VTOC_OK && vtoc_answer_tracks(answer) == 2 * H);
-    CHECK(vtoc_preview_allocate(lent, LENGTH, label, 44, label, 52, VTOC_TRACKS, 0, 1, 0, VTOC_NO_OPTION, answer, 24)
+    date = label + 45;
+    CHECK(vtoc_preview_scratch(lent, LENGTH, label, 44, date, 4, VTOC_NO_OVERRIDE, answer, 24) == VTOC_OK);
+    CHECK(vtoc_answer_tracks(answer) == 2 * H);
+    CHECK(vtoc_preview_allocate(lent, LENGTH, label, 44, label, 52, VTOC_TRACKS, 0, 1, 0, VTOC_NO_OPTION, date, 4, answer, 24)
           == VTOC_E_DUPLICATE);
-    CHECK(vtoc_preview_allocate(lent, LENGTH, name_of("FLT.D"), 44, label, 52, VTOC_TRACKS, 0, 1, 0, VTOC_NO_OPTION, answer, 24)
+    CHECK(vtoc_preview_allocate(lent, LENGTH, name_of("FLT.D"), 44, label, 52, VTOC_TRACKS, 0, 1, 0, VTOC_NO_OPTION, date, 4,
+                                answer, 24)
               == VTOC_OK
           && vtoc_answer_tracks(answer) == 1);
 }
@@ -512,6 +543,9 @@ static void previews_refused(void)
     attributes_lent = 51;
     CHECK(both_allocate(VTOC_NO_OPTION, "FLT.D", VTOC_TRACKS, 0, 1, 0) == VTOC_E_LENGTH);
     attributes_lent = 52;
+    date_lent = 3;
+    CHECK(both_allocate(VTOC_NO_OPTION, "FLT.D", VTOC_TRACKS, 0, 1, 0) == VTOC_E_LENGTH && both_scratch("FLT.B") == VTOC_E_LENGTH);
+    date_lent = 4;
     table[LENGTH - 1] ^= 1;
     CHECK(all_refuse(VTOC_E_UNSOUND, "FLT.B"));
     table[LENGTH - 1] ^= 1;
@@ -567,6 +601,196 @@ static void previews_of_a_full_vtoc(void)
     CHECK(both_release("STAY1", vtoc_ttr(11, 1)) == VTOC_OK);        /* one less needs none */
     CHECK(both_scratch("FILL.A") == VTOC_OK);
     CHECK(both_extend("GROW") == VTOC_OK && both_release("EDGE", vtoc_ttr(2, 1)) == VTOC_OK);
+}
+
+/* ---- Expiry dates -------------------------------------------------------------------------------------------------------- */
+
+static uint32_t both_keep(const char *text)
+{
+    return both_allocate(VTOC_NO_OPTION, text, VTOC_TRACKS, 0, 1, 1);
+}
+
+/* Whether a data set has this expiry date, as year and day, and beside it the attributes that were handed over. */
+static int is_kept_until(const char *text, uint32_t year, uint32_t day)
+{
+    uint8_t seen[VTOC_ATTRIBUTES_LENGTH];
+    CHECK(obtain(text) == VTOC_OK);
+    vtoc_label_attributes(labels, seen);
+    return vtoc_stored_year(labels + VTOC_LABEL_EXPIRY) == year && vtoc_stored_day(labels + VTOC_LABEL_EXPIRY) == day
+           && memcmp(seen, attributes, 11) == 0 && memcmp(seen + 14, attributes + 14, 38) == 0;
+}
+
+/* Whatever attribute bytes 11-13 are, the table is the same. The calls that follow keep the date. */
+static void dates_stored(void)
+{
+    static const uint8_t fillers[] = {0x00, 0x01, 0x63, 0xFF};
+    for (size_t i = 0; i < sizeof fillers; i++) {
+        volume();
+        memset(attributes + 11, fillers[i], 3);
+        CHECK(vtoc_packed_date(expiry, 2000, 366) == VTOC_OK && both_keep("FLT.D") == VTOC_OK);
+        CHECK(is_kept_until("FLT.D", 2000, 366));
+        memcpy(expiry, vtoc_no_expiry(), 4);
+        CHECK(both_keep("FLT.E") == VTOC_OK && is_kept_until("FLT.E", 1900, 0));
+        if (i > 0)
+            CHECK(memcmp(table, copy, LENGTH) == 0);
+        memcpy(copy, table, LENGTH);
+    }
+    CHECK(extend("FLT.D") == VTOC_OK && is_kept_until("FLT.D", 2000, 366));
+    CHECK(release("FLT.D", 0, 1) == VTOC_OK && is_kept_until("FLT.D", 2000, 366));
+    CHECK(rename_alike(name_of("FLT.D"), 44, name_of("FLT.F"), 44) == VTOC_OK && is_kept_until("FLT.F", 2000, 366));
+}
+
+/* Scratches a data set, on a copy of the table, with each of these overrides: all are accepted. */
+static void with_overrides(const char *text)
+{
+    static const uint32_t overrides[] = {VTOC_OVERRIDE, 2, 256, 0x80000000, UINT32_MAX};
+    static uint8_t before[LENGTH];
+    memcpy(before, table, LENGTH);
+    for (size_t i = 0; i < sizeof overrides / sizeof overrides[0]; i++) {
+        override = overrides[i];
+        CHECK(both_scratch(text) == VTOC_OK && obtain(text) == VTOC_E_NOT_FOUND);
+        memcpy(table, before, LENGTH);
+    }
+    override = VTOC_NO_OVERRIDE;
+}
+
+/* Refused before the date, accepted on it and after it, and with an override on any day. */
+static void dates_of_scratches(void)
+{
+    static const struct {
+        uint32_t year, day, today_year, today_day, result;
+    } some[] = {{1999, 365, 1999, 364, 13}, {1999, 365, 1999, 365, 0}, {1999, 365, 2000, 1, 0},   {2000, 1, 1999, 365, 13},
+                {2000, 366, 2000, 365, 13}, {2000, 366, 2001, 1, 0},   {2001, 1, 2000, 366, 13},  {2000, 256, 2000, 255, 13},
+                {2000, 255, 2000, 256, 0},  {2000, 256, 2000, 256, 0}, {1900, 2, 1900, 1, 13},    {1900, 1, 1900, 1, 0},
+                {2099, 365, 1900, 1, 13},   {1900, 365, 2099, 1, 0},   {2099, 365, 2099, 364, 13}, {2099, 365, 2099, 365, 0}};
+    for (size_t i = 0; i < sizeof some / sizeof some[0]; i++) {
+        volume();
+        CHECK(vtoc_packed_date(expiry, some[i].year, some[i].day) == VTOC_OK && both_keep("FLT.D") == VTOC_OK);
+        CHECK(vtoc_packed_date(today, some[i].today_year, some[i].today_day) == VTOC_OK);
+        with_overrides("FLT.D");
+        CHECK(both_scratch("FLT.D") == some[i].result);
+    }
+    /* None, on the first day that there is. */
+    memset(expiry, 0, 4);
+    CHECK(vtoc_packed_date(today, 1900, 1) == VTOC_OK && both_keep("FLT.E") == VTOC_OK && both_scratch("FLT.E") == VTOC_OK);
+}
+
+/* Bytes 56-58 of an earlier volume, compared as they stand with 2026 day 321 and with the last day that there is. */
+static void dates_of_earlier_volumes(void)
+{
+    static const struct {
+        uint8_t stored[3];
+        uint32_t result, at_last;
+    } some[] = {{{0x00, 0x00, 0x00}, 0, 0},   {{0x00, 0xFF, 0xFF}, 0, 0},   {{0x7D, 0xFF, 0xFF}, 0, 0},
+                {{0x7E, 0x00, 0x00}, 0, 0},   {{0x7E, 0x01, 0x41}, 0, 0},   {{0x7E, 0x01, 0x42}, 13, 0},
+                {{0x7E, 0x02, 0x00}, 13, 0},  {{0x7F, 0x00, 0x00}, 13, 0},  {{0xC7, 0x01, 0x6D}, 13, 0},
+                {{0xC7, 0x01, 0x6E}, 13, 13}, {{0xC8, 0x00, 0x00}, 13, 13}, {{0xFF, 0xFF, 0xFF}, 13, 13}};
+    for (size_t i = 0; i < sizeof some / sizeof some[0]; i++) {
+        volume();
+        memcpy(label_of("FLT.B") + VTOC_LABEL_EXPIRY, some[i].stored, 3);
+        with_overrides("FLT.B");
+        memcpy(copy, table, LENGTH);
+        CHECK(both_scratch("FLT.B") == some[i].result);
+        memcpy(table, copy, LENGTH);
+        CHECK(vtoc_packed_date(today, 2099, 365) == VTOC_OK && both_scratch("FLT.B") == some[i].at_last);
+    }
+}
+
+/* What is no date in the packed form, by each half byte; the last one is what vtoc_packed_date makes of no date. */
+static const uint8_t not_dates[][VTOC_PACKED_LENGTH] = {
+    {0x10, 0x00, 0x00, 0x1F}, {0xF0, 0x00, 0x00, 0x1F}, {0x02, 0x00, 0x00, 0x1F}, {0x0F, 0x00, 0x00, 0x1F},
+    {0x00, 0xA0, 0x00, 0x1F}, {0x00, 0x0A, 0x00, 0x1F}, {0x00, 0x00, 0xA0, 0x1F}, {0x00, 0x00, 0x0A, 0x1F},
+    {0x00, 0x00, 0x00, 0xAF}, {0x00, 0x00, 0x00, 0x10}, {0x00, 0x00, 0x00, 0x1A}, {0x00, 0x00, 0x00, 0x1C},
+    {0x00, 0x00, 0x00, 0x1E}, {0x00, 0x00, 0x00, 0x0F}, {0x00, 0x00, 0x36, 0x6F}, {0x00, 0x99, 0x36, 0x6F},
+    {0x01, 0x00, 0x36, 0x7F}, {0x01, 0x26, 0x99, 0x9F}, {0xFF, 0xFF, 0xFF, 0xFF}};
+
+/* Document 02's order: allocate 2, 3, 4, 14, 7, 6, 9, 11; scratch 2, 3, 4, 14, 5, 13. */
+static void dates_refused(void)
+{
+    volume();
+    CHECK(vtoc_packed_date(expiry, 2026, 322) == VTOC_OK && both_keep("FLT.D") == VTOC_OK);
+    for (size_t i = 0; i < sizeof not_dates / sizeof not_dates[0]; i++) {
+        memcpy(expiry, not_dates[i], 4);
+        memcpy(today, not_dates[i], 4);
+        memset(answer, 0xA5, sizeof answer);
+        CHECK(vtoc_date_to_stored(not_dates[i], 4, answer, 24) == VTOC_E_DATE && answer[0] == 0xA5 && answer[23] == 0xA5);
+        CHECK(both_keep("FLT.E") == VTOC_E_DATE && both_keep("FLT.B") == VTOC_E_DATE && both_keep("FLT..E") == VTOC_E_NAME);
+        CHECK(both_allocate(VTOC_NO_OPTION, "FLT.E", VTOC_TRACKS, 0, 0, 0) == VTOC_E_DATE);
+        CHECK(both_scratch("FLT.B") == VTOC_E_DATE && both_scratch("FLT.D") == VTOC_E_DATE);
+        CHECK(both_scratch("FLT.X") == VTOC_E_DATE && both_scratch("FLT..B") == VTOC_E_NAME);
+        override = VTOC_OVERRIDE;
+        CHECK(both_scratch("FLT.B") == VTOC_E_DATE && both_scratch("FLT.X") == VTOC_E_DATE);
+        override = VTOC_NO_OVERRIDE;
+    }
+    /* Zeros are none for allocate, and no date for the others. */
+    memset(expiry, 0, 4);
+    memset(today, 0, 4);
+    CHECK(both_keep("FLT.E") == VTOC_OK && both_scratch("FLT.E") == VTOC_E_DATE);
+    CHECK(vtoc_date_to_stored(expiry, 4, answer, 24) == VTOC_E_DATE && vtoc_date_to_packed(expiry, 3, answer, 24) == VTOC_E_DATE);
+    /* Lengths come before the table, the table before the date. */
+    memset(expiry, 0xFF, 4);
+    table[LENGTH - 1] ^= 1;
+    CHECK(both_keep("FLT.F") == VTOC_E_UNSOUND && both_scratch("FLT.B") == VTOC_E_UNSOUND);
+    for (date_lent = 0; date_lent < 4; date_lent++)
+        CHECK(both_keep("FLT.F") == VTOC_E_LENGTH && both_scratch("FLT.B") == VTOC_E_LENGTH);
+    table[LENGTH - 1] ^= 1;
+    CHECK(vtoc_packed_date(today, 2026, 321) == VTOC_OK);
+    CHECK(both_scratch("FLT.X") == VTOC_E_NOT_FOUND && both_scratch("FLT.D") == VTOC_E_UNEXPIRED);
+}
+
+/* Whether an answer has these first bytes, and then zeros. */
+static int answers(const uint8_t *bytes, size_t length)
+{
+    for (size_t i = length; i < sizeof answer; i++)
+        if (answer[i] != 0)
+            return 0;
+    return memcmp(answer, bytes, length) == 0;
+}
+
+/* Every date there and back, and no other. Read as the header reads them. */
+static void dates_converted(void)
+{
+    uint8_t packed[VTOC_PACKED_LENGTH], stored[VTOC_STORED_LENGTH];
+    uint32_t dates = 0;
+    for (uint32_t year = 1900; year < 2156; year++)
+        for (uint32_t day = 0; day < 400; day++) {
+            uint32_t result = vtoc_packed_date(packed, year, day);
+            stored[0] = (uint8_t)(year - 1900);
+            stored[1] = (uint8_t)(day >> 8);
+            stored[2] = (uint8_t)(day & 0xFF);
+            memset(answer, 0xA5, sizeof answer);
+            CHECK(vtoc_date_to_packed(stored, 3, answer, 24) == result);
+            if (result == VTOC_OK) {
+                CHECK(answers(packed, 4) && vtoc_packed_year(answer) == year && vtoc_packed_day(answer) == day);
+                memset(answer, 0xA5, sizeof answer);
+                CHECK(vtoc_date_to_stored(packed, 4, answer, 24) == VTOC_OK && answers(stored, 3));
+                CHECK(vtoc_stored_year(answer) == year && vtoc_stored_day(answer) == day);
+                dates++;
+            }
+        }
+    CHECK(dates == 73049); /* 200 years, 49 of them leap years */
+    CHECK(vtoc_packed_date(packed, 2000, 366) == VTOC_OK);
+    for (size_t length = 0; length < 4; length++)
+        CHECK(vtoc_date_to_stored(packed, length, answer, 24) == VTOC_E_LENGTH);
+    for (size_t length = 0; length < 3; length++)
+        CHECK(vtoc_date_to_packed(stored, length, answer, 24) == VTOC_E_LENGTH);
+    CHECK(vtoc_date_to_packed(packed, 4, answer, 24) == VTOC_E_LENGTH && vtoc_date_to_packed(NULL, 0, answer, 24) == VTOC_E_LENGTH);
+    CHECK(vtoc_date_to_stored(packed, 4, answer, 23) == VTOC_E_LENGTH);
+    CHECK(vtoc_date_to_packed(stored, 3, answer, 23) == VTOC_E_LENGTH);
+}
+
+/* The host moves a date in the label, as the header says. */
+static void dates_moved(void)
+{
+    uint8_t packed[VTOC_PACKED_LENGTH];
+    volume();
+    CHECK(both_scratch("FLT.A") == VTOC_OK);
+    CHECK(vtoc_packed_date(packed, 2026, 322) == VTOC_OK && vtoc_date_to_stored(packed, 4, answer, 24) == VTOC_OK);
+    memcpy(label_of("FLT.B") + VTOC_LABEL_EXPIRY, answer, VTOC_STORED_LENGTH);
+    CHECK(is_kept_until("FLT.B", 2026, 322) && both_scratch("FLT.B") == VTOC_E_UNEXPIRED);
+    CHECK(vtoc_date_to_stored(today, 4, answer, 24) == VTOC_OK);
+    memcpy(label_of("FLT.B") + VTOC_LABEL_EXPIRY, answer, VTOC_STORED_LENGTH);
+    CHECK(both_scratch("FLT.B") == VTOC_OK);
 }
 
 /* ---- Labels of sixteen extents, geometries, limits ----------------------------------------------------------------------- */
@@ -639,7 +863,7 @@ static void limits(void)
     CHECK(allocate("FLT A", VTOC_TRACKS, 0, 1, 0) == VTOC_E_NAME && obtain("FLT A") == VTOC_E_NAME);
     CHECK(vtoc_extend(table, LENGTH, zeros, 44, answer, 24) == VTOC_E_NAME);
     CHECK(vtoc_release(table, LENGTH, zeros, 44, 0, answer, 24) == VTOC_E_NAME);
-    CHECK(vtoc_scratch(table, LENGTH, zeros, 44, answer, 24) == VTOC_E_NAME);
+    CHECK(vtoc_scratch(table, LENGTH, zeros, 44, today, 4, VTOC_NO_OVERRIDE, answer, 24) == VTOC_E_NAME);
     CHECK(vtoc_rename(table, LENGTH, zeros, 44, name_of("FLT.E"), 44, answer, 24) == VTOC_E_NAME);
     CHECK(vtoc_rename(table, LENGTH, name_of("FLT.A"), 44, zeros, 44, answer, 24) == VTOC_E_NAME);
     /* Characters that a name may have, against the rule of parts: a name for the header, none for the calls. */
@@ -659,6 +883,12 @@ int main(void)
     previews_of_parts();
     previews_refused();
     previews_of_a_full_vtoc();
+    dates_stored();
+    dates_of_scratches();
+    dates_of_earlier_volumes();
+    dates_refused();
+    dates_converted();
+    dates_moved();
     sixteen_extents();
     geometries();
     limits();

@@ -1,7 +1,8 @@
 /*
  * recorder.c: records the calls of a host, as docs/REPLAY.md says ('How to record'), without a change to the host. The linker puts
  * it between the two, with -Wl,--wrap=vtoc_initialise and so on for each call and preview. A recording is of one volume, here that
- * of the first call: calls on another table are made and not recorded.
+ * of the first call: calls on another table are made and not recorded. A conversion of a date has no table: once there is one, it
+ * is recorded as lending it.
  *   RECORD       the file to which a record is appended before each call
  *   COPY         the file to which a copy of the table is written, once
  *   COPY_AFTER   after so many records
@@ -13,7 +14,7 @@
 
 #include "vtoc.h"
 
-enum { RECORD_LENGTH = 128, NUMBERS_AT = 8, NAME_AT = 28, SECOND_AT = 74 };
+enum { RECORD_LENGTH = 136, NUMBERS_AT = 8, NAME_AT = 28, SECOND_AT = 74, DATE_LENGTH_AT = 128, DATE_AT = 129 };
 enum { PREVIEW = 128 }; /* added to the operation of the call */
 
 static const char *setting(const char *name)
@@ -47,18 +48,19 @@ struct buffer {
 };
 
 static const struct buffer none = {NULL, 0};
+static struct buffer recorded = {NULL, 0}; /* the table of the first call, with the length that was last lent */
 
 static void note(uint8_t operation, struct buffer table, size_t answer, size_t labels, struct buffer name, struct buffer second,
-                 const uint32_t numbers[5])
+                 struct buffer date, const uint32_t numbers[5])
 {
-    static const uint8_t *recorded = NULL; /* the table of the first call */
     static long records = 0;
     uint8_t record[RECORD_LENGTH] = {0};
-    if (recorded == NULL)
-        recorded = table.bytes;
-    if (table.bytes != recorded)
+    if (recorded.bytes == NULL)
+        recorded = table;
+    if (table.bytes == NULL || table.bytes != recorded.bytes)
         return;
-    if (name.length > 46 || second.length > 54 || answer > 32 || labels > 288 || table.length > 65535) {
+    recorded = table;
+    if (name.length > 46 || second.length > 54 || date.length > 7 || answer > 32 || labels > 288 || table.length > 65535) {
         fprintf(stderr, "recorder: no record can lend so much\n");
         exit(2);
     }
@@ -76,6 +78,9 @@ static void note(uint8_t operation, struct buffer table, size_t answer, size_t l
         memcpy(record + NAME_AT, name.bytes, name.length);
     if (second.length > 0)
         memcpy(record + SECOND_AT, second.bytes, second.length);
+    put(record + DATE_LENGTH_AT, (uint32_t)date.length, 1);
+    if (date.length > 0)
+        memcpy(record + DATE_AT, date.bytes, date.length);
     write_file(setting("RECORD"), "ab", record, sizeof record);
     records++;
 }
@@ -93,24 +98,25 @@ uint32_t __wrap_vtoc_initialise(uint8_t *t, size_t tn, uint32_t c, uint32_t h, u
                                 size_t an)
 {
     const uint32_t numbers[5] = {c, h, d, s, v};
-    note(1, lent(t, tn), an, 0, none, none, numbers);
+    note(1, lent(t, tn), an, 0, none, none, none, numbers);
     return __real_vtoc_initialise(t, tn, c, h, d, s, v, a, an);
 }
 
 uint32_t __real_vtoc_allocate(uint8_t *, size_t, const uint8_t *, size_t, const uint8_t *, size_t, uint32_t, uint32_t, uint32_t,
-                              uint32_t, uint32_t, uint8_t *, size_t);
+                              uint32_t, uint32_t, const uint8_t *, size_t, uint8_t *, size_t);
 uint32_t __wrap_vtoc_allocate(uint8_t *t, size_t tn, const uint8_t *n, size_t nn, const uint8_t *x, size_t xn, uint32_t kind,
-                              uint32_t start, uint32_t amount, uint32_t secondary, uint32_t option, uint8_t *a, size_t an)
+                              uint32_t start, uint32_t amount, uint32_t secondary, uint32_t option, const uint8_t *e, size_t en,
+                              uint8_t *a, size_t an)
 {
     const uint32_t numbers[5] = {kind, start, amount, secondary, option};
-    note(2, lent(t, tn), an, 0, lent(n, nn), lent(x, xn), numbers);
-    return __real_vtoc_allocate(t, tn, n, nn, x, xn, kind, start, amount, secondary, option, a, an);
+    note(2, lent(t, tn), an, 0, lent(n, nn), lent(x, xn), lent(e, en), numbers);
+    return __real_vtoc_allocate(t, tn, n, nn, x, xn, kind, start, amount, secondary, option, e, en, a, an);
 }
 
 uint32_t __real_vtoc_extend(uint8_t *, size_t, const uint8_t *, size_t, uint8_t *, size_t);
 uint32_t __wrap_vtoc_extend(uint8_t *t, size_t tn, const uint8_t *n, size_t nn, uint8_t *a, size_t an)
 {
-    note(3, lent(t, tn), an, 0, lent(n, nn), none, NULL);
+    note(3, lent(t, tn), an, 0, lent(n, nn), none, none, NULL);
     return __real_vtoc_extend(t, tn, n, nn, a, an);
 }
 
@@ -118,53 +124,55 @@ uint32_t __real_vtoc_release(uint8_t *, size_t, const uint8_t *, size_t, uint32_
 uint32_t __wrap_vtoc_release(uint8_t *t, size_t tn, const uint8_t *n, size_t nn, uint32_t ttr, uint8_t *a, size_t an)
 {
     const uint32_t numbers[5] = {ttr, 0, 0, 0, 0};
-    note(4, lent(t, tn), an, 0, lent(n, nn), none, numbers);
+    note(4, lent(t, tn), an, 0, lent(n, nn), none, none, numbers);
     return __real_vtoc_release(t, tn, n, nn, ttr, a, an);
 }
 
-uint32_t __real_vtoc_scratch(uint8_t *, size_t, const uint8_t *, size_t, uint8_t *, size_t);
-uint32_t __wrap_vtoc_scratch(uint8_t *t, size_t tn, const uint8_t *n, size_t nn, uint8_t *a, size_t an)
+uint32_t __real_vtoc_scratch(uint8_t *, size_t, const uint8_t *, size_t, const uint8_t *, size_t, uint32_t, uint8_t *, size_t);
+uint32_t __wrap_vtoc_scratch(uint8_t *t, size_t tn, const uint8_t *n, size_t nn, const uint8_t *d, size_t dn, uint32_t override,
+                             uint8_t *a, size_t an)
 {
-    note(5, lent(t, tn), an, 0, lent(n, nn), none, NULL);
-    return __real_vtoc_scratch(t, tn, n, nn, a, an);
+    const uint32_t numbers[5] = {override, 0, 0, 0, 0};
+    note(5, lent(t, tn), an, 0, lent(n, nn), none, lent(d, dn), numbers);
+    return __real_vtoc_scratch(t, tn, n, nn, d, dn, override, a, an);
 }
 
 uint32_t __real_vtoc_rename(uint8_t *, size_t, const uint8_t *, size_t, const uint8_t *, size_t, uint8_t *, size_t);
 uint32_t __wrap_vtoc_rename(uint8_t *t, size_t tn, const uint8_t *o, size_t on, const uint8_t *n, size_t nn, uint8_t *a, size_t an)
 {
-    note(6, lent(t, tn), an, 0, lent(o, on), lent(n, nn), NULL);
+    note(6, lent(t, tn), an, 0, lent(o, on), lent(n, nn), none, NULL);
     return __real_vtoc_rename(t, tn, o, on, n, nn, a, an);
 }
 
 uint32_t __real_vtoc_obtain(const uint8_t *, size_t, const uint8_t *, size_t, uint8_t *, size_t, uint8_t *, size_t);
 uint32_t __wrap_vtoc_obtain(const uint8_t *t, size_t tn, const uint8_t *n, size_t nn, uint8_t *l, size_t ln, uint8_t *a, size_t an)
 {
-    note(7, lent(t, tn), an, ln, lent(n, nn), none, NULL);
+    note(7, lent(t, tn), an, ln, lent(n, nn), none, none, NULL);
     return __real_vtoc_obtain(t, tn, n, nn, l, ln, a, an);
 }
 
 uint32_t __real_vtoc_lspace(const uint8_t *, size_t, uint8_t *, size_t);
 uint32_t __wrap_vtoc_lspace(const uint8_t *t, size_t tn, uint8_t *a, size_t an)
 {
-    note(8, lent(t, tn), an, 0, none, none, NULL);
+    note(8, lent(t, tn), an, 0, none, none, none, NULL);
     return __real_vtoc_lspace(t, tn, a, an);
 }
 
 uint32_t __real_vtoc_preview_allocate(const uint8_t *, size_t, const uint8_t *, size_t, const uint8_t *, size_t, uint32_t, uint32_t,
-                                      uint32_t, uint32_t, uint32_t, uint8_t *, size_t);
+                                      uint32_t, uint32_t, uint32_t, const uint8_t *, size_t, uint8_t *, size_t);
 uint32_t __wrap_vtoc_preview_allocate(const uint8_t *t, size_t tn, const uint8_t *n, size_t nn, const uint8_t *x, size_t xn,
                                       uint32_t kind, uint32_t start, uint32_t amount, uint32_t secondary, uint32_t option,
-                                      uint8_t *a, size_t an)
+                                      const uint8_t *e, size_t en, uint8_t *a, size_t an)
 {
     const uint32_t numbers[5] = {kind, start, amount, secondary, option};
-    note(PREVIEW + 2, lent(t, tn), an, 0, lent(n, nn), lent(x, xn), numbers);
-    return __real_vtoc_preview_allocate(t, tn, n, nn, x, xn, kind, start, amount, secondary, option, a, an);
+    note(PREVIEW + 2, lent(t, tn), an, 0, lent(n, nn), lent(x, xn), lent(e, en), numbers);
+    return __real_vtoc_preview_allocate(t, tn, n, nn, x, xn, kind, start, amount, secondary, option, e, en, a, an);
 }
 
 uint32_t __real_vtoc_preview_extend(const uint8_t *, size_t, const uint8_t *, size_t, uint8_t *, size_t);
 uint32_t __wrap_vtoc_preview_extend(const uint8_t *t, size_t tn, const uint8_t *n, size_t nn, uint8_t *a, size_t an)
 {
-    note(PREVIEW + 3, lent(t, tn), an, 0, lent(n, nn), none, NULL);
+    note(PREVIEW + 3, lent(t, tn), an, 0, lent(n, nn), none, none, NULL);
     return __real_vtoc_preview_extend(t, tn, n, nn, a, an);
 }
 
@@ -172,13 +180,30 @@ uint32_t __real_vtoc_preview_release(const uint8_t *, size_t, const uint8_t *, s
 uint32_t __wrap_vtoc_preview_release(const uint8_t *t, size_t tn, const uint8_t *n, size_t nn, uint32_t ttr, uint8_t *a, size_t an)
 {
     const uint32_t numbers[5] = {ttr, 0, 0, 0, 0};
-    note(PREVIEW + 4, lent(t, tn), an, 0, lent(n, nn), none, numbers);
+    note(PREVIEW + 4, lent(t, tn), an, 0, lent(n, nn), none, none, numbers);
     return __real_vtoc_preview_release(t, tn, n, nn, ttr, a, an);
 }
 
-uint32_t __real_vtoc_preview_scratch(const uint8_t *, size_t, const uint8_t *, size_t, uint8_t *, size_t);
-uint32_t __wrap_vtoc_preview_scratch(const uint8_t *t, size_t tn, const uint8_t *n, size_t nn, uint8_t *a, size_t an)
+uint32_t __real_vtoc_preview_scratch(const uint8_t *, size_t, const uint8_t *, size_t, const uint8_t *, size_t, uint32_t, uint8_t *,
+                                     size_t);
+uint32_t __wrap_vtoc_preview_scratch(const uint8_t *t, size_t tn, const uint8_t *n, size_t nn, const uint8_t *d, size_t dn,
+                                     uint32_t override, uint8_t *a, size_t an)
 {
-    note(PREVIEW + 5, lent(t, tn), an, 0, lent(n, nn), none, NULL);
-    return __real_vtoc_preview_scratch(t, tn, n, nn, a, an);
+    const uint32_t numbers[5] = {override, 0, 0, 0, 0};
+    note(PREVIEW + 5, lent(t, tn), an, 0, lent(n, nn), none, lent(d, dn), numbers);
+    return __real_vtoc_preview_scratch(t, tn, n, nn, d, dn, override, a, an);
+}
+
+uint32_t __real_vtoc_date_to_stored(const uint8_t *, size_t, uint8_t *, size_t);
+uint32_t __wrap_vtoc_date_to_stored(const uint8_t *d, size_t dn, uint8_t *a, size_t an)
+{
+    note(10, recorded, an, 0, none, none, lent(d, dn), NULL);
+    return __real_vtoc_date_to_stored(d, dn, a, an);
+}
+
+uint32_t __real_vtoc_date_to_packed(const uint8_t *, size_t, uint8_t *, size_t);
+uint32_t __wrap_vtoc_date_to_packed(const uint8_t *d, size_t dn, uint8_t *a, size_t an)
+{
+    note(11, recorded, an, 0, none, none, lent(d, dn), NULL);
+    return __real_vtoc_date_to_packed(d, dn, a, an);
 }

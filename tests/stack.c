@@ -16,6 +16,7 @@ enum { STACK = 1 << 20, PATTERN = 0xA5, CYLINDERS = 4369, HEADS = 15, RECORDS = 
 static uint8_t table[LENGTH * RECORDS * VTOC_RECORD_LENGTH];
 static uint8_t answer[VTOC_ANSWER_LENGTH], labels[VTOC_LABELS_LENGTH];
 static const uint8_t attributes[VTOC_ATTRIBUTES_LENGTH];
+static uint8_t today[VTOC_PACKED_LENGTH], stored[VTOC_STORED_LENGTH];
 static uint32_t result;
 
 /* Names A.A000 to A.A999 in EBCDIC. */
@@ -34,7 +35,7 @@ static uint32_t allocate(unsigned number, uint32_t kind, uint32_t start, uint32_
     uint8_t name[VTOC_NAME_LENGTH];
     make_name(name, number);
     return vtoc_allocate(table, sizeof table, name, sizeof name, attributes, sizeof attributes, kind, start, amount, secondary,
-                         VTOC_NO_OPTION, answer, sizeof answer);
+                         VTOC_NO_OPTION, vtoc_no_expiry(), VTOC_PACKED_LENGTH, answer, sizeof answer);
 }
 
 static uint8_t one[VTOC_NAME_LENGTH], other[VTOC_NAME_LENGTH], plot[VTOC_NAME_LENGTH];
@@ -53,7 +54,7 @@ static void *do_initialise(void *unused)
 static void grant(uint32_t amount, uint32_t option)
 {
     result = vtoc_allocate(table, sizeof table, other, sizeof other, attributes, sizeof attributes, VTOC_TRACKS, 0, amount, 1,
-                           option, answer, sizeof answer);
+                           option, today, sizeof today, answer, sizeof answer);
 }
 
 static void *do_allocate(void *unused)
@@ -111,7 +112,7 @@ static void *do_release_plot(void *unused)
 
 static void *do_scratch(void *unused)
 {
-    result = vtoc_scratch(table, sizeof table, one, sizeof one, answer, sizeof answer);
+    result = vtoc_scratch(table, sizeof table, one, sizeof one, today, sizeof today, VTOC_NO_OVERRIDE, answer, sizeof answer);
     return unused;
 }
 
@@ -136,7 +137,7 @@ static void *do_lspace(void *unused)
 static void *do_preview_allocate(void *unused)
 {
     result = vtoc_preview_allocate(table, sizeof table, other, sizeof other, attributes, sizeof attributes, VTOC_TRACKS, 0, 1, 1,
-                                   VTOC_ALX, answer, sizeof answer);
+                                   VTOC_ALX, today, sizeof today, answer, sizeof answer);
     return unused;
 }
 
@@ -154,7 +155,20 @@ static void *do_preview_release(void *unused)
 
 static void *do_preview_scratch(void *unused)
 {
-    result = vtoc_preview_scratch(table, sizeof table, one, sizeof one, answer, sizeof answer);
+    result = vtoc_preview_scratch(table, sizeof table, one, sizeof one, today, sizeof today, VTOC_NO_OVERRIDE, answer,
+                                  sizeof answer);
+    return unused;
+}
+
+static void *do_date_to_stored(void *unused)
+{
+    result = vtoc_date_to_stored(today, sizeof today, answer, sizeof answer);
+    return unused;
+}
+
+static void *do_date_to_packed(void *unused)
+{
+    result = vtoc_date_to_packed(stored, sizeof stored, answer, sizeof answer);
     return unused;
 }
 
@@ -187,9 +201,15 @@ int main(void)
                  {"MXIG", do_mxig},       {"ALX", do_alx},         {"cylinders", do_release_plot},
                  {"initialise", do_initialise},
                  {"preview allocate", do_preview_allocate},        {"preview extend", do_preview_extend},
-                 {"preview release", do_preview_release},          {"preview scratch", do_preview_scratch}};
+                 {"preview release", do_preview_release},          {"preview scratch", do_preview_scratch},
+                 {"date to stored", do_date_to_stored},            {"date to packed", do_date_to_packed}};
     static uint8_t before[sizeof table];
     size_t base = used(nothing), most = 0;
+
+    if (vtoc_packed_date(today, 2000, 366) != VTOC_OK)
+        return 2;
+    do_date_to_stored(NULL);
+    memcpy(stored, answer, sizeof stored);
 
     /* The largest table: 400 data sets with a free track after each, the first of 15 extents; and a cylinder file of 15. */
     do_initialise(NULL);
