@@ -12,17 +12,17 @@ use Rattle.model.specs.Choice.{choose}
 use Rattle.model.specs.Model.{format0s, free, gaps, held, unused, used}
 use Rattle.model.specs.Tracks.{tracksKept}
 use Rattle.rules.specs.Calls.{allocate, dateToPacked, dateToStored, extend, grant, lspace, obtain, preview, release, rename, request, rule, scratch}
-use Rattle.rules.specs.Dates.{toPacked, toStored}
-use Rattle.rules.specs.Entries.{goodLengths, initialise, perform}
+use Rattle.rules.specs.Dates.{expiryFrom, toPacked, toStored, withExpiry}
+use Rattle.rules.specs.Entries.{convertDate, goodLengths, initialise, perform}
 use Rattle.rules.specs.Layout.{encode, extentPart, format1, format3, format4, format5, records}
 use Rattle.rules.specs.Listing.{listing, printable}
 use Rattle.rules.specs.Reading.{read, readExtents, readGeometry, readLabel, readRecords}
 use Rattle.rules.specs.Slots.{settle}
 use Rattle.rules.specs.Table.{goodLabel, goodLength, goodName, limits, taken, valid}
-use Rattle.case_rows.specs.Check.{Row, attr, attrN, begin, beginSized, build, date, hurt, listed, nm, no, noDate, ok, okLabels, parts, put, raw, right, sized}"""
+use Rattle.case_rows.specs.Check.{Row, attr, attrN, begin, beginSized, build, convertSized, date, hurt, listed, nm, no, noDate, ok, okLabels, parts, put, raw, right, sized, told, untold}"""
 UNFOLDED = """held gaps free used unused format0s choose extentPart format4 format5 format1 format3 records encode
-readGeometry readExtents readLabel readRecords read goodName limits goodLabel valid taken goodLength settle grant tracksKept rule
-goodLengths perform initialise printable listing toStored toPacked""".replace("\n", " ")
+readGeometry readExtents readLabel readRecords read goodName limits goodLabel valid taken goodLength settle grant tracksKept
+toStored toPacked expiryFrom withExpiry rule goodLengths perform initialise convertDate printable listing""".replace("\n", " ")
 LONG = 45  # rows: more would pass the checker's limit of steps, so the first calls of such a sequence become one row
 CHAINS = [20]  # the sequences are in three crates, so that each is computed within a minute
 REQUESTS = 31  # the first one of document 02

@@ -2,8 +2,9 @@
 use dscb::Geometry;
 use refusals::*;
 ghost use mathlib.Core.Path.{_≡_};
+ghost use mathlib.Core.Bool.{_&&_};
 ghost use Prim.Native.Nat.{_*_};
-ghost use lib.Dec.{T};
+ghost use lib.Dec.{T, eqb};
 ghost use lib.ListN.{length};
 ghost use Rattle.model.specs.Model.{slots};
 ghost use Rattle.rules.specs.Reading.{read};
@@ -13,6 +14,16 @@ ghost use Rattle.dscb.specs.Forms.{geometryOf};
 ghost use Rattle.rules.specs.Contracts.{Allocates, PreviewsAllocate};
 ghost use Rattle.check_table.specs.Check.{Roomy};
 ghost use Rattle.call_allocate.specs.Vetting.{Vets};
+
+// Whether the buffers but the table have the lengths that they must have.
+fn right_lengths(answer: usize, name: usize, attributes: usize, expiry: usize) -> bool
+    ensures { λ r. ⌜ r ≡ (eqb answer 24 && (eqb name 44 && eqb attributes 52 && eqb expiry 4)) ⌝ }
+{
+    if open_table::and_another(answer, name, attributes, 52) {} else {
+        return false;
+    }
+    expiry == 4
+}
 
 // Refuses a request for an unknown kind or option, a number out of its range or a name that is on the volume: 7, 7, 6, or 0.
 fn vet(
@@ -51,17 +62,22 @@ fn allocate_in(
     amount: u32,
     secondary: u32,
     option: u32,
+    expiry: &[u8],
     answer: &mut [u8],
     free_tracks: &mut [u64],
 ) -> u32
     requires { ⌜ Roomy (now table) (now «free_tracks») ⌝ }
-    ensures { λ r. ⌜ Allocates (now (table .entry)) (now (name .entry)) (now (attributes .entry)) kind start amount secondary option (now (answer .entry)) r (now (table .exit)) (now (answer .exit)) ⌝ }
+    ensures { λ r. ⌜ Allocates (now (table .entry)) (now (name .entry)) (now (attributes .entry)) kind start amount secondary option (now (expiry .entry)) (now (answer .entry)) r (now (table .exit)) (now (answer .exit)) ⌝ }
 {
     let mut free_slots = [0u64; 8];
-    let lengths = open_table::and_another(answer.len(), name.len(), attributes.len(), 52);
+    let lengths = right_lengths(answer.len(), name.len(), attributes.len(), expiry.len());
     let opened = open_table::open_named(table, name, lengths, free_tracks, &mut free_slots);
     if opened.refusal != 0 {
         return opened.refusal;
+    }
+    let date = dates::expiry_from(expiry);
+    if date.ok {} else {
+        return E_DATE;
     }
     let g = opened.geometry;
     let refusal = vet(table, g, name, kind, start, amount, secondary, option);
@@ -69,13 +85,15 @@ fn allocate_in(
         return refusal;
     }
     let request = request::read_request(kind, start, amount, secondary, option);
+    let stored = date.bytes;
+    let dated = dates::with_expiry(&stored, attributes);
     grant_space::place(
         table,
         g,
         free_tracks,
         &mut free_slots,
         name,
-        attributes,
+        &dated,
         request,
         answer,
     )
@@ -91,9 +109,10 @@ pub fn allocate(
     amount: u32,
     secondary: u32,
     option: u32,
+    expiry: &[u8],
     answer: &mut [u8],
 ) -> u32
-    ensures { λ r. ⌜ Allocates (now (table .entry)) (now (name .entry)) (now (attributes .entry)) kind start amount secondary option (now (answer .entry)) r (now (table .exit)) (now (answer .exit)) ⌝ }
+    ensures { λ r. ⌜ Allocates (now (table .entry)) (now (name .entry)) (now (attributes .entry)) kind start amount secondary option (now (expiry .entry)) (now (answer .entry)) r (now (table .exit)) (now (answer .exit)) ⌝ }
 {
     if open_table::is_small(table) {
         let mut free_tracks = [u64::MAX; 64];
@@ -106,6 +125,7 @@ pub fn allocate(
             amount,
             secondary,
             option,
+            expiry,
             answer,
             &mut free_tracks,
         );
@@ -120,6 +140,7 @@ pub fn allocate(
         amount,
         secondary,
         option,
+        expiry,
         answer,
         &mut free_tracks,
     )
@@ -137,17 +158,22 @@ fn preview_in(
     amount: u32,
     secondary: u32,
     option: u32,
+    expiry: &[u8],
     answer: &mut [u8],
     free_tracks: &mut [u64],
 ) -> u32
     requires { ⌜ Roomy (now table) (now «free_tracks») ⌝ }
-    ensures { λ r. ⌜ PreviewsAllocate (now (table .entry)) (now (name .entry)) (now (attributes .entry)) kind start amount secondary option (now (answer .entry)) r (now (answer .exit)) ⌝ }
+    ensures { λ r. ⌜ PreviewsAllocate (now (table .entry)) (now (name .entry)) (now (attributes .entry)) kind start amount secondary option (now (expiry .entry)) (now (answer .entry)) r (now (answer .exit)) ⌝ }
 {
     let mut free_slots = [0u64; 8];
-    let lengths = open_table::and_another(answer.len(), name.len(), attributes.len(), 52);
+    let lengths = right_lengths(answer.len(), name.len(), attributes.len(), expiry.len());
     let opened = open_table::open_named(table, name, lengths, free_tracks, &mut free_slots);
     if opened.refusal != 0 {
         return opened.refusal;
+    }
+    let date = dates::expiry_from(expiry);
+    if date.ok {} else {
+        return E_DATE;
     }
     let g = opened.geometry;
     let refusal = vet(table, g, name, kind, start, amount, secondary, option);
@@ -168,9 +194,10 @@ pub fn preview(
     amount: u32,
     secondary: u32,
     option: u32,
+    expiry: &[u8],
     answer: &mut [u8],
 ) -> u32
-    ensures { λ r. ⌜ PreviewsAllocate (now (table .entry)) (now (name .entry)) (now (attributes .entry)) kind start amount secondary option (now (answer .entry)) r (now (answer .exit)) ⌝ }
+    ensures { λ r. ⌜ PreviewsAllocate (now (table .entry)) (now (name .entry)) (now (attributes .entry)) kind start amount secondary option (now (expiry .entry)) (now (answer .entry)) r (now (answer .exit)) ⌝ }
 {
     if open_table::is_small(table) {
         let mut free_tracks = [u64::MAX; 64];
@@ -183,6 +210,7 @@ pub fn preview(
             amount,
             secondary,
             option,
+            expiry,
             answer,
             &mut free_tracks,
         );
@@ -197,6 +225,7 @@ pub fn preview(
         amount,
         secondary,
         option,
+        expiry,
         answer,
         &mut free_tracks,
     )

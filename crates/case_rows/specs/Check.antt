@@ -17,8 +17,8 @@ use Rattle.rules.specs.Listing.{listing}
 -- the digest of its labels besides; a refused call, which changes nothing; a call on a damaged copy of the table; a call on a copy of
 -- another length, with buffers of these lengths; the digest of the listing of a copy that is damaged and has this length; the digest
 -- of all that `extentPart` gives for records of these lengths. The copies are thrown away. Bytes put into the table itself, as it may
--- come from elsewhere. A date that is converted, with the answer; one that is not; one that is not, with a table and an answer of these
--- lengths.
+-- come from elsewhere. A date that is converted, with the answer; one that is not; one beside a table of this length, which stays, with
+-- an answer of this length.
 pub data Row : Type 0 where
   begin : (c h d s v number digest : ℕ) → Row
   beginSized : (c h d s v tableLength answerLength number : ℕ) → Row
@@ -33,7 +33,7 @@ pub data Row : Type 0 where
   put : List (ℕ × ℕ) → Row
   told : DateCall → (answer : ℕ) → Row
   untold : DateCall → (number : ℕ) → Row
-  untoldSized : (tableLength answerLength : ℕ) → DateCall → (number : ℕ) → Row
+  convertSized : (tableLength answerLength : ℕ) → DateCall → (number : ℕ) → Row
 
 -- ---- names, attributes, dates, bytes as numbers
 
@@ -154,4 +154,6 @@ right t (parts l1 l3 text ∷ rows) = eqb (digest (partsOf (attrN l1 1) (attrN l
 right t (put ps ∷ rows) = right (damaged ps t) rows
 right t (told c answer ∷ rows) = accepted (convertDate c (lent t (buffer 24) [])) answer (digest t) && right t rows
 right t (untold c n ∷ rows) = let b : Lent = lent t (buffer 24) [] in refused b (convertDate c b) n && right t rows
-right t (untoldSized tl al c n ∷ rows) = let b : Lent = lent (fill tl t) (buffer al) [] in refused b (convertDate c b) n && right t rows
+right t (convertSized tl al c n ∷ rows) =
+    let r : Result = convertDate c (lent (fill tl t) (buffer al) []) in
+    eqb (r .number) n && same (r .after .table) (fill tl t) && right t rows

@@ -5,24 +5,25 @@ use Rattle.model.specs.Choice.{choose}
 use Rattle.model.specs.Model.{format0s, free, gaps, held, unused, used}
 use Rattle.model.specs.Tracks.{tracksKept}
 use Rattle.rules.specs.Calls.{allocate, extend, grant, lspace, obtain, release, rename, request, rule, scratch}
-use Rattle.rules.specs.Entries.{goodLengths, initialise, perform}
+use Rattle.rules.specs.Dates.{expiryFrom, toPacked, toStored, withExpiry}
+use Rattle.rules.specs.Entries.{convertDate, goodLengths, initialise, perform}
 use Rattle.rules.specs.Layout.{encode, extentPart, format1, format3, format4, format5, records}
 use Rattle.rules.specs.Listing.{listing, printable}
 use Rattle.rules.specs.Reading.{read, readExtents, readGeometry, readLabel, readRecords}
 use Rattle.rules.specs.Slots.{settle}
 use Rattle.rules.specs.Table.{goodLabel, goodLength, goodName, limits, taken, valid}
-use Rattle.case_rows.specs.Check.{Row, attr, attrN, begin, beginSized, build, hurt, listed, nm, no, ok, okLabels, parts, raw, right, sized}
+use Rattle.case_rows.specs.Check.{Row, attr, attrN, begin, beginSized, build, date, hurt, listed, nm, no, noDate, ok, okLabels, parts, raw, right, sized}
 
 -- Volume A, step by step; after step 3, damaged copies of it
 
 abbrev pub sequence1 : List Row
 sequence1 =
     build 4 5 4 1 2
-    (allocate (request (nm (0xC6 ∷ 0xD3 ∷ 0xE3 ∷ 0x4B ∷ 0xC1 ∷ [])) (attr 1) 0 0 4 0 0)
-    ∷ allocate (request (nm (0xC6 ∷ 0xD3 ∷ 0xE3 ∷ 0x4B ∷ 0xC2 ∷ [])) (attr 2) 1 0 1 0 0)
-    ∷ allocate (request (nm (0xC6 ∷ 0xD3 ∷ 0xE3 ∷ 0x4B ∷ 0xC3 ∷ [])) (attr 3) 0 0 7 0 0)
+    (allocate (request (nm (0xC6 ∷ 0xD3 ∷ 0xE3 ∷ 0x4B ∷ 0xC1 ∷ [])) (attr 1) 0 0 4 0 0 noDate)
+    ∷ allocate (request (nm (0xC6 ∷ 0xD3 ∷ 0xE3 ∷ 0x4B ∷ 0xC2 ∷ [])) (attr 2) 1 0 1 0 0 noDate)
+    ∷ allocate (request (nm (0xC6 ∷ 0xD3 ∷ 0xE3 ∷ 0x4B ∷ 0xC3 ∷ [])) (attr 3) 0 0 7 0 0 noDate)
     ∷ [])
-    0x19298C6040078FA3
+    0x607A28615DFDB28
     ∷ hurt ((43, 0x05) ∷ []) lspace 3
     ∷ hurt ((44, 0xF5) ∷ []) lspace 3
     ∷ hurt ((48, 0x01) ∷ (49, 0x04) ∷ []) lspace 3
@@ -56,25 +57,25 @@ sequence1 =
     ∷ hurt ((375, 0xFF) ∷ (377, 0x01) ∷ []) lspace 0
     ∷ hurt ((374, 0xC0) ∷ []) lspace 0
     ∷ hurt ((525, 0x01) ∷ []) lspace 0
-    ∷ no (allocate (request (nm (0xC6 ∷ 0xD3 ∷ 0xE3 ∷ 0x4B ∷ 0xC4 ∷ [])) (attr 37) 0 0 2 0 0)) 9
-    ∷ no (allocate (request (nm (0xC6 ∷ 0xD3 ∷ 0xE3 ∷ 0x4B ∷ 0xC4 ∷ [])) (attr 38) 2 19 2 0 0)) 7
-    ∷ no (allocate (request (nm (0xC6 ∷ 0xD3 ∷ 0xE3 ∷ 0x4B ∷ 0xC4 ∷ [])) (attr 39) 2 6 1 0 0)) 9
-    ∷ ok (scratch (nm (0xC6 ∷ 0xD3 ∷ 0xE3 ∷ 0x4B ∷ 0xC2 ∷ []))) 0x500000000000000000000000000000000000000000000 0x1242A656AF42A0A7
+    ∷ no (allocate (request (nm (0xC6 ∷ 0xD3 ∷ 0xE3 ∷ 0x4B ∷ 0xC4 ∷ [])) (attr 37) 0 0 2 0 0 noDate)) 9
+    ∷ no (allocate (request (nm (0xC6 ∷ 0xD3 ∷ 0xE3 ∷ 0x4B ∷ 0xC4 ∷ [])) (attr 38) 2 19 2 0 0 noDate)) 7
+    ∷ no (allocate (request (nm (0xC6 ∷ 0xD3 ∷ 0xE3 ∷ 0x4B ∷ 0xC4 ∷ [])) (attr 39) 2 6 1 0 0 noDate)) 9
+    ∷ ok (scratch (nm (0xC6 ∷ 0xD3 ∷ 0xE3 ∷ 0x4B ∷ 0xC2 ∷ [])) (date 4 0x0080365F) 0) 0x500000000000000000000000000000000000000000000 0x6BC26F421AF9B97
     ∷ no (release (nm (0xC6 ∷ 0xD3 ∷ 0xE3 ∷ 0x4B ∷ 0xC3 ∷ [])) 0x701) 12
-    ∷ ok (release (nm (0xC6 ∷ 0xD3 ∷ 0xE3 ∷ 0x4B ∷ 0xC3 ∷ [])) 0x401) 0x200000000000000000000000000000000000000000000 0x10F7536FDA0F849D
+    ∷ ok (release (nm (0xC6 ∷ 0xD3 ∷ 0xE3 ∷ 0x4B ∷ 0xC3 ∷ [])) 0x401) 0x200000000000000000000000000000000000000000000 0x570D40D4C7C7F8D
     ∷ no (rename (nm (0xC6 ∷ 0xD3 ∷ 0xE3 ∷ 0x4B ∷ 0xC3 ∷ [])) (nm (0xC6 ∷ 0xD3 ∷ 0xE3 ∷ 0x4B ∷ 0xC3 ∷ []))) 6
     ∷ no (rename (nm (0xC6 ∷ 0xD3 ∷ 0xE3 ∷ 0x4B ∷ 0xC3 ∷ [])) (nm (0xC6 ∷ 0xD3 ∷ 0xE3 ∷ 0x4B ∷ 0xC1 ∷ []))) 6
-    ∷ okLabels (obtain (nm (0xC6 ∷ 0xD3 ∷ 0xE3 ∷ 0x4B ∷ 0xC3 ∷ []))) 0x0 0x10F7536FDA0F849D 0x134B0F41A3F82539
-    ∷ ok lspace 0x100030001000100030004000000000000000000000000 0x10F7536FDA0F849D
-    ∷ ok (allocate (request (nm (0xC6 ∷ 0xD3 ∷ 0xE3 ∷ 0x4B ∷ 0xC5 ∷ [])) (attr 47) 0 0 3 5 0)) 0x301000700030000000000000000000000000000000000 0x3648B5994763F8E
-    ∷ ok (extend (nm (0xC6 ∷ 0xD3 ∷ 0xE3 ∷ 0x4B ∷ 0xC5 ∷ []))) 0x501000A00050000000000000000000000000000000000 0xAC04E0031B0FC5B
-    ∷ ok (scratch (nm (0xC6 ∷ 0xD3 ∷ 0xE3 ∷ 0x4B ∷ 0xC1 ∷ []))) 0x400000000000000000000000000000000000000000000 0x1CCACE1660631FCF
-    ∷ ok (scratch (nm (0xC6 ∷ 0xD3 ∷ 0xE3 ∷ 0x4B ∷ 0xC5 ∷ []))) 0x800000000000000000000000000000000000000000000 0x1C3F5DE7FF2DB2FA
-    ∷ ok (scratch (nm (0xC6 ∷ 0xD3 ∷ 0xE3 ∷ 0x4B ∷ 0xC3 ∷ []))) 0x500000000000000000000000000000000000000000000 0xDA248CF69B83C5C
+    ∷ okLabels (obtain (nm (0xC6 ∷ 0xD3 ∷ 0xE3 ∷ 0x4B ∷ 0xC3 ∷ []))) 0x0 0x570D40D4C7C7F8D 0x46E0D4119B105DB
+    ∷ ok lspace 0x100030001000100030004000000000000000000000000 0x570D40D4C7C7F8D
+    ∷ ok (allocate (request (nm (0xC6 ∷ 0xD3 ∷ 0xE3 ∷ 0x4B ∷ 0xC5 ∷ [])) (attr 47) 0 0 3 5 0 noDate)) 0x301000700030000000000000000000000000000000000 0x1638A9360E535BDB
+    ∷ ok (extend (nm (0xC6 ∷ 0xD3 ∷ 0xE3 ∷ 0x4B ∷ 0xC5 ∷ []))) 0x501000A00050000000000000000000000000000000000 0x1D946BDCAB8E18A8
+    ∷ ok (scratch (nm (0xC6 ∷ 0xD3 ∷ 0xE3 ∷ 0x4B ∷ 0xC1 ∷ [])) (date 4 0x0080365F) 0) 0x400000000000000000000000000000000000000000000 0x169787136D926BFC
+    ∷ ok (scratch (nm (0xC6 ∷ 0xD3 ∷ 0xE3 ∷ 0x4B ∷ 0xC5 ∷ [])) (date 4 0x0080365F) 0) 0x800000000000000000000000000000000000000000000 0x17B179A604ECDDC9
+    ∷ ok (scratch (nm (0xC6 ∷ 0xD3 ∷ 0xE3 ∷ 0x4B ∷ 0xC3 ∷ [])) (date 4 0x0080365F) 0) 0x500000000000000000000000000000000000000000000 0xDA248CF69B83C5C
     ∷ []
 
 pub case1 : T (right [] sequence1)
-unfolding held gaps free used unused format0s choose extentPart format4 format5 format1 format3 records encode readGeometry readExtents readLabel readRecords read goodName limits goodLabel valid taken goodLength settle grant tracksKept rule goodLengths perform initialise printable listing
+unfolding held gaps free used unused format0s choose extentPart format4 format5 format1 format3 records encode readGeometry readExtents readLabel readRecords read goodName limits goodLabel valid taken goodLength settle grant tracksKept toStored toPacked expiryFrom withExpiry rule goodLengths perform initialise convertDate printable listing
 case1 = tt
 
 -- Geometries refused, and a table that is not there
@@ -93,11 +94,11 @@ sequence2 =
     ∷ begin 4294967295 4294967295 4294967295 4294967295 4294967295 1 0x0
     ∷ no lspace 2
     ∷ begin 4 5 4 18 2 0 0x1110215C91CC736A
-    ∷ ok (allocate (request (nm (0xC1 ∷ [])) (attr 12) 0 0 17 0 0)) 0x1101000100110000000000000000000000000000000000 0x8EDE555981A2DC8
+    ∷ ok (allocate (request (nm (0xC1 ∷ [])) (attr 12) 0 0 17 0 0 noDate)) 0x1101000100110000000000000000000000000000000000 0x15469FCEB03FEF51
     ∷ []
 
 pub case2 : T (right [] sequence2)
-unfolding held gaps free used unused format0s choose extentPart format4 format5 format1 format3 records encode readGeometry readExtents readLabel readRecords read goodName limits goodLabel valid taken goodLength settle grant tracksKept rule goodLengths perform initialise printable listing
+unfolding held gaps free used unused format0s choose extentPart format4 format5 format1 format3 records encode readGeometry readExtents readLabel readRecords read goodName limits goodLabel valid taken goodLength settle grant tracksKept toStored toPacked expiryFrom withExpiry rule goodLengths perform initialise convertDate printable listing
 case2 = tt
 
 -- H = 1, D = 1, the VTOC from track 2
@@ -106,21 +107,21 @@ abbrev pub sequence3 : List Row
 sequence3 =
     begin 12 1 1 2 5 0 0x1AF84EA7ACBBEE5F
     ∷ ok lspace 0x600000002000500000003000000000000000000000000 0x1AF84EA7ACBBEE5F
-    ∷ ok (allocate (request (nm (0xC1 ∷ [])) (attr 2) 0 0 2 1 0)) 0x201000700020000000000000000000000000000000000 0x13A270C38820BA86
-    ∷ ok (allocate (request (nm (0xC2 ∷ [])) (attr 3) 1 0 4 1 0)) 0x402000900030001000100000000000000000000000000 0x10252DF0E2A22661
-    ∷ ok lspace 0x1000000000000000000000000 0x10252DF0E2A22661
+    ∷ ok (allocate (request (nm (0xC1 ∷ [])) (attr 2) 0 0 2 1 0 noDate)) 0x201000700020000000000000000000000000000000000 0xE98A9206A43D5F2
+    ∷ ok (allocate (request (nm (0xC2 ∷ [])) (attr 3) 1 0 4 1 0 noDate)) 0x402000900030001000100000000000000000000000000 0x1C3E644D3A7E226E
+    ∷ ok lspace 0x1000000000000000000000000 0x1C3E644D3A7E226E
     ∷ no (extend (nm (0xC1 ∷ []))) 9
-    ∷ no (allocate (request (nm (0xC3 ∷ [])) (attr 6) 0 0 1 0 0)) 9
-    ∷ ok (release (nm (0xC2 ∷ [])) 0x101) 0x200000000000000000000000000000000000000000000 0xF381483CC3428C1
-    ∷ ok (extend (nm (0xC2 ∷ []))) 0x101000100010000000000000000000000000000000000 0x1B44247A79A1E540
-    ∷ ok (extend (nm (0xC1 ∷ []))) 0x101000B00010000000000000000000000000000000000 0x18C3D1D863868195
-    ∷ ok (scratch (nm (0xC2 ∷ []))) 0x300000000000000000000000000000000000000000000 0x9EAB03AF702EF1C
-    ∷ okLabels (obtain (nm (0xC1 ∷ []))) 0x0 0x9EAB03AF702EF1C 0xAE6476E55C8EAE3
-    ∷ ok (allocate (request (nm (0xE9 ∷ [])) (attr 12) 0 0 3 0 0)) 0x302000900020001000100000000000000000000000000 0xD30EF36DA8A5B9F
+    ∷ no (allocate (request (nm (0xC3 ∷ [])) (attr 6) 0 0 1 0 0 noDate)) 9
+    ∷ ok (release (nm (0xC2 ∷ [])) 0x101) 0x200000000000000000000000000000000000000000000 0x1B514AE0241024CE
+    ∷ ok (extend (nm (0xC2 ∷ []))) 0x101000100010000000000000000000000000000000000 0x75D5AD6D17DE14E
+    ∷ ok (extend (nm (0xC1 ∷ []))) 0x101000B00010000000000000000000000000000000000 0x4DD0834BB627DA3
+    ∷ ok (scratch (nm (0xC2 ∷ [])) (date 4 0x0080365F) 0) 0x300000000000000000000000000000000000000000000 0x4E0E897D9260A88
+    ∷ okLabels (obtain (nm (0xC1 ∷ []))) 0x0 0x4E0E897D9260A88 0x1652F0C34EEED5F9
+    ∷ ok (allocate (request (nm (0xE9 ∷ [])) (attr 12) 0 0 3 0 0 noDate)) 0x302000900020001000100000000000000000000000000 0xCB31F919390F991
     ∷ []
 
 pub case3 : T (right [] sequence3)
-unfolding held gaps free used unused format0s choose extentPart format4 format5 format1 format3 records encode readGeometry readExtents readLabel readRecords read goodName limits goodLabel valid taken goodLength settle grant tracksKept rule goodLengths perform initialise printable listing
+unfolding held gaps free used unused format0s choose extentPart format4 format5 format1 format3 records encode readGeometry readExtents readLabel readRecords read goodName limits goodLabel valid taken goodLength settle grant tracksKept toStored toPacked expiryFrom withExpiry rule goodLengths perform initialise convertDate printable listing
 case3 = tt
 
 -- The VTOC in the middle of the volume, from inside a cylinder
@@ -129,20 +130,20 @@ abbrev pub sequence4 : List Row
 sequence4 =
     begin 6 4 3 10 2 0 0x19690CAC96DDAEB7
     ∷ ok lspace 0x500010002000300000004000000000000000000000000 0x19690CAC96DDAEB7
-    ∷ ok (allocate (request (nm (0xC3 ∷ 0xE8 ∷ 0xD3 ∷ [])) (attr 2) 1 0 1 1 0)) 0x401000400040000000000000000000000000000000000 0xC8F3FF997441516
-    ∷ no (allocate (request (nm (0xC1 ∷ 0xC2 ∷ 0xE2 ∷ [])) (attr 3) 2 9 2 0 0)) 9
-    ∷ ok (allocate (request (nm (0xC1 ∷ 0xC2 ∷ 0xE2 ∷ [])) (attr 4) 2 9 1 0 0)) 0x101000900010000000000000000000000000000000000 0x6FA8A7D940CE03C
-    ∷ ok (allocate (request (nm (0xC1 ∷ [])) (attr 5) 0 0 3 0 0)) 0x301000100030000000000000000000000000000000000 0x1C0C4A04CAF6C361
-    ∷ ok (allocate (request (nm (0xC2 ∷ [])) (attr 6) 2 12 1 0 0)) 0x101000C00010000000000000000000000000000000000 0x188F62F8BC2F4E25
-    ∷ ok (scratch (nm (0xC1 ∷ []))) 0x300000000000000000000000000000000000000000000 0xB0DC3A421973562
-    ∷ ok (extend (nm (0xC3 ∷ 0xE8 ∷ 0xD3 ∷ []))) 0x401001000040000000000000000000000000000000000 0x15DB5C1C6BBA4B56
-    ∷ ok (scratch (nm (0xC3 ∷ 0xE8 ∷ 0xD3 ∷ []))) 0x800000000000000000000000000000000000000000000 0x1321E4577B8FA6BF
-    ∷ ok (scratch (nm (0xC2 ∷ []))) 0x100000000000000000000000000000000000000000000 0x151FD66EE3A3FF2A
-    ∷ ok (scratch (nm (0xC1 ∷ 0xC2 ∷ 0xE2 ∷ []))) 0x100000000000000000000000000000000000000000000 0x19690CAC96DDAEB7
+    ∷ ok (allocate (request (nm (0xC3 ∷ 0xE8 ∷ 0xD3 ∷ [])) (attr 2) 1 0 1 1 0 noDate)) 0x401000400040000000000000000000000000000000000 0x985FD22F06E31A0
+    ∷ no (allocate (request (nm (0xC1 ∷ 0xC2 ∷ 0xE2 ∷ [])) (attr 3) 2 9 2 0 0 noDate)) 9
+    ∷ ok (allocate (request (nm (0xC1 ∷ 0xC2 ∷ 0xE2 ∷ [])) (attr 4) 2 9 1 0 0 noDate)) 0x101000900010000000000000000000000000000000000 0x19DDB860B17D339D
+    ∷ ok (allocate (request (nm (0xC1 ∷ [])) (attr 5) 0 0 3 0 0 noDate)) 0x301000100030000000000000000000000000000000000 0xB7F1F3C5745E27B
+    ∷ ok (allocate (request (nm (0xC2 ∷ [])) (attr 6) 2 12 1 0 0 noDate)) 0x101000C00010000000000000000000000000000000000 0x14FC6DD8B044BFD8
+    ∷ ok (scratch (nm (0xC1 ∷ [])) (date 4 0x0080365F) 0) 0x300000000000000000000000000000000000000000000 0xAEB272FA6CDDB5D
+    ∷ ok (extend (nm (0xC3 ∷ 0xE8 ∷ 0xD3 ∷ []))) 0x401001000040000000000000000000000000000000000 0x15B8BFA7F0F0F151
+    ∷ ok (scratch (nm (0xC3 ∷ 0xE8 ∷ 0xD3 ∷ [])) (date 4 0x0080365F) 0) 0x800000000000000000000000000000000000000000000 0x16088AB9A79C3030
+    ∷ ok (scratch (nm (0xC2 ∷ [])) (date 4 0x0080365F) 0) 0x100000000000000000000000000000000000000000000 0xB0C4728A7EA3602
+    ∷ ok (scratch (nm (0xC1 ∷ 0xC2 ∷ 0xE2 ∷ [])) (date 4 0x0080365F) 0) 0x100000000000000000000000000000000000000000000 0x19690CAC96DDAEB7
     ∷ []
 
 pub case4 : T (right [] sequence4)
-unfolding held gaps free used unused format0s choose extentPart format4 format5 format1 format3 records encode readGeometry readExtents readLabel readRecords read goodName limits goodLabel valid taken goodLength settle grant tracksKept rule goodLengths perform initialise printable listing
+unfolding held gaps free used unused format0s choose extentPart format4 format5 format1 format3 records encode readGeometry readExtents readLabel readRecords read goodName limits goodLabel valid taken goodLength settle grant tracksKept toStored toPacked expiryFrom withExpiry rule goodLengths perform initialise convertDate printable listing
 case4 = tt
 
 -- Nothing free at all
@@ -151,17 +152,17 @@ abbrev pub sequence5 : List Row
 sequence5 =
     begin 4 1 1 1 3 0 0x4F420B836C000B7
     ∷ ok lspace 0x1000000000000000000000000 0x4F420B836C000B7
-    ∷ no (allocate (request (nm (0xC1 ∷ [])) (attr 2) 0 0 1 0 0)) 9
-    ∷ no (allocate (request (nm (0xC1 ∷ [])) (attr 3) 2 0 1 0 0)) 9
+    ∷ no (allocate (request (nm (0xC1 ∷ [])) (attr 2) 0 0 1 0 0 noDate)) 9
+    ∷ no (allocate (request (nm (0xC1 ∷ [])) (attr 3) 2 0 1 0 0 noDate)) 9
     ∷ begin 2 3 4 1 1 0 0x7BB452939692662
-    ∷ ok (allocate (request (nm (0xC1 ∷ [])) (attr 5) 0 0 4 0 0)) 0x401000200040000000000000000000000000000000000 0x1DF433A569FE1C35
-    ∷ ok lspace 0x1000000000000000000000000 0x1DF433A569FE1C35
-    ∷ ok (release (nm (0xC1 ∷ [])) 0x301) 0x0 0x2E48D8778667BD8
-    ∷ ok (release (nm (0xC1 ∷ [])) 0x0) 0x300000000000000000000000000000000000000000000 0x13151C45312B599C
+    ∷ ok (allocate (request (nm (0xC1 ∷ [])) (attr 5) 0 0 4 0 0 noDate)) 0x401000200040000000000000000000000000000000000 0x1A83DAF9D8DCE7ED
+    ∷ ok lspace 0x1000000000000000000000000 0x1A83DAF9D8DCE7ED
+    ∷ ok (release (nm (0xC1 ∷ [])) 0x301) 0x0 0x1F7434DBE745478F
+    ∷ ok (release (nm (0xC1 ∷ [])) 0x0) 0x300000000000000000000000000000000000000000000 0xFA4C399A00A2554
     ∷ []
 
 pub case5 : T (right [] sequence5)
-unfolding held gaps free used unused format0s choose extentPart format4 format5 format1 format3 records encode readGeometry readExtents readLabel readRecords read goodName limits goodLabel valid taken goodLength settle grant tracksKept rule goodLengths perform initialise printable listing
+unfolding held gaps free used unused format0s choose extentPart format4 format5 format1 format3 records encode readGeometry readExtents readLabel readRecords read goodName limits goodLabel valid taken goodLength settle grant tracksKept toStored toPacked expiryFrom withExpiry rule goodLengths perform initialise convertDate printable listing
 case5 = tt
 
 -- Three records: one set, and the VTOC is full
@@ -169,20 +170,20 @@ case5 = tt
 abbrev pub sequence6 : List Row
 sequence6 =
     begin 5 4 3 1 1 0 0x81D3C6547556D5E
-    ∷ ok (allocate (request (nm (0xC1 ∷ [])) (attr 1) 0 0 1 1 0)) 0x101000200010000000000000000000000000000000000 0xBBA6FE782B3B8D5
-    ∷ no (allocate (request (nm (0xC2 ∷ [])) (attr 2) 0 0 1 0 0)) 11
-    ∷ ok (extend (nm (0xC1 ∷ []))) 0x101000300010000000000000000000000000000000000 0x17B2B0A23C5B6D8E
-    ∷ ok (extend (nm (0xC1 ∷ []))) 0x101000400010000000000000000000000000000000000 0x751B4F73B47406F
+    ∷ ok (allocate (request (nm (0xC1 ∷ [])) (attr 1) 0 0 1 1 0 noDate)) 0x101000200010000000000000000000000000000000000 0x133978D8E954C699
+    ∷ no (allocate (request (nm (0xC2 ∷ [])) (attr 2) 0 0 1 0 0 noDate)) 11
+    ∷ ok (extend (nm (0xC1 ∷ []))) 0x101000300010000000000000000000000000000000000 0x1F31B993A2FC7B52
+    ∷ ok (extend (nm (0xC1 ∷ []))) 0x101000400010000000000000000000000000000000000 0xED0BDE8A1E84E33
     ∷ no (extend (nm (0xC1 ∷ []))) 11
-    ∷ ok (release (nm (0xC1 ∷ [])) 0x107) 0x100000000000000000000000000000000000000000000 0x1EF03FBFEB0C2330
-    ∷ ok (extend (nm (0xC1 ∷ []))) 0x101000400010000000000000000000000000000000000 0xE8F4414E9F7F611
-    ∷ ok (rename (nm (0xC1 ∷ [])) (nm (0xC2 ∷ []))) 0x0 0x520755D900E70BF
-    ∷ ok (scratch (nm (0xC2 ∷ []))) 0x300000000000000000000000000000000000000000000 0x81D3C6547556D5E
-    ∷ ok (allocate (request (nm (0xC2 ∷ [])) (attr 10) 1 0 4 0 0)) 0x1001000400100000000000000000000000000000000000 0x94A331FA03D2ED9
+    ∷ ok (release (nm (0xC1 ∷ [])) 0x107) 0x100000000000000000000000000000000000000000000 0x66F48B151AD30F5
+    ∷ ok (extend (nm (0xC1 ∷ []))) 0x101000400010000000000000000000000000000000000 0x160E4D06509903D5
+    ∷ ok (rename (nm (0xC1 ∷ [])) (nm (0xC2 ∷ []))) 0x0 0xC9F7E4EF6AF7E83
+    ∷ ok (scratch (nm (0xC2 ∷ [])) (date 4 0x0080365F) 0) 0x300000000000000000000000000000000000000000000 0x81D3C6547556D5E
+    ∷ ok (allocate (request (nm (0xC2 ∷ [])) (attr 10) 1 0 4 0 0 noDate)) 0x1001000400100000000000000000000000000000000000 0x14408C8DA287B883
     ∷ []
 
 pub case6 : T (right [] sequence6)
-unfolding held gaps free used unused format0s choose extentPart format4 format5 format1 format3 records encode readGeometry readExtents readLabel readRecords read goodName limits goodLabel valid taken goodLength settle grant tracksKept rule goodLengths perform initialise printable listing
+unfolding held gaps free used unused format0s choose extentPart format4 format5 format1 format3 records encode readGeometry readExtents readLabel readRecords read goodName limits goodLabel valid taken goodLength settle grant tracksKept toStored toPacked expiryFrom withExpiry rule goodLengths perform initialise convertDate printable listing
 case6 = tt
 
 -- Slots on several tracks; the lowest free one is taken
@@ -190,19 +191,19 @@ case6 = tt
 abbrev pub sequence7 : List Row
 sequence7 =
     begin 10 3 2 5 4 0 0x8C69A6541764AA6
-    ∷ ok (allocate (request (nm (0xC1 ∷ [])) (attr 1) 0 0 1 0 0)) 0x101000100010000000000000000000000000000000000 0x1A8123963EB6A73B
-    ∷ ok (allocate (request (nm (0xC2 ∷ [])) (attr 2) 0 0 1 0 0)) 0x101000200010000000000000000000000000000000000 0x1C8F4EE237708EF4
-    ∷ ok (allocate (request (nm (0xC3 ∷ [])) (attr 3) 0 0 1 0 0)) 0x101000300010000000000000000000000000000000000 0x1B610D11C8077852
-    ∷ ok (allocate (request (nm (0xC4 ∷ [])) (attr 4) 0 0 1 0 0)) 0x101000400010000000000000000000000000000000000 0x2246E900A376A72
-    ∷ ok (scratch (nm (0xC2 ∷ []))) 0x100000000000000000000000000000000000000000000 0x565679874837B0A
-    ∷ ok (scratch (nm (0xC4 ∷ []))) 0x100000000000000000000000000000000000000000000 0x2E4CC5C5724B5E3
-    ∷ ok (allocate (request (nm (0xC5 ∷ [])) (attr 7) 0 0 2 0 0)) 0x201000900020000000000000000000000000000000000 0x151979EB478193CB
-    ∷ ok (allocate (request (nm (0xC6 ∷ [])) (attr 8) 0 0 1 0 0)) 0x101000200010000000000000000000000000000000000 0x1801E9A9C7E5221
-    ∷ ok (scratch (nm (0xC6 ∷ []))) 0x100000000000000000000000000000000000000000000 0x151979EB478193CB
+    ∷ ok (allocate (request (nm (0xC1 ∷ [])) (attr 1) 0 0 1 0 0 noDate)) 0x101000100010000000000000000000000000000000000 0x13888875AB64775C
+    ∷ ok (allocate (request (nm (0xC2 ∷ [])) (attr 2) 0 0 1 0 0 noDate)) 0x101000200010000000000000000000000000000000000 0xDFB494A0789AFAA
+    ∷ ok (allocate (request (nm (0xC3 ∷ [])) (attr 3) 0 0 1 0 0 noDate)) 0x101000300010000000000000000000000000000000000 0x83F23379DDFC3D7
+    ∷ ok (allocate (request (nm (0xC4 ∷ [])) (attr 4) 0 0 1 0 0 noDate)) 0x101000400010000000000000000000000000000000000 0x4EEF56FA455ECCE
+    ∷ ok (scratch (nm (0xC2 ∷ [])) (date 4 0x0080365F) 0) 0x100000000000000000000000000000000000000000000 0xFCB58EFAB36ACD1
+    ∷ ok (scratch (nm (0xC4 ∷ [])) (date 4 0x0080365F) 0) 0x100000000000000000000000000000000000000000000 0x175E4CF9C991B0D2
+    ∷ ok (allocate (request (nm (0xC5 ∷ [])) (attr 7) 0 0 2 0 0 noDate)) 0x201000900020000000000000000000000000000000000 0x1EF305E615E628C3
+    ∷ ok (allocate (request (nm (0xC6 ∷ [])) (attr 8) 0 0 1 0 0 noDate)) 0x101000200010000000000000000000000000000000000 0x17328C08F36F54C8
+    ∷ ok (scratch (nm (0xC6 ∷ [])) (date 4 0x0080365F) 0) 0x100000000000000000000000000000000000000000000 0x1EF305E615E628C3
     ∷ []
 
 pub case7 : T (right [] sequence7)
-unfolding held gaps free used unused format0s choose extentPart format4 format5 format1 format3 records encode readGeometry readExtents readLabel readRecords read goodName limits goodLabel valid taken goodLength settle grant tracksKept rule goodLengths perform initialise printable listing
+unfolding held gaps free used unused format0s choose extentPart format4 format5 format1 format3 records encode readGeometry readExtents readLabel readRecords read goodName limits goodLabel valid taken goodLength settle grant tracksKept toStored toPacked expiryFrom withExpiry rule goodLengths perform initialise convertDate printable listing
 case7 = tt
 
 -- The shortest that fits, the lowest on ties, its first part
@@ -210,21 +211,21 @@ case7 = tt
 abbrev pub sequence8 : List Row
 sequence8 =
     begin 32 1 8 1 2 0 0x1DE31740506D0884
-    ∷ ok (allocate (request (nm (0xE6 ∷ 0xF0 ∷ [])) (attr 1) 2 8 1 0 0)) 0x101000800010000000000000000000000000000000000 0xD055FD452E629C2
-    ∷ ok (allocate (request (nm (0xE6 ∷ 0xF1 ∷ [])) (attr 2) 2 12 1 0 0)) 0x101000C00010000000000000000000000000000000000 0x3DC93444893AB54
-    ∷ ok (allocate (request (nm (0xE6 ∷ 0xF2 ∷ [])) (attr 3) 2 17 1 0 0)) 0x101001100010000000000000000000000000000000000 0xD3340DC327AD61F
-    ∷ ok (allocate (request (nm (0xE6 ∷ 0xF3 ∷ [])) (attr 4) 2 21 1 0 0)) 0x101001500010000000000000000000000000000000000 0xD7AD3C743267959
-    ∷ ok (allocate (request (nm (0xE6 ∷ 0xF4 ∷ [])) (attr 5) 2 31 1 0 0)) 0x101001F00010000000000000000000000000000000000 0x12E0C607EFCB17E8
-    ∷ ok (allocate (request (nm (0xC1 ∷ [])) (attr 6) 0 0 2 0 0)) 0x201000900020000000000000000000000000000000000 0x14E080E597AA19DF
-    ∷ ok (allocate (request (nm (0xC2 ∷ [])) (attr 7) 0 0 1 0 0)) 0x101000B00010000000000000000000000000000000000 0x10591384E2165EE4
-    ∷ ok (allocate (request (nm (0xC3 ∷ [])) (attr 8) 0 0 3 0 0)) 0x301001200030000000000000000000000000000000000 0xCB0E86950CD0290
-    ∷ ok (allocate (request (nm (0xC4 ∷ [])) (attr 9) 0 0 5 0 0)) 0x501000300050000000000000000000000000000000000 0xF72A7751C9639DF
-    ∷ ok (allocate (request (nm (0xC5 ∷ [])) (attr 10) 0 0 6 0 0)) 0x601001600060000000000000000000000000000000000 0x1E1C6F07800BF08A
-    ∷ ok (allocate (request (nm (0xC6 ∷ [])) (attr 11) 0 0 7 0 0)) 0x702000D0004001C000300000000000000000000000000 0x747E8E810B649E4
+    ∷ ok (allocate (request (nm (0xE6 ∷ 0xF0 ∷ [])) (attr 1) 2 8 1 0 0 noDate)) 0x101000800010000000000000000000000000000000000 0xDE8E20CAFDEC093
+    ∷ ok (allocate (request (nm (0xE6 ∷ 0xF1 ∷ [])) (attr 2) 2 12 1 0 0 noDate)) 0x101000C00010000000000000000000000000000000000 0x159E056F7EA0F940
+    ∷ ok (allocate (request (nm (0xE6 ∷ 0xF2 ∷ [])) (attr 3) 2 17 1 0 0 noDate)) 0x101001100010000000000000000000000000000000000 0x26C7568D0831540
+    ∷ ok (allocate (request (nm (0xE6 ∷ 0xF3 ∷ [])) (attr 4) 2 21 1 0 0 noDate)) 0x101001500010000000000000000000000000000000000 0x100B6FA534C68C44
+    ∷ ok (allocate (request (nm (0xE6 ∷ 0xF4 ∷ [])) (attr 5) 2 31 1 0 0 noDate)) 0x101001F00010000000000000000000000000000000000 0x564E97DBF91F51C
+    ∷ ok (allocate (request (nm (0xC1 ∷ [])) (attr 6) 0 0 2 0 0 noDate)) 0x201000900020000000000000000000000000000000000 0x186AEEBB6AA3CEF3
+    ∷ ok (allocate (request (nm (0xC2 ∷ [])) (attr 7) 0 0 1 0 0 noDate)) 0x101000B00010000000000000000000000000000000000 0x11004AC420149FFC
+    ∷ ok (allocate (request (nm (0xC3 ∷ [])) (attr 8) 0 0 3 0 0 noDate)) 0x301001200030000000000000000000000000000000000 0x1F38AE2A89C812D8
+    ∷ ok (allocate (request (nm (0xC4 ∷ [])) (attr 9) 0 0 5 0 0 noDate)) 0x501000300050000000000000000000000000000000000 0x33CF91127AD9B4F
+    ∷ ok (allocate (request (nm (0xC5 ∷ [])) (attr 10) 0 0 6 0 0 noDate)) 0x601001600060000000000000000000000000000000000 0xBDDAC4D7C3BE4E2
+    ∷ ok (allocate (request (nm (0xC6 ∷ [])) (attr 11) 0 0 7 0 0 noDate)) 0x702000D0004001C000300000000000000000000000000 0x4563691774DDB32
     ∷ []
 
 pub case8 : T (right [] sequence8)
-unfolding held gaps free used unused format0s choose extentPart format4 format5 format1 format3 records encode readGeometry readExtents readLabel readRecords read goodName limits goodLabel valid taken goodLength settle grant tracksKept rule goodLengths perform initialise printable listing
+unfolding held gaps free used unused format0s choose extentPart format4 format5 format1 format3 records encode readGeometry readExtents readLabel readRecords read goodName limits goodLabel valid taken goodLength settle grant tracksKept toStored toPacked expiryFrom withExpiry rule goodLengths perform initialise convertDate printable listing
 case8 = tt
 
 -- Two to five pieces, the longest first; six holes are too many
@@ -232,24 +233,24 @@ case8 = tt
 abbrev pub sequence9 : List Row
 sequence9 =
     begin 28 1 6 1 2 0 0x5492E63E7AAEC6D
-    ∷ ok (allocate (request (nm (0xE6 ∷ 0xF0 ∷ [])) (attr 1) 2 5 1 0 0)) 0x101000500010000000000000000000000000000000000 0x1F06F40E89E65A3F
-    ∷ ok (allocate (request (nm (0xE6 ∷ 0xF1 ∷ [])) (attr 2) 2 11 1 0 0)) 0x101000B00010000000000000000000000000000000000 0x1FD6589457679208
-    ∷ ok (allocate (request (nm (0xE6 ∷ 0xF2 ∷ [])) (attr 3) 2 15 1 0 0)) 0x101000F00010000000000000000000000000000000000 0x8662C02B3D2559C
-    ∷ ok (allocate (request (nm (0xE6 ∷ 0xF3 ∷ [])) (attr 4) 2 21 1 0 0)) 0x101001500010000000000000000000000000000000000 0x1E98C3D0277FB8BE
-    ∷ ok (allocate (request (nm (0xE6 ∷ 0xF4 ∷ [])) (attr 5) 2 25 1 0 0)) 0x101001900010000000000000000000000000000000000 0x1F2819E39ED95B80
-    ∷ ok (allocate (request (nm (0xE6 ∷ 0xF5 ∷ [])) (attr 6) 2 27 1 0 0)) 0x101001B00010000000000000000000000000000000000 0x20C9EE8207F736
-    ∷ ok (allocate (request (nm (0xD7 ∷ 0xC9 ∷ 0xC5 ∷ 0xC3 ∷ 0xC5 ∷ 0xE2 ∷ [])) (attr 7) 0 0 11 0 0)) 0xB030006000500100005000C0001000000000000000000 0x2D15A6471CCD721
-    ∷ ok (scratch (nm (0xD7 ∷ 0xC9 ∷ 0xC5 ∷ 0xC3 ∷ 0xC5 ∷ 0xE2 ∷ []))) 0xB00000000000000000000000000000000000000000000 0x20C9EE8207F736
-    ∷ ok (allocate (request (nm (0xD7 ∷ 0xC9 ∷ 0xC5 ∷ 0xC3 ∷ 0xC5 ∷ 0xE2 ∷ [])) (attr 9) 0 0 16 0 0)) 0x10040006000500100005000C0003001600030000000000 0xD90AA87E52B65E4
-    ∷ ok (scratch (nm (0xD7 ∷ 0xC9 ∷ 0xC5 ∷ 0xC3 ∷ 0xC5 ∷ 0xE2 ∷ []))) 0x1000000000000000000000000000000000000000000000 0x20C9EE8207F736
-    ∷ no (allocate (request (nm (0xD7 ∷ 0xC9 ∷ 0xC5 ∷ 0xC3 ∷ 0xC5 ∷ 0xE2 ∷ [])) (attr 11) 0 0 19 0 0)) 9
-    ∷ ok (allocate (request (nm (0xD7 ∷ 0xC9 ∷ 0xC5 ∷ 0xC3 ∷ 0xC5 ∷ 0xE2 ∷ [])) (attr 12) 0 0 18 0 0)) 0x12050006000500100005000C0003001600030003000200 0x4DEA0F9EC123077
-    ∷ okLabels (obtain (nm (0xD7 ∷ 0xC9 ∷ 0xC5 ∷ 0xC3 ∷ 0xC5 ∷ 0xE2 ∷ []))) 0x0 0x4DEA0F9EC123077 0xCC5EBFAD5C070B6
-    ∷ ok (release (nm (0xD7 ∷ 0xC9 ∷ 0xC5 ∷ 0xC3 ∷ 0xC5 ∷ 0xE2 ∷ [])) 0xC01) 0x500000000000000000000000000000000000000000000 0x16E615E16202AE98
+    ∷ ok (allocate (request (nm (0xE6 ∷ 0xF0 ∷ [])) (attr 1) 2 5 1 0 0 noDate)) 0x101000500010000000000000000000000000000000000 0xF0475934FEE1C4E
+    ∷ ok (allocate (request (nm (0xE6 ∷ 0xF1 ∷ [])) (attr 2) 2 11 1 0 0 noDate)) 0x101000B00010000000000000000000000000000000000 0xAD5F2E3C92AF162
+    ∷ ok (allocate (request (nm (0xE6 ∷ 0xF2 ∷ [])) (attr 3) 2 15 1 0 0 noDate)) 0x101000F00010000000000000000000000000000000000 0xD96AEED0A4E8340
+    ∷ ok (allocate (request (nm (0xE6 ∷ 0xF3 ∷ [])) (attr 4) 2 21 1 0 0 noDate)) 0x101001500010000000000000000000000000000000000 0xCB98DFB7B7A4DFB
+    ∷ ok (allocate (request (nm (0xE6 ∷ 0xF4 ∷ [])) (attr 5) 2 25 1 0 0 noDate)) 0x101001900010000000000000000000000000000000000 0xA6DDC6C12390161
+    ∷ ok (allocate (request (nm (0xE6 ∷ 0xF5 ∷ [])) (attr 6) 2 27 1 0 0 noDate)) 0x101001B00010000000000000000000000000000000000 0x14944D101FA98ED4
+    ∷ ok (allocate (request (nm (0xD7 ∷ 0xC9 ∷ 0xC5 ∷ 0xC3 ∷ 0xC5 ∷ 0xE2 ∷ [])) (attr 7) 0 0 11 0 0 noDate)) 0xB030006000500100005000C0001000000000000000000 0xCA47396C781D2A2
+    ∷ ok (scratch (nm (0xD7 ∷ 0xC9 ∷ 0xC5 ∷ 0xC3 ∷ 0xC5 ∷ 0xE2 ∷ [])) (date 4 0x0080365F) 0) 0xB00000000000000000000000000000000000000000000 0x14944D101FA98ED4
+    ∷ ok (allocate (request (nm (0xD7 ∷ 0xC9 ∷ 0xC5 ∷ 0xC3 ∷ 0xC5 ∷ 0xE2 ∷ [])) (attr 9) 0 0 16 0 0 noDate)) 0x10040006000500100005000C0003001600030000000000 0x145A80E3940A7DEF
+    ∷ ok (scratch (nm (0xD7 ∷ 0xC9 ∷ 0xC5 ∷ 0xC3 ∷ 0xC5 ∷ 0xE2 ∷ [])) (date 4 0x0080365F) 0) 0x1000000000000000000000000000000000000000000000 0x14944D101FA98ED4
+    ∷ no (allocate (request (nm (0xD7 ∷ 0xC9 ∷ 0xC5 ∷ 0xC3 ∷ 0xC5 ∷ 0xE2 ∷ [])) (attr 11) 0 0 19 0 0 noDate)) 9
+    ∷ ok (allocate (request (nm (0xD7 ∷ 0xC9 ∷ 0xC5 ∷ 0xC3 ∷ 0xC5 ∷ 0xE2 ∷ [])) (attr 12) 0 0 18 0 0 noDate)) 0x12050006000500100005000C0003001600030003000200 0x71A9313A0B07351
+    ∷ okLabels (obtain (nm (0xD7 ∷ 0xC9 ∷ 0xC5 ∷ 0xC3 ∷ 0xC5 ∷ 0xE2 ∷ []))) 0x0 0x71A9313A0B07351 0x1151E3F8ACA3F33C
+    ∷ ok (release (nm (0xD7 ∷ 0xC9 ∷ 0xC5 ∷ 0xC3 ∷ 0xC5 ∷ 0xE2 ∷ [])) 0xC01) 0x500000000000000000000000000000000000000000000 0x192207FB16A0F172
     ∷ []
 
 pub case9 : T (right [] sequence9)
-unfolding held gaps free used unused format0s choose extentPart format4 format5 format1 format3 records encode readGeometry readExtents readLabel readRecords read goodName limits goodLabel valid taken goodLength settle grant tracksKept rule goodLengths perform initialise printable listing
+unfolding held gaps free used unused format0s choose extentPart format4 format5 format1 format3 records encode readGeometry readExtents readLabel readRecords read goodName limits goodLabel valid taken goodLength settle grant tracksKept toStored toPacked expiryFrom withExpiry rule goodLengths perform initialise convertDate printable listing
 case9 = tt
 
 -- Extend in two to five pieces
@@ -257,29 +258,29 @@ case9 = tt
 abbrev pub sequence10 : List Row
 sequence10 =
     begin 27 1 7 1 2 0 0x102D80480DAB4657
-    ∷ ok (allocate (request (nm (0xE2 ∷ 0xC5 ∷ 0xE3 ∷ 0xF0 ∷ [])) (attr 1) 0 0 1 9 0)) 0x101000300010000000000000000000000000000000000 0x141910A49FD429BB
-    ∷ ok (allocate (request (nm (0xE2 ∷ 0xC5 ∷ 0xE3 ∷ 0xF1 ∷ [])) (attr 2) 0 0 1 12 0)) 0x101000400010000000000000000000000000000000000 0x15C9C7BFEA9DE8E7
-    ∷ ok (allocate (request (nm (0xE2 ∷ 0xC5 ∷ 0xE3 ∷ 0xF2 ∷ [])) (attr 3) 0 0 1 14 0)) 0x101000500010000000000000000000000000000000000 0x1D052DD53969F4A0
-    ∷ ok (allocate (request (nm (0xE2 ∷ 0xC5 ∷ 0xE3 ∷ 0xF3 ∷ [])) (attr 4) 0 0 1 15 0)) 0x101000600010000000000000000000000000000000000 0x7ACD939BA79A5BE
-    ∷ ok (allocate (request (nm (0xE6 ∷ 0xF0 ∷ [])) (attr 5) 2 8 1 0 0)) 0x101000800010000000000000000000000000000000000 0x105148ED91C2467A
-    ∷ ok (allocate (request (nm (0xE6 ∷ 0xF1 ∷ [])) (attr 6) 2 11 1 0 0)) 0x101000B00010000000000000000000000000000000000 0xDF5330F3BF3FA4
-    ∷ ok (allocate (request (nm (0xE6 ∷ 0xF2 ∷ [])) (attr 7) 2 15 1 0 0)) 0x101000F00010000000000000000000000000000000000 0x30C23A857C58921
-    ∷ ok (allocate (request (nm (0xE6 ∷ 0xF3 ∷ [])) (attr 8) 2 20 1 0 0)) 0x101001400010000000000000000000000000000000000 0x37B2A2F88F058A2
-    ∷ ok (allocate (request (nm (0xE6 ∷ 0xF4 ∷ [])) (attr 9) 2 26 1 0 0)) 0x101001A00010000000000000000000000000000000000 0xA4E93D285003D9F
-    ∷ ok (extend (nm (0xE2 ∷ 0xC5 ∷ 0xE3 ∷ 0xF0 ∷ []))) 0x902001500050010000400000000000000000000000000 0x703E566E579D8DF
+    ∷ ok (allocate (request (nm (0xE2 ∷ 0xC5 ∷ 0xE3 ∷ 0xF0 ∷ [])) (attr 1) 0 0 1 9 0 noDate)) 0x101000300010000000000000000000000000000000000 0x1540FC1A6D27CF77
+    ∷ ok (allocate (request (nm (0xE2 ∷ 0xC5 ∷ 0xE3 ∷ 0xF1 ∷ [])) (attr 2) 0 0 1 12 0 noDate)) 0x101000400010000000000000000000000000000000000 0x1D9D66DE61BD7888
+    ∷ ok (allocate (request (nm (0xE2 ∷ 0xC5 ∷ 0xE3 ∷ 0xF2 ∷ [])) (attr 3) 0 0 1 14 0 noDate)) 0x101000500010000000000000000000000000000000000 0x14D1518202A0CA6D
+    ∷ ok (allocate (request (nm (0xE2 ∷ 0xC5 ∷ 0xE3 ∷ 0xF3 ∷ [])) (attr 4) 0 0 1 15 0 noDate)) 0x101000600010000000000000000000000000000000000 0x157D2E7BDB27B620
+    ∷ ok (allocate (request (nm (0xE6 ∷ 0xF0 ∷ [])) (attr 5) 2 8 1 0 0 noDate)) 0x101000800010000000000000000000000000000000000 0x9C87731DA4F0404
+    ∷ ok (allocate (request (nm (0xE6 ∷ 0xF1 ∷ [])) (attr 6) 2 11 1 0 0 noDate)) 0x101000B00010000000000000000000000000000000000 0x7BEEC56B8899892
+    ∷ ok (allocate (request (nm (0xE6 ∷ 0xF2 ∷ [])) (attr 7) 2 15 1 0 0 noDate)) 0x101000F00010000000000000000000000000000000000 0x191F7EEA155092F4
+    ∷ ok (allocate (request (nm (0xE6 ∷ 0xF3 ∷ [])) (attr 8) 2 20 1 0 0 noDate)) 0x101001400010000000000000000000000000000000000 0x1B20DB92D428A4C8
+    ∷ ok (allocate (request (nm (0xE6 ∷ 0xF4 ∷ [])) (attr 9) 2 26 1 0 0 noDate)) 0x101001A00010000000000000000000000000000000000 0x144A986FE1760A32
+    ∷ ok (extend (nm (0xE2 ∷ 0xC5 ∷ 0xE3 ∷ 0xF0 ∷ []))) 0x902001500050010000400000000000000000000000000 0x10FFEA0441EFA572
     ∷ no (extend (nm (0xE2 ∷ 0xC5 ∷ 0xE3 ∷ 0xF0 ∷ []))) 9
-    ∷ ok (release (nm (0xE2 ∷ 0xC5 ∷ 0xE3 ∷ 0xF0 ∷ [])) 0x1) 0x900000000000000000000000000000000000000000000 0xCACED7CF292561A
-    ∷ ok (extend (nm (0xE2 ∷ 0xC5 ∷ 0xE3 ∷ 0xF1 ∷ []))) 0xC030015000500100004000C0003000000000000000000 0x14A5FAD0D13CE33D
-    ∷ ok (release (nm (0xE2 ∷ 0xC5 ∷ 0xE3 ∷ 0xF1 ∷ [])) 0x1) 0xC00000000000000000000000000000000000000000000 0x53F1D4D6487EFD8
-    ∷ ok (extend (nm (0xE2 ∷ 0xC5 ∷ 0xE3 ∷ 0xF2 ∷ []))) 0xE040015000500100004000C0003000900020000000000 0x123DCC14C0F88AB0
-    ∷ ok (scratch (nm (0xE2 ∷ 0xC5 ∷ 0xE3 ∷ 0xF2 ∷ []))) 0xF00000000000000000000000000000000000000000000 0xCCAB6568BD08D09
-    ∷ ok (extend (nm (0xE2 ∷ 0xC5 ∷ 0xE3 ∷ 0xF3 ∷ []))) 0xF050015000500100004000C0003000900020005000100 0x117993AF2B2AB558
-    ∷ okLabels (obtain (nm (0xE2 ∷ 0xC5 ∷ 0xE3 ∷ 0xF3 ∷ []))) 0x0 0x117993AF2B2AB558 0x3EF0027B03F3E40
-    ∷ ok (release (nm (0xE2 ∷ 0xC5 ∷ 0xE3 ∷ 0xF3 ∷ [])) 0xD01) 0x200000000000000000000000000000000000000000000 0x608011E07EC70AD
+    ∷ ok (release (nm (0xE2 ∷ 0xC5 ∷ 0xE3 ∷ 0xF0 ∷ [])) 0x1) 0x900000000000000000000000000000000000000000000 0x16A8F21A4F0822AD
+    ∷ ok (extend (nm (0xE2 ∷ 0xC5 ∷ 0xE3 ∷ 0xF1 ∷ []))) 0xC030015000500100004000C0003000000000000000000 0x1EA1FF6E2DB2AFD0
+    ∷ ok (release (nm (0xE2 ∷ 0xC5 ∷ 0xE3 ∷ 0xF1 ∷ [])) 0x1) 0xC00000000000000000000000000000000000000000000 0xF3B21EAC0FDBC6B
+    ∷ ok (extend (nm (0xE2 ∷ 0xC5 ∷ 0xE3 ∷ 0xF2 ∷ []))) 0xE040015000500100004000C0003000900020000000000 0x1C39D0B21D6E5743
+    ∷ ok (scratch (nm (0xE2 ∷ 0xC5 ∷ 0xE3 ∷ 0xF2 ∷ [])) (date 4 0x0080365F) 0) 0xF00000000000000000000000000000000000000000000 0x6CE3665962F1371
+    ∷ ok (extend (nm (0xE2 ∷ 0xC5 ∷ 0xE3 ∷ 0xF3 ∷ []))) 0xF050015000500100004000C0003000900020005000100 0xB7D13BE35893BC0
+    ∷ okLabels (obtain (nm (0xE2 ∷ 0xC5 ∷ 0xE3 ∷ 0xF3 ∷ []))) 0x0 0xB7D13BE35893BC0 0x1AC852D1A28B146C
+    ∷ ok (release (nm (0xE2 ∷ 0xC5 ∷ 0xE3 ∷ 0xF3 ∷ [])) 0xD01) 0x200000000000000000000000000000000000000000000 0xB812D124AF715
     ∷ []
 
 pub case10 : T (right [] sequence10)
-unfolding held gaps free used unused format0s choose extentPart format4 format5 format1 format3 records encode readGeometry readExtents readLabel readRecords read goodName limits goodLabel valid taken goodLength settle grant tracksKept rule goodLengths perform initialise printable listing
+unfolding held gaps free used unused format0s choose extentPart format4 format5 format1 format3 records encode readGeometry readExtents readLabel readRecords read goodName limits goodLabel valid taken goodLength settle grant tracksKept toStored toPacked expiryFrom withExpiry rule goodLengths perform initialise convertDate printable listing
 case10 = tt
 
 -- Sixteen extents and no more
@@ -287,29 +288,29 @@ case10 = tt
 abbrev pub sequence11 : List Row
 sequence11 =
     begin 20 1 4 1 1 0 0x156C66EDB8C54725
-    ∷ ok (allocate (request (nm (0xC1 ∷ [])) (attr 1) 0 0 1 1 0)) 0x101000200010000000000000000000000000000000000 0x92307D0785E4D0A
-    ∷ ok (extend (nm (0xC1 ∷ []))) 0x101000300010000000000000000000000000000000000 0xDC4BCD22089A3DE
-    ∷ ok (extend (nm (0xC1 ∷ []))) 0x101000400010000000000000000000000000000000000 0x1926EDC399771DE1
-    ∷ ok (extend (nm (0xC1 ∷ []))) 0x101000500010000000000000000000000000000000000 0x1E76677625ABFCFB
-    ∷ ok (extend (nm (0xC1 ∷ []))) 0x101000600010000000000000000000000000000000000 0x90DCDB8CE9FCC90
-    ∷ ok (extend (nm (0xC1 ∷ []))) 0x101000700010000000000000000000000000000000000 0xAC98355DEF7E779
-    ∷ ok (extend (nm (0xC1 ∷ []))) 0x101000800010000000000000000000000000000000000 0x1055460E47C7F88B
-    ∷ ok (extend (nm (0xC1 ∷ []))) 0x101000900010000000000000000000000000000000000 0x1355460D6CBE0147
-    ∷ ok (extend (nm (0xC1 ∷ []))) 0x101000A00010000000000000000000000000000000000 0x6D39F3910B1583
-    ∷ ok (extend (nm (0xC1 ∷ []))) 0x101000B00010000000000000000000000000000000000 0x10D71C6E54909F30
-    ∷ ok (extend (nm (0xC1 ∷ []))) 0x101000C00010000000000000000000000000000000000 0x1B3D7C501BBBA6CD
-    ∷ ok (extend (nm (0xC1 ∷ []))) 0x101000D00010000000000000000000000000000000000 0x18F3FBBC0E15A439
-    ∷ ok (extend (nm (0xC1 ∷ []))) 0x101000E00010000000000000000000000000000000000 0x151A285AAAF2095C
-    ∷ ok (extend (nm (0xC1 ∷ []))) 0x101000F00010000000000000000000000000000000000 0x98C5AE57740CE4A
-    ∷ ok (extend (nm (0xC1 ∷ []))) 0x101001000010000000000000000000000000000000000 0x46C43E07E5CA302
-    ∷ ok (extend (nm (0xC1 ∷ []))) 0x101001100010000000000000000000000000000000000 0x16F661801718B9DA
+    ∷ ok (allocate (request (nm (0xC1 ∷ [])) (attr 1) 0 0 1 1 0 noDate)) 0x101000200010000000000000000000000000000000000 0xED95C7AF4F14295
+    ∷ ok (extend (nm (0xC1 ∷ []))) 0x101000300010000000000000000000000000000000000 0x137B117C9D1C9969
+    ∷ ok (extend (nm (0xC1 ∷ []))) 0x101000400010000000000000000000000000000000000 0x1EDD426E160A136C
+    ∷ ok (extend (nm (0xC1 ∷ []))) 0x101000500010000000000000000000000000000000000 0x42CBC20A23EF287
+    ∷ ok (extend (nm (0xC1 ∷ []))) 0x101000600010000000000000000000000000000000000 0xEC422634B32C21B
+    ∷ ok (extend (nm (0xC1 ∷ []))) 0x101000700010000000000000000000000000000000000 0x107FD8005B8ADD04
+    ∷ ok (extend (nm (0xC1 ∷ []))) 0x101000800010000000000000000000000000000000000 0x160B9AB8C45AEE16
+    ∷ ok (extend (nm (0xC1 ∷ []))) 0x101000900010000000000000000000000000000000000 0x190B9AB7E950F6D2
+    ∷ ok (extend (nm (0xC1 ∷ []))) 0x101000A00010000000000000000000000000000000000 0x6238E9E0D9E0B0E
+    ∷ ok (extend (nm (0xC1 ∷ []))) 0x101000B00010000000000000000000000000000000000 0x168D7118D12394BB
+    ∷ ok (extend (nm (0xC1 ∷ []))) 0x101000C00010000000000000000000000000000000000 0xF3D0FA984E9C59
+    ∷ ok (extend (nm (0xC1 ∷ []))) 0x101000D00010000000000000000000000000000000000 0x1EAA50668AA899C4
+    ∷ ok (extend (nm (0xC1 ∷ []))) 0x101000E00010000000000000000000000000000000000 0x1AD07D052784FEE7
+    ∷ ok (extend (nm (0xC1 ∷ []))) 0x101000F00010000000000000000000000000000000000 0xF42AF8FF3D3C3D5
+    ∷ ok (extend (nm (0xC1 ∷ []))) 0x101001000010000000000000000000000000000000000 0xA22988AFAEF988D
+    ∷ ok (extend (nm (0xC1 ∷ []))) 0x101001100010000000000000000000000000000000000 0x1CACB62A93ABAF65
     ∷ no (extend (nm (0xC1 ∷ []))) 10
-    ∷ okLabels (obtain (nm (0xC1 ∷ []))) 0x0 0x16F661801718B9DA 0x130690228C5F92A1
-    ∷ ok (scratch (nm (0xC1 ∷ []))) 0x1000000000000000000000000000000000000000000000 0x156C66EDB8C54725
+    ∷ okLabels (obtain (nm (0xC1 ∷ []))) 0x0 0x1CACB62A93ABAF65 0x18BCE4CD08F2882C
+    ∷ ok (scratch (nm (0xC1 ∷ [])) (date 4 0x0080365F) 0) 0x1000000000000000000000000000000000000000000000 0x156C66EDB8C54725
     ∷ []
 
 pub case11 : T (right [] sequence11)
-unfolding held gaps free used unused format0s choose extentPart format4 format5 format1 format3 records encode readGeometry readExtents readLabel readRecords read goodName limits goodLabel valid taken goodLength settle grant tracksKept rule goodLengths perform initialise printable listing
+unfolding held gaps free used unused format0s choose extentPart format4 format5 format1 format3 records encode readGeometry readExtents readLabel readRecords read goodName limits goodLabel valid taken goodLength settle grant tracksKept toStored toPacked expiryFrom withExpiry rule goodLengths perform initialise convertDate printable listing
 case11 = tt
 
 -- Cylinders are whole ones, compared in cylinders
@@ -317,24 +318,24 @@ case11 = tt
 abbrev pub sequence12 : List Row
 sequence12 =
     begin 15 4 7 1 2 0 0xA84BC0082D31F81
-    ∷ ok (allocate (request (nm (0xE6 ∷ 0xF0 ∷ [])) (attr 1) 2 3 2 0 0)) 0x201000300020000000000000000000000000000000000 0x2DAD70A999698E5
-    ∷ ok (allocate (request (nm (0xE6 ∷ 0xF1 ∷ [])) (attr 2) 2 12 4 0 0)) 0x401000C00040000000000000000000000000000000000 0x136D208E969D6DFF
-    ∷ ok (allocate (request (nm (0xE6 ∷ 0xF2 ∷ [])) (attr 3) 2 20 5 0 0)) 0x501001400050000000000000000000000000000000000 0x1BF4C840965F553D
-    ∷ ok (allocate (request (nm (0xE6 ∷ 0xF3 ∷ [])) (attr 4) 2 36 4 0 0)) 0x401002400040000000000000000000000000000000000 0x10DBCAF42CB8D2F7
-    ∷ ok (allocate (request (nm (0xE6 ∷ 0xF4 ∷ [])) (attr 5) 2 48 2 0 0)) 0x201003000020000000000000000000000000000000000 0x6B4A3FEAF7F1208
-    ∷ ok (allocate (request (nm (0xE6 ∷ 0xF5 ∷ [])) (attr 6) 2 55 5 0 0)) 0x501003700050000000000000000000000000000000000 0x44A942CE8688B90
-    ∷ no (allocate (request (nm (0xC1 ∷ [])) (attr 7) 1 0 7 0 0)) 9
-    ∷ ok (allocate (request (nm (0xC1 ∷ [])) (attr 8) 1 0 6 1 0)) 0x1804001C00080028000800080004001000040000000000 0x1B47650F1B19DCEC
+    ∷ ok (allocate (request (nm (0xE6 ∷ 0xF0 ∷ [])) (attr 1) 2 3 2 0 0 noDate)) 0x201000300020000000000000000000000000000000000 0x402C28066EA3EA1
+    ∷ ok (allocate (request (nm (0xE6 ∷ 0xF1 ∷ [])) (attr 2) 2 12 4 0 0 noDate)) 0x401000C00040000000000000000000000000000000000 0x1B40BFAD0DBCFDA0
+    ∷ ok (allocate (request (nm (0xE6 ∷ 0xF2 ∷ [])) (attr 3) 2 20 5 0 0 noDate)) 0x501001400050000000000000000000000000000000000 0x13C0EBED5F962B0A
+    ∷ ok (allocate (request (nm (0xE6 ∷ 0xF3 ∷ [])) (attr 4) 2 36 4 0 0 noDate)) 0x401002400040000000000000000000000000000000000 0x1EAC20364D66E359
+    ∷ ok (allocate (request (nm (0xE6 ∷ 0xF4 ∷ [])) (attr 5) 2 48 2 0 0 noDate)) 0x201003000020000000000000000000000000000000000 0x2BD242F80BCF92
+    ∷ ok (allocate (request (nm (0xE6 ∷ 0xF5 ∷ [])) (attr 6) 2 55 5 0 0 noDate)) 0x501003700050000000000000000000000000000000000 0xB2A2D52AD32E47E
+    ∷ no (allocate (request (nm (0xC1 ∷ [])) (attr 7) 1 0 7 0 0 noDate)) 9
+    ∷ ok (allocate (request (nm (0xC1 ∷ [])) (attr 8) 1 0 6 1 0 noDate)) 0x1804001C00080028000800080004001000040000000000 0xA6225304552B6E1
     ∷ no (extend (nm (0xC1 ∷ []))) 9
-    ∷ ok (release (nm (0xC1 ∷ [])) 0x1301) 0x400000000000000000000000000000000000000000000 0x73C4F2BB80E5B72
-    ∷ ok (extend (nm (0xC1 ∷ []))) 0x401001000040000000000000000000000000000000000 0x1EBB427AA992C495
-    ∷ ok (release (nm (0xC1 ∷ [])) 0x901) 0xC00000000000000000000000000000000000000000000 0x4562D250016FA95
-    ∷ ok (allocate (request (nm (0xC2 ∷ [])) (attr 13) 1 0 1 0 0)) 0x401000800040000000000000000000000000000000000 0x574918BBA1C9879
-    ∷ ok (allocate (request (nm (0xC3 ∷ [])) (attr 14) 1 0 2 0 0)) 0x80200100004002C000400000000000000000000000000 0x1D2E5F2CCBC8F989
+    ∷ ok (release (nm (0xC1 ∷ [])) 0x1301) 0x400000000000000000000000000000000000000000000 0x16570F4CE2473566
+    ∷ ok (extend (nm (0xC1 ∷ []))) 0x401001000040000000000000000000000000000000000 0xDD6029BD3CB9E8A
+    ∷ ok (release (nm (0xC1 ∷ [])) 0x901) 0xC00000000000000000000000000000000000000000000 0x1370ED462A4FD489
+    ∷ ok (allocate (request (nm (0xC2 ∷ [])) (attr 13) 1 0 1 0 0 noDate)) 0x401000800040000000000000000000000000000000000 0x131D1DA36A8EFE34
+    ∷ ok (allocate (request (nm (0xC3 ∷ [])) (attr 14) 1 0 2 0 0 noDate)) 0x80200100004002C000400000000000000000000000000 0x15961765EC62270A
     ∷ []
 
 pub case12 : T (right [] sequence12)
-unfolding held gaps free used unused format0s choose extentPart format4 format5 format1 format3 records encode readGeometry readExtents readLabel readRecords read goodName limits goodLabel valid taken goodLength settle grant tracksKept rule goodLengths perform initialise printable listing
+unfolding held gaps free used unused format0s choose extentPart format4 format5 format1 format3 records encode readGeometry readExtents readLabel readRecords read goodName limits goodLabel valid taken goodLength settle grant tracksKept toStored toPacked expiryFrom withExpiry rule goodLengths perform initialise convertDate printable listing
 case12 = tt
 
 -- Absolute tracks in every place of a free extent
@@ -342,21 +343,21 @@ case12 = tt
 abbrev pub sequence13 : List Row
 sequence13 =
     begin 4 5 5 1 2 0 0x1A5E83DFF644553
-    ∷ ok (allocate (request (nm (0xD4 ∷ 0xC9 ∷ 0xC4 ∷ 0xC4 ∷ 0xD3 ∷ 0xC5 ∷ [])) (attr 1) 2 8 3 0 0)) 0x301000800030000000000000000000000000000000000 0x1DC2109796AFE179
-    ∷ ok (allocate (request (nm (0xC6 ∷ 0xD9 ∷ 0xD6 ∷ 0xD5 ∷ 0xE3 ∷ [])) (attr 2) 2 3 2 0 0)) 0x201000300020000000000000000000000000000000000 0x123C6314CE332051
-    ∷ ok (allocate (request (nm (0xE3 ∷ 0xC1 ∷ 0xC9 ∷ 0xD3 ∷ [])) (attr 3) 2 18 2 0 0)) 0x201001200020000000000000000000000000000000000 0x14FA2EA87DF7529F
-    ∷ ok (allocate (request (nm (0xE6 ∷ 0xC8 ∷ 0xD6 ∷ 0xD3 ∷ 0xC5 ∷ [])) (attr 4) 2 5 3 0 0)) 0x301000500030000000000000000000000000000000000 0x3494C3A0B9C6234
-    ∷ no (allocate (request (nm (0xE7 ∷ [])) (attr 5) 2 10 2 0 0)) 9
-    ∷ no (allocate (request (nm (0xE7 ∷ [])) (attr 6) 2 17 2 0 0)) 9
-    ∷ no (allocate (request (nm (0xE7 ∷ [])) (attr 7) 2 0 20 0 0)) 9
+    ∷ ok (allocate (request (nm (0xD4 ∷ 0xC9 ∷ 0xC4 ∷ 0xC4 ∷ 0xD3 ∷ 0xC5 ∷ [])) (attr 1) 2 8 3 0 0 noDate)) 0x301000800030000000000000000000000000000000000 0x67D08CB3842D0E8
+    ∷ ok (allocate (request (nm (0xC6 ∷ 0xD9 ∷ 0xD6 ∷ 0xD5 ∷ 0xE3 ∷ [])) (attr 2) 2 3 2 0 0 noDate)) 0x201000300020000000000000000000000000000000000 0x1F6F7EE8EE85438B
+    ∷ ok (allocate (request (nm (0xE3 ∷ 0xC1 ∷ 0xC9 ∷ 0xD3 ∷ [])) (attr 3) 2 18 2 0 0 noDate)) 0x201001200020000000000000000000000000000000000 0xD43791AE452E63C
+    ∷ ok (allocate (request (nm (0xE6 ∷ 0xC8 ∷ 0xD6 ∷ 0xD3 ∷ 0xC5 ∷ [])) (attr 4) 2 5 3 0 0 noDate)) 0x301000500030000000000000000000000000000000000 0xC5BC1BD38CE96FA
+    ∷ no (allocate (request (nm (0xE7 ∷ [])) (attr 5) 2 10 2 0 0 noDate)) 9
+    ∷ no (allocate (request (nm (0xE7 ∷ [])) (attr 6) 2 17 2 0 0 noDate)) 9
+    ∷ no (allocate (request (nm (0xE7 ∷ [])) (attr 7) 2 0 20 0 0 noDate)) 9
     ∷ no (extend (nm (0xE6 ∷ 0xC8 ∷ 0xD6 ∷ 0xD3 ∷ 0xC5 ∷ []))) 8
-    ∷ ok (scratch (nm (0xD4 ∷ 0xC9 ∷ 0xC4 ∷ 0xC4 ∷ 0xD3 ∷ 0xC5 ∷ []))) 0x300000000000000000000000000000000000000000000 0x7BBDF579CC96A4E
-    ∷ ok (release (nm (0xE6 ∷ 0xC8 ∷ 0xD6 ∷ 0xD3 ∷ 0xC5 ∷ [])) 0x101) 0x100000000000000000000000000000000000000000000 0xD3FBF9E0E3FE178
-    ∷ ok (allocate (request (nm (0xE7 ∷ [])) (attr 11) 2 7 11 0 0)) 0xB010007000B0000000000000000000000000000000000 0x18F170E7F135AEB0
+    ∷ ok (scratch (nm (0xD4 ∷ 0xC9 ∷ 0xC4 ∷ 0xC4 ∷ 0xD3 ∷ 0xC5 ∷ [])) (date 4 0x0080365F) 0) 0x300000000000000000000000000000000000000000000 0x8135CA72868AFA6
+    ∷ ok (release (nm (0xE6 ∷ 0xC8 ∷ 0xD6 ∷ 0xD3 ∷ 0xC5 ∷ [])) 0x101) 0x100000000000000000000000000000000000000000000 0xD973CED99DF26D0
+    ∷ ok (allocate (request (nm (0xE7 ∷ [])) (attr 11) 2 7 11 0 0 noDate)) 0xB010007000B0000000000000000000000000000000000 0x1951986F6E253DC5
     ∷ []
 
 pub case13 : T (right [] sequence13)
-unfolding held gaps free used unused format0s choose extentPart format4 format5 format1 format3 records encode readGeometry readExtents readLabel readRecords read goodName limits goodLabel valid taken goodLength settle grant tracksKept rule goodLengths perform initialise printable listing
+unfolding held gaps free used unused format0s choose extentPart format4 format5 format1 format3 records encode readGeometry readExtents readLabel readRecords read goodName limits goodLabel valid taken goodLength settle grant tracksKept toStored toPacked expiryFrom withExpiry rule goodLengths perform initialise convertDate printable listing
 case13 = tt
 
 -- Release inside and at the end of an extent, with and without its format 3
@@ -364,25 +365,25 @@ case13 = tt
 abbrev pub sequence14 : List Row
 sequence14 =
     begin 10 5 7 1 1 0 0x42DD2CC37093B3E
-    ∷ ok (allocate (request (nm (0xC1 ∷ [])) (attr 1) 1 0 2 1 0)) 0xA010005000A0000000000000000000000000000000000 0x1EAB8ADF15DAB898
-    ∷ ok (extend (nm (0xC1 ∷ []))) 0x501000F00050000000000000000000000000000000000 0x1EA24A606AB8FEE6
-    ∷ ok (extend (nm (0xC1 ∷ []))) 0x501001400050000000000000000000000000000000000 0x184875596B1BB1D2
-    ∷ ok (extend (nm (0xC1 ∷ []))) 0x501001900050000000000000000000000000000000000 0x113C81ED84A3DD70
-    ∷ ok (extend (nm (0xC1 ∷ []))) 0x501001E00050000000000000000000000000000000000 0x45363AE422423B7
-    ∷ okLabels (obtain (nm (0xC1 ∷ []))) 0x0 0x45363AE422423B7 0x186AED5F53C0849A
-    ∷ ok (release (nm (0xC1 ∷ [])) 0x1801) 0x500000000000000000000000000000000000000000000 0x18BC37C03B9D753B
-    ∷ ok (release (nm (0xC1 ∷ [])) 0x15FF) 0x0 0x9828A130A36005A
-    ∷ ok (release (nm (0xC1 ∷ [])) 0x1009) 0x500000000000000000000000000000000000000000000 0x6FF6A596B4089F7
-    ∷ okLabels (obtain (nm (0xC1 ∷ []))) 0x0 0x6FF6A596B4089F7 0x1C1125C554227D05
-    ∷ ok (release (nm (0xC1 ∷ [])) 0x401) 0xF00000000000000000000000000000000000000000000 0xE312EB78CC798E6
+    ∷ ok (allocate (request (nm (0xC1 ∷ [])) (attr 1) 1 0 2 1 0 noDate)) 0xA010005000A0000000000000000000000000000000000 0xADDD5A3479060E3
+    ∷ ok (extend (nm (0xC1 ∷ []))) 0x501000F00050000000000000000000000000000000000 0xAD495249C6EA731
+    ∷ ok (extend (nm (0xC1 ∷ []))) 0x501001400050000000000000000000000000000000000 0x47AC01D9CD15A1D
+    ∷ ok (extend (nm (0xC1 ∷ []))) 0x501001900050000000000000000000000000000000000 0x1D6ECCB1B65985BA
+    ∷ ok (extend (nm (0xC1 ∷ []))) 0x501001E00050000000000000000000000000000000000 0x1085AE7273D9CC01
+    ∷ okLabels (obtain (nm (0xC1 ∷ []))) 0x0 0x1085AE7273D9CC01 0x1E214209D0537A25
+    ∷ ok (release (nm (0xC1 ∷ [])) 0x1801) 0x500000000000000000000000000000000000000000000 0x4EE82846D531D86
+    ∷ ok (release (nm (0xC1 ∷ [])) 0x15FF) 0x0 0x15B4D4D73BEBA8A4
+    ∷ ok (release (nm (0xC1 ∷ [])) 0x1009) 0x500000000000000000000000000000000000000000000 0x1331B51D9CF63241
+    ∷ okLabels (obtain (nm (0xC1 ∷ []))) 0x0 0x1331B51D9CF63241 0x1C77A6FD0B57291
+    ∷ ok (release (nm (0xC1 ∷ [])) 0x401) 0xF00000000000000000000000000000000000000000000 0x1A63797BBE7D4130
     ∷ no (release (nm (0xC1 ∷ [])) 0x100) 12
-    ∷ ok (release (nm (0xC1 ∷ [])) 0x0) 0x0 0x8C550D5ADAAF41B
-    ∷ ok (extend (nm (0xC1 ∷ []))) 0x501000A00050000000000000000000000000000000000 0xC51D590F6B9BABC
-    ∷ ok (release (nm (0xC1 ∷ [])) 0x501) 0x0 0xB71E4A54707D214
+    ∷ ok (release (nm (0xC1 ∷ [])) 0x0) 0x0 0x14F79B99DF609C65
+    ∷ ok (extend (nm (0xC1 ∷ []))) 0x501000A00050000000000000000000000000000000000 0x18842055286F6306
+    ∷ ok (release (nm (0xC1 ∷ [])) 0x501) 0x0 0x17A42F6978BD7A5E
     ∷ []
 
 pub case14 : T (right [] sequence14)
-unfolding held gaps free used unused format0s choose extentPart format4 format5 format1 format3 records encode readGeometry readExtents readLabel readRecords read goodName limits goodLabel valid taken goodLength settle grant tracksKept rule goodLengths perform initialise printable listing
+unfolding held gaps free used unused format0s choose extentPart format4 format5 format1 format3 records encode readGeometry readExtents readLabel readRecords read goodName limits goodLabel valid taken goodLength settle grant tracksKept toStored toPacked expiryFrom withExpiry rule goodLengths perform initialise convertDate printable listing
 case14 = tt
 
 -- Lengths of every buffer
@@ -390,33 +391,33 @@ case14 = tt
 abbrev pub sequence15 : List Row
 sequence15 =
     begin 4 5 2 1 2 0 0x1D56B5422AF11817
-    ∷ ok (allocate (request (nm (0xC1 ∷ [])) (attr 1) 0 0 4 0 0)) 0x401000300040000000000000000000000000000000000 0xBEEBC1A27153530
-    ∷ ok (allocate (request (nm (0xC2 ∷ [])) (attr 2) 0 0 10 2 0)) 0xA010007000A0000000000000000000000000000000000 0x11ADBB01FF443CD5
-    ∷ sized 560 23 280 (allocate (request (nm (0xC2 ∷ [])) (attr 9) 0 0 1 0 0)) 2
+    ∷ ok (allocate (request (nm (0xC1 ∷ [])) (attr 1) 0 0 4 0 0 noDate)) 0x401000300040000000000000000000000000000000000 0x11A510C4A3A82ABB
+    ∷ ok (allocate (request (nm (0xC2 ∷ [])) (attr 2) 0 0 10 2 0 noDate)) 0xA010007000A0000000000000000000000000000000000 0x662218F49194DE9
+    ∷ sized 560 23 280 (allocate (request (nm (0xC2 ∷ [])) (attr 9) 0 0 1 0 0 noDate)) 2
     ∷ sized 561 24 280 (extend (nm (0xC2 ∷ []))) 2
     ∷ sized 560 25 280 (release (nm (0xC2 ∷ [])) 0x1) 2
-    ∷ sized 559 24 280 (scratch (nm (0xC2 ∷ []))) 2
+    ∷ sized 559 24 280 (scratch (nm (0xC2 ∷ [])) (date 4 0x0080365F) 0) 2
     ∷ sized 560 23 280 (rename (nm (0xC2 ∷ [])) (nm (0xD5 ∷ 0xC5 ∷ 0xE6 ∷ []))) 2
     ∷ sized 280 24 280 (obtain (nm (0xC2 ∷ []))) 2
     ∷ sized 560 25 280 lspace 2
     ∷ sized 420 24 280 lspace 3
-    ∷ sized 700 24 280 (scratch (nm (0xC2 ∷ []))) 3
-    ∷ sized 560 24 280 (allocate (request (raw 43 (0xC2 ∷ [])) (attr 9) 0 0 1 0 0)) 2
+    ∷ sized 700 24 280 (scratch (nm (0xC2 ∷ [])) (date 4 0x0080365F) 0) 3
+    ∷ sized 560 24 280 (allocate (request (raw 43 (0xC2 ∷ [])) (attr 9) 0 0 1 0 0 noDate)) 2
     ∷ sized 560 24 280 (extend (raw 45 (0xC2 ∷ []))) 2
     ∷ sized 560 24 280 (release (raw 0 []) 0x1) 2
-    ∷ sized 560 24 280 (scratch (raw 88 (0xC2 ∷ []))) 2
+    ∷ sized 560 24 280 (scratch (raw 88 (0xC2 ∷ [])) (date 4 0x0080365F) 0) 2
     ∷ sized 560 24 280 (rename (raw 43 (0xC2 ∷ [])) (nm (0xD5 ∷ 0xC5 ∷ 0xE6 ∷ []))) 2
     ∷ sized 560 24 280 (obtain (raw 45 (0xC2 ∷ []))) 2
     ∷ sized 560 24 140 (obtain (nm (0xC2 ∷ []))) 2
     ∷ sized 560 24 281 (obtain (nm (0xC2 ∷ []))) 2
-    ∷ sized 560 24 280 (allocate (request (nm (0xC3 ∷ [])) (attrN 51 5) 0 0 1 0 0)) 2
-    ∷ sized 560 24 280 (allocate (request (nm (0xC3 ∷ [])) (attrN 53 5) 0 0 1 0 0)) 2
+    ∷ sized 560 24 280 (allocate (request (nm (0xC3 ∷ [])) (attrN 51 5) 0 0 1 0 0 noDate)) 2
+    ∷ sized 560 24 280 (allocate (request (nm (0xC3 ∷ [])) (attrN 53 5) 0 0 1 0 0 noDate)) 2
     ∷ sized 560 24 280 (rename (nm (0xC2 ∷ [])) (raw 40 (0xC3 ∷ []))) 2
-    ∷ sized 560 24 0 (scratch (nm (0xC2 ∷ []))) 0
+    ∷ sized 560 24 0 (scratch (nm (0xC2 ∷ [])) (date 4 0x0080365F) 0) 0
     ∷ []
 
 pub case15 : T (right [] sequence15)
-unfolding held gaps free used unused format0s choose extentPart format4 format5 format1 format3 records encode readGeometry readExtents readLabel readRecords read goodName limits goodLabel valid taken goodLength settle grant tracksKept rule goodLengths perform initialise printable listing
+unfolding held gaps free used unused format0s choose extentPart format4 format5 format1 format3 records encode readGeometry readExtents readLabel readRecords read goodName limits goodLabel valid taken goodLength settle grant tracksKept toStored toPacked expiryFrom withExpiry rule goodLengths perform initialise convertDate printable listing
 case15 = tt
 
 -- Names against the rule
@@ -424,30 +425,30 @@ case15 = tt
 abbrev pub sequence16 : List Row
 sequence16 =
     begin 4 5 2 1 2 0 0x1D56B5422AF11817
-    ∷ ok (allocate (request (nm (0xC1 ∷ [])) (attr 1) 0 0 4 0 0)) 0x401000300040000000000000000000000000000000000 0xBEEBC1A27153530
-    ∷ ok (allocate (request (nm (0xC2 ∷ [])) (attr 2) 0 0 10 2 0)) 0xA010007000A0000000000000000000000000000000000 0x11ADBB01FF443CD5
-    ∷ no (allocate (request (nm []) (attr 9) 0 0 1 0 0)) 4
+    ∷ ok (allocate (request (nm (0xC1 ∷ [])) (attr 1) 0 0 4 0 0 noDate)) 0x401000300040000000000000000000000000000000000 0x11A510C4A3A82ABB
+    ∷ ok (allocate (request (nm (0xC2 ∷ [])) (attr 2) 0 0 10 2 0 noDate)) 0xA010007000A0000000000000000000000000000000000 0x662218F49194DE9
+    ∷ no (allocate (request (nm []) (attr 9) 0 0 1 0 0 noDate)) 4
     ∷ no (extend (nm (0x40 ∷ 0xC1 ∷ []))) 4
     ∷ no (release (nm (0xF1 ∷ 0xC1 ∷ [])) 0x1) 4
-    ∷ no (scratch (nm (0x60 ∷ 0xC1 ∷ []))) 4
+    ∷ no (scratch (nm (0x60 ∷ 0xC1 ∷ [])) (date 4 0x0080365F) 0) 4
     ∷ no (rename (nm (0x4B ∷ 0xC1 ∷ [])) (nm (0xD5 ∷ 0xC5 ∷ 0xE6 ∷ []))) 4
     ∷ no (obtain (nm (0xC1 ∷ 0x4B ∷ []))) 4
-    ∷ no (allocate (request (nm (0xC1 ∷ 0x4B ∷ 0x4B ∷ 0xC2 ∷ [])) (attr 9) 0 0 1 0 0)) 4
+    ∷ no (allocate (request (nm (0xC1 ∷ 0x4B ∷ 0x4B ∷ 0xC2 ∷ [])) (attr 9) 0 0 1 0 0 noDate)) 4
     ∷ no (extend (nm (0xC1 ∷ 0x4B ∷ 0xF1 ∷ 0xC2 ∷ []))) 4
     ∷ no (release (nm (0xC1 ∷ 0xC2 ∷ 0xC3 ∷ 0xC4 ∷ 0xC5 ∷ 0xC6 ∷ 0xC7 ∷ 0xC8 ∷ 0xC9 ∷ [])) 0x1) 4
-    ∷ no (scratch (nm (0xC1 ∷ 0x40 ∷ 0xC2 ∷ []))) 4
+    ∷ no (scratch (nm (0xC1 ∷ 0x40 ∷ 0xC2 ∷ [])) (date 4 0x0080365F) 0) 4
     ∷ no (rename (nm (0xC1 ∷ 0x6F ∷ [])) (nm (0xD5 ∷ 0xC5 ∷ 0xE6 ∷ []))) 4
     ∷ no (rename (nm (0xC1 ∷ [])) (nm (0xC1 ∷ 0x4B ∷ []))) 4
     ∷ no (rename (nm (0xD5 ∷ 0xD6 ∷ 0xD5 ∷ 0xC5 ∷ [])) (nm (0xF9 ∷ []))) 4
     ∷ no (obtain (nm (0xC2 ∷ 0x40 ∷ 0x40 ∷ 0x40 ∷ 0x40 ∷ 0x40 ∷ 0x40 ∷ 0x40 ∷ 0x40 ∷ 0x40 ∷ 0x40 ∷ 0x40 ∷ 0x40 ∷ 0x40 ∷ 0x40 ∷ 0x40 ∷ 0x40 ∷ 0x40 ∷ 0x40 ∷ 0x40 ∷ 0x40 ∷ 0x40 ∷ 0x40 ∷ 0x40 ∷ 0x40 ∷ 0x40 ∷ 0x40 ∷ 0x40 ∷ 0x40 ∷ 0x40 ∷ 0x40 ∷ 0x40 ∷ 0x40 ∷ 0x40 ∷ 0x40 ∷ 0x40 ∷ 0x40 ∷ 0x40 ∷ 0x40 ∷ 0x40 ∷ 0x40 ∷ 0x40 ∷ 0x40 ∷ 0xC1 ∷ []))) 4
-    ∷ ok (rename (nm (0xC1 ∷ [])) (nm (0x7C ∷ 0x7B ∷ 0x5B ∷ 0x60 ∷ 0xF9 ∷ 0x4B ∷ 0xE9 ∷ 0x4B ∷ 0xD8 ∷ 0xF0 ∷ []))) 0x0 0x171F20BC1AE2D6DE
-    ∷ ok (rename (nm (0xC2 ∷ [])) (nm (0xC1 ∷ 0xC1 ∷ 0xC1 ∷ 0xC1 ∷ 0xC1 ∷ 0xC1 ∷ 0xC1 ∷ 0xC1 ∷ 0x4B ∷ 0xC1 ∷ 0xC1 ∷ 0xC1 ∷ 0xC1 ∷ 0xC1 ∷ 0xC1 ∷ 0xC1 ∷ 0xC1 ∷ 0x4B ∷ 0xC1 ∷ 0xC1 ∷ 0xC1 ∷ 0xC1 ∷ 0xC1 ∷ 0xC1 ∷ 0xC1 ∷ 0xC1 ∷ 0x4B ∷ 0xC1 ∷ 0xC1 ∷ 0xC1 ∷ 0xC1 ∷ 0xC1 ∷ 0xC1 ∷ 0xC1 ∷ 0xC1 ∷ 0x4B ∷ 0xC1 ∷ 0xC1 ∷ 0xC1 ∷ 0xC1 ∷ 0xC1 ∷ 0xC1 ∷ 0xC1 ∷ 0xC1 ∷ []))) 0x0 0x774E4030143ECE
-    ∷ no (scratch (nm (0xC2 ∷ []))) 5
-    ∷ ok (scratch (nm (0xC1 ∷ 0xC1 ∷ 0xC1 ∷ 0xC1 ∷ 0xC1 ∷ 0xC1 ∷ 0xC1 ∷ 0xC1 ∷ 0x4B ∷ 0xC1 ∷ 0xC1 ∷ 0xC1 ∷ 0xC1 ∷ 0xC1 ∷ 0xC1 ∷ 0xC1 ∷ 0xC1 ∷ 0x4B ∷ 0xC1 ∷ 0xC1 ∷ 0xC1 ∷ 0xC1 ∷ 0xC1 ∷ 0xC1 ∷ 0xC1 ∷ 0xC1 ∷ 0x4B ∷ 0xC1 ∷ 0xC1 ∷ 0xC1 ∷ 0xC1 ∷ 0xC1 ∷ 0xC1 ∷ 0xC1 ∷ 0xC1 ∷ 0x4B ∷ 0xC1 ∷ 0xC1 ∷ 0xC1 ∷ 0xC1 ∷ 0xC1 ∷ 0xC1 ∷ 0xC1 ∷ 0xC1 ∷ []))) 0xA00000000000000000000000000000000000000000000 0x116021D442B3CF39
+    ∷ ok (rename (nm (0xC1 ∷ [])) (nm (0x7C ∷ 0x7B ∷ 0x5B ∷ 0x60 ∷ 0xF9 ∷ 0x4B ∷ 0xE9 ∷ 0x4B ∷ 0xD8 ∷ 0xF0 ∷ []))) 0x0 0xBD3874964B7E7F2
+    ∷ ok (rename (nm (0xC2 ∷ [])) (nm (0xC1 ∷ 0xC1 ∷ 0xC1 ∷ 0xC1 ∷ 0xC1 ∷ 0xC1 ∷ 0xC1 ∷ 0xC1 ∷ 0x4B ∷ 0xC1 ∷ 0xC1 ∷ 0xC1 ∷ 0xC1 ∷ 0xC1 ∷ 0xC1 ∷ 0xC1 ∷ 0xC1 ∷ 0x4B ∷ 0xC1 ∷ 0xC1 ∷ 0xC1 ∷ 0xC1 ∷ 0xC1 ∷ 0xC1 ∷ 0xC1 ∷ 0xC1 ∷ 0x4B ∷ 0xC1 ∷ 0xC1 ∷ 0xC1 ∷ 0xC1 ∷ 0xC1 ∷ 0xC1 ∷ 0xC1 ∷ 0xC1 ∷ 0x4B ∷ 0xC1 ∷ 0xC1 ∷ 0xC1 ∷ 0xC1 ∷ 0xC1 ∷ 0xC1 ∷ 0xC1 ∷ 0xC1 ∷ []))) 0x0 0x152BB4CD79E94FE1
+    ∷ no (scratch (nm (0xC2 ∷ [])) (date 4 0x0080365F) 0) 5
+    ∷ ok (scratch (nm (0xC1 ∷ 0xC1 ∷ 0xC1 ∷ 0xC1 ∷ 0xC1 ∷ 0xC1 ∷ 0xC1 ∷ 0xC1 ∷ 0x4B ∷ 0xC1 ∷ 0xC1 ∷ 0xC1 ∷ 0xC1 ∷ 0xC1 ∷ 0xC1 ∷ 0xC1 ∷ 0xC1 ∷ 0x4B ∷ 0xC1 ∷ 0xC1 ∷ 0xC1 ∷ 0xC1 ∷ 0xC1 ∷ 0xC1 ∷ 0xC1 ∷ 0xC1 ∷ 0x4B ∷ 0xC1 ∷ 0xC1 ∷ 0xC1 ∷ 0xC1 ∷ 0xC1 ∷ 0xC1 ∷ 0xC1 ∷ 0xC1 ∷ 0x4B ∷ 0xC1 ∷ 0xC1 ∷ 0xC1 ∷ 0xC1 ∷ 0xC1 ∷ 0xC1 ∷ 0xC1 ∷ 0xC1 ∷ [])) (date 4 0x0080365F) 0) 0xA00000000000000000000000000000000000000000000 0x1716767EBF46C4C4
     ∷ []
 
 pub case16 : T (right [] sequence16)
-unfolding held gaps free used unused format0s choose extentPart format4 format5 format1 format3 records encode readGeometry readExtents readLabel readRecords read goodName limits goodLabel valid taken goodLength settle grant tracksKept rule goodLengths perform initialise printable listing
+unfolding held gaps free used unused format0s choose extentPart format4 format5 format1 format3 records encode readGeometry readExtents readLabel readRecords read goodName limits goodLabel valid taken goodLength settle grant tracksKept toStored toPacked expiryFrom withExpiry rule goodLengths perform initialise convertDate printable listing
 case16 = tt
 
 -- Kinds, amounts and TTRs out of their ranges
@@ -455,36 +456,36 @@ case16 = tt
 abbrev pub sequence17 : List Row
 sequence17 =
     begin 4 5 2 1 2 0 0x1D56B5422AF11817
-    ∷ ok (allocate (request (nm (0xC1 ∷ [])) (attr 1) 0 0 4 0 0)) 0x401000300040000000000000000000000000000000000 0xBEEBC1A27153530
-    ∷ ok (allocate (request (nm (0xC2 ∷ [])) (attr 2) 0 0 10 2 0)) 0xA010007000A0000000000000000000000000000000000 0x11ADBB01FF443CD5
-    ∷ no (allocate (request (nm (0xC3 ∷ [])) (attr 3) 3 17 1 0 0)) 7
-    ∷ no (allocate (request (nm (0xC3 ∷ [])) (attr 4) 0 0 0 0 0)) 7
-    ∷ no (allocate (request (nm (0xC3 ∷ [])) (attr 5) 1 0 65536 0 0)) 7
-    ∷ no (allocate (request (nm (0xC3 ∷ [])) (attr 6) 0 0 1 16777216 0)) 7
-    ∷ no (allocate (request (nm (0xC3 ∷ [])) (attr 7) 0 0 65535 16777215 0)) 9
-    ∷ no (allocate (request (nm (0xC3 ∷ [])) (attr 8) 2 17 0 0 0)) 7
-    ∷ no (allocate (request (nm (0xC3 ∷ [])) (attr 9) 2 17 4 0 0)) 7
-    ∷ no (allocate (request (nm (0xC3 ∷ [])) (attr 10) 2 4294967295 4294967295 0 0)) 7
-    ∷ no (allocate (request (nm (0xC3 ∷ [])) (attr 11) 2 17 1 1 0)) 7
-    ∷ no (allocate (request (nm (0xC3 ∷ [])) (attr 12) 0 0 1 0 4)) 7
-    ∷ no (allocate (request (nm (0xC3 ∷ [])) (attr 13) 2 17 1 0 4)) 7
-    ∷ no (allocate (request (nm (0xC3 ∷ [])) (attr 14) 0 0 1 0 4294967295)) 7
-    ∷ no (allocate (request (nm (0xC3 ∷ [])) (attr 15) 2 17 1 0 4294967295)) 7
-    ∷ no (allocate (request (nm (0xC3 ∷ [])) (attr 16) 2 17 1 0 1)) 7
-    ∷ no (allocate (request (nm (0xC3 ∷ [])) (attr 17) 2 17 1 0 2)) 7
-    ∷ no (allocate (request (nm (0xC3 ∷ [])) (attr 18) 2 17 1 0 3)) 7
+    ∷ ok (allocate (request (nm (0xC1 ∷ [])) (attr 1) 0 0 4 0 0 noDate)) 0x401000300040000000000000000000000000000000000 0x11A510C4A3A82ABB
+    ∷ ok (allocate (request (nm (0xC2 ∷ [])) (attr 2) 0 0 10 2 0 noDate)) 0xA010007000A0000000000000000000000000000000000 0x662218F49194DE9
+    ∷ no (allocate (request (nm (0xC3 ∷ [])) (attr 3) 3 17 1 0 0 noDate)) 7
+    ∷ no (allocate (request (nm (0xC3 ∷ [])) (attr 4) 0 0 0 0 0 noDate)) 7
+    ∷ no (allocate (request (nm (0xC3 ∷ [])) (attr 5) 1 0 65536 0 0 noDate)) 7
+    ∷ no (allocate (request (nm (0xC3 ∷ [])) (attr 6) 0 0 1 16777216 0 noDate)) 7
+    ∷ no (allocate (request (nm (0xC3 ∷ [])) (attr 7) 0 0 65535 16777215 0 noDate)) 9
+    ∷ no (allocate (request (nm (0xC3 ∷ [])) (attr 8) 2 17 0 0 0 noDate)) 7
+    ∷ no (allocate (request (nm (0xC3 ∷ [])) (attr 9) 2 17 4 0 0 noDate)) 7
+    ∷ no (allocate (request (nm (0xC3 ∷ [])) (attr 10) 2 4294967295 4294967295 0 0 noDate)) 7
+    ∷ no (allocate (request (nm (0xC3 ∷ [])) (attr 11) 2 17 1 1 0 noDate)) 7
+    ∷ no (allocate (request (nm (0xC3 ∷ [])) (attr 12) 0 0 1 0 4 noDate)) 7
+    ∷ no (allocate (request (nm (0xC3 ∷ [])) (attr 13) 2 17 1 0 4 noDate)) 7
+    ∷ no (allocate (request (nm (0xC3 ∷ [])) (attr 14) 0 0 1 0 4294967295 noDate)) 7
+    ∷ no (allocate (request (nm (0xC3 ∷ [])) (attr 15) 2 17 1 0 4294967295 noDate)) 7
+    ∷ no (allocate (request (nm (0xC3 ∷ [])) (attr 16) 2 17 1 0 1 noDate)) 7
+    ∷ no (allocate (request (nm (0xC3 ∷ [])) (attr 17) 2 17 1 0 2 noDate)) 7
+    ∷ no (allocate (request (nm (0xC3 ∷ [])) (attr 18) 2 17 1 0 3 noDate)) 7
     ∷ no (release (nm (0xC2 ∷ [])) 0x1000001) 12
     ∷ no (release (nm (0xC2 ∷ [])) 0xFFFFFFFF) 12
     ∷ no (release (nm (0xC2 ∷ [])) 0xA01) 12
     ∷ no (release (nm (0xC2 ∷ [])) 0x100) 12
-    ∷ ok (release (nm (0xC2 ∷ [])) 0x9FF) 0x0 0xD5FC9716E3DDD1
-    ∷ ok (scratch (nm (0xC1 ∷ []))) 0x400000000000000000000000000000000000000000000 0x13F99DC00DB1FBBC
-    ∷ ok (allocate (request (nm (0xC3 ∷ [])) (attr 25) 0 4294967295 1 16777215 0)) 0x101001100010000000000000000000000000000000000 0x211240116F31A
+    ∷ ok (release (nm (0xC2 ∷ [])) 0x9FF) 0x0 0x158A632460B8EEE4
+    ∷ ok (scratch (nm (0xC1 ∷ [])) (date 4 0x0080365F) 0) 0x400000000000000000000000000000000000000000000 0x2F7AFA2DAF41745
+    ∷ ok (allocate (request (nm (0xC3 ∷ [])) (attr 25) 0 4294967295 1 16777215 0 noDate)) 0x101001100010000000000000000000000000000000000 0x12051EFBC69FA4B5
     ∷ no (extend (nm (0xC3 ∷ []))) 9
     ∷ []
 
 pub case17 : T (right [] sequence17)
-unfolding held gaps free used unused format0s choose extentPart format4 format5 format1 format3 records encode readGeometry readExtents readLabel readRecords read goodName limits goodLabel valid taken goodLength settle grant tracksKept rule goodLengths perform initialise printable listing
+unfolding held gaps free used unused format0s choose extentPart format4 format5 format1 format3 records encode readGeometry readExtents readLabel readRecords read goodName limits goodLabel valid taken goodLength settle grant tracksKept toStored toPacked expiryFrom withExpiry rule goodLengths perform initialise convertDate printable listing
 case17 = tt
 
 -- Where several refusals apply, the first of them
@@ -492,35 +493,35 @@ case17 = tt
 abbrev pub sequence18 : List Row
 sequence18 =
     begin 4 5 2 1 2 0 0x1D56B5422AF11817
-    ∷ ok (allocate (request (nm (0xC1 ∷ [])) (attr 1) 0 0 4 0 0)) 0x401000300040000000000000000000000000000000000 0xBEEBC1A27153530
-    ∷ ok (allocate (request (nm (0xC2 ∷ [])) (attr 2) 0 0 10 2 0)) 0xA010007000A0000000000000000000000000000000000 0x11ADBB01FF443CD5
-    ∷ no (allocate (request (nm []) (attr 3) 9 0 0 0 0)) 4
-    ∷ no (allocate (request (nm (0xC1 ∷ [])) (attr 4) 0 0 0 0 0)) 7
-    ∷ no (allocate (request (nm (0xC1 ∷ [])) (attr 5) 0 0 4 0 0)) 6
-    ∷ no (allocate (request (nm (0xC3 ∷ [])) (attr 6) 0 0 4 0 0)) 9
-    ∷ no (allocate (request (nm (0xC3 ∷ [])) (attr 7) 0 0 3 0 0)) 11
-    ∷ no (allocate (request (nm (0xC1 ∷ [])) (attr 8) 0 0 1 0 4)) 7
-    ∷ no (allocate (request (nm (0xC1 ∷ [])) (attr 9) 0 0 4 0 1)) 6
-    ∷ no (allocate (request (nm (0xC3 ∷ [])) (attr 10) 0 0 4 0 2)) 9
-    ∷ no (allocate (request (nm (0xC3 ∷ [])) (attr 11) 0 0 3 0 3)) 11
+    ∷ ok (allocate (request (nm (0xC1 ∷ [])) (attr 1) 0 0 4 0 0 noDate)) 0x401000300040000000000000000000000000000000000 0x11A510C4A3A82ABB
+    ∷ ok (allocate (request (nm (0xC2 ∷ [])) (attr 2) 0 0 10 2 0 noDate)) 0xA010007000A0000000000000000000000000000000000 0x662218F49194DE9
+    ∷ no (allocate (request (nm []) (attr 3) 9 0 0 0 0 noDate)) 4
+    ∷ no (allocate (request (nm (0xC1 ∷ [])) (attr 4) 0 0 0 0 0 noDate)) 7
+    ∷ no (allocate (request (nm (0xC1 ∷ [])) (attr 5) 0 0 4 0 0 noDate)) 6
+    ∷ no (allocate (request (nm (0xC3 ∷ [])) (attr 6) 0 0 4 0 0 noDate)) 9
+    ∷ no (allocate (request (nm (0xC3 ∷ [])) (attr 7) 0 0 3 0 0 noDate)) 11
+    ∷ no (allocate (request (nm (0xC1 ∷ [])) (attr 8) 0 0 1 0 4 noDate)) 7
+    ∷ no (allocate (request (nm (0xC1 ∷ [])) (attr 9) 0 0 4 0 1 noDate)) 6
+    ∷ no (allocate (request (nm (0xC3 ∷ [])) (attr 10) 0 0 4 0 2 noDate)) 9
+    ∷ no (allocate (request (nm (0xC3 ∷ [])) (attr 11) 0 0 3 0 3 noDate)) 11
     ∷ no (extend (nm (0xC1 ∷ []))) 8
     ∷ no (extend (nm (0xC3 ∷ []))) 5
     ∷ no (release (nm (0xC3 ∷ [])) 0xFFFF00) 5
-    ∷ no (scratch (nm (0xC3 ∷ []))) 5
+    ∷ no (scratch (nm (0xC3 ∷ [])) (date 4 0x0080365F) 0) 5
     ∷ no (obtain (nm (0xC3 ∷ []))) 5
     ∷ no (rename (nm (0xC3 ∷ [])) (nm (0xC1 ∷ []))) 5
     ∷ no (rename (nm (0xC1 ∷ [])) (nm (0xC2 ∷ []))) 6
-    ∷ hurt ((60, 0x01) ∷ []) (allocate (request (nm (0x00 ∷ 0x00 ∷ 0x00 ∷ 0x00 ∷ 0x00 ∷ 0x00 ∷ 0x00 ∷ 0x00 ∷ 0x00 ∷ 0x00 ∷ 0x00 ∷ 0x00 ∷ 0x00 ∷ 0x00 ∷ 0x00 ∷ 0x00 ∷ 0x00 ∷ 0x00 ∷ 0x00 ∷ 0x00 ∷ 0x00 ∷ 0x00 ∷ 0x00 ∷ 0x00 ∷ 0x00 ∷ 0x00 ∷ 0x00 ∷ 0x00 ∷ 0x00 ∷ 0x00 ∷ 0x00 ∷ 0x00 ∷ 0x00 ∷ 0x00 ∷ 0x00 ∷ 0x00 ∷ 0x00 ∷ 0x00 ∷ 0x00 ∷ 0x00 ∷ 0x00 ∷ 0x00 ∷ 0x00 ∷ 0x00 ∷ [])) (attr 9) 0 0 1 0 0)) 3
+    ∷ hurt ((60, 0x01) ∷ []) (allocate (request (nm (0x00 ∷ 0x00 ∷ 0x00 ∷ 0x00 ∷ 0x00 ∷ 0x00 ∷ 0x00 ∷ 0x00 ∷ 0x00 ∷ 0x00 ∷ 0x00 ∷ 0x00 ∷ 0x00 ∷ 0x00 ∷ 0x00 ∷ 0x00 ∷ 0x00 ∷ 0x00 ∷ 0x00 ∷ 0x00 ∷ 0x00 ∷ 0x00 ∷ 0x00 ∷ 0x00 ∷ 0x00 ∷ 0x00 ∷ 0x00 ∷ 0x00 ∷ 0x00 ∷ 0x00 ∷ 0x00 ∷ 0x00 ∷ 0x00 ∷ 0x00 ∷ 0x00 ∷ 0x00 ∷ 0x00 ∷ 0x00 ∷ 0x00 ∷ 0x00 ∷ 0x00 ∷ 0x00 ∷ 0x00 ∷ 0x00 ∷ [])) (attr 9) 0 0 1 0 0 noDate)) 3
     ∷ hurt ((60, 0x01) ∷ []) (extend (nm (0x00 ∷ 0x00 ∷ 0x00 ∷ 0x00 ∷ 0x00 ∷ 0x00 ∷ 0x00 ∷ 0x00 ∷ 0x00 ∷ 0x00 ∷ 0x00 ∷ 0x00 ∷ 0x00 ∷ 0x00 ∷ 0x00 ∷ 0x00 ∷ 0x00 ∷ 0x00 ∷ 0x00 ∷ 0x00 ∷ 0x00 ∷ 0x00 ∷ 0x00 ∷ 0x00 ∷ 0x00 ∷ 0x00 ∷ 0x00 ∷ 0x00 ∷ 0x00 ∷ 0x00 ∷ 0x00 ∷ 0x00 ∷ 0x00 ∷ 0x00 ∷ 0x00 ∷ 0x00 ∷ 0x00 ∷ 0x00 ∷ 0x00 ∷ 0x00 ∷ 0x00 ∷ 0x00 ∷ 0x00 ∷ 0x00 ∷ []))) 3
     ∷ hurt ((60, 0x01) ∷ []) (release (nm (0x00 ∷ 0x00 ∷ 0x00 ∷ 0x00 ∷ 0x00 ∷ 0x00 ∷ 0x00 ∷ 0x00 ∷ 0x00 ∷ 0x00 ∷ 0x00 ∷ 0x00 ∷ 0x00 ∷ 0x00 ∷ 0x00 ∷ 0x00 ∷ 0x00 ∷ 0x00 ∷ 0x00 ∷ 0x00 ∷ 0x00 ∷ 0x00 ∷ 0x00 ∷ 0x00 ∷ 0x00 ∷ 0x00 ∷ 0x00 ∷ 0x00 ∷ 0x00 ∷ 0x00 ∷ 0x00 ∷ 0x00 ∷ 0x00 ∷ 0x00 ∷ 0x00 ∷ 0x00 ∷ 0x00 ∷ 0x00 ∷ 0x00 ∷ 0x00 ∷ 0x00 ∷ 0x00 ∷ 0x00 ∷ 0x00 ∷ [])) 0x1) 3
-    ∷ hurt ((60, 0x01) ∷ []) (scratch (nm (0x00 ∷ 0x00 ∷ 0x00 ∷ 0x00 ∷ 0x00 ∷ 0x00 ∷ 0x00 ∷ 0x00 ∷ 0x00 ∷ 0x00 ∷ 0x00 ∷ 0x00 ∷ 0x00 ∷ 0x00 ∷ 0x00 ∷ 0x00 ∷ 0x00 ∷ 0x00 ∷ 0x00 ∷ 0x00 ∷ 0x00 ∷ 0x00 ∷ 0x00 ∷ 0x00 ∷ 0x00 ∷ 0x00 ∷ 0x00 ∷ 0x00 ∷ 0x00 ∷ 0x00 ∷ 0x00 ∷ 0x00 ∷ 0x00 ∷ 0x00 ∷ 0x00 ∷ 0x00 ∷ 0x00 ∷ 0x00 ∷ 0x00 ∷ 0x00 ∷ 0x00 ∷ 0x00 ∷ 0x00 ∷ 0x00 ∷ []))) 3
+    ∷ hurt ((60, 0x01) ∷ []) (scratch (nm (0x00 ∷ 0x00 ∷ 0x00 ∷ 0x00 ∷ 0x00 ∷ 0x00 ∷ 0x00 ∷ 0x00 ∷ 0x00 ∷ 0x00 ∷ 0x00 ∷ 0x00 ∷ 0x00 ∷ 0x00 ∷ 0x00 ∷ 0x00 ∷ 0x00 ∷ 0x00 ∷ 0x00 ∷ 0x00 ∷ 0x00 ∷ 0x00 ∷ 0x00 ∷ 0x00 ∷ 0x00 ∷ 0x00 ∷ 0x00 ∷ 0x00 ∷ 0x00 ∷ 0x00 ∷ 0x00 ∷ 0x00 ∷ 0x00 ∷ 0x00 ∷ 0x00 ∷ 0x00 ∷ 0x00 ∷ 0x00 ∷ 0x00 ∷ 0x00 ∷ 0x00 ∷ 0x00 ∷ 0x00 ∷ 0x00 ∷ [])) (date 4 0x0080365F) 0) 3
     ∷ hurt ((60, 0x01) ∷ []) (rename (nm (0x00 ∷ 0x00 ∷ 0x00 ∷ 0x00 ∷ 0x00 ∷ 0x00 ∷ 0x00 ∷ 0x00 ∷ 0x00 ∷ 0x00 ∷ 0x00 ∷ 0x00 ∷ 0x00 ∷ 0x00 ∷ 0x00 ∷ 0x00 ∷ 0x00 ∷ 0x00 ∷ 0x00 ∷ 0x00 ∷ 0x00 ∷ 0x00 ∷ 0x00 ∷ 0x00 ∷ 0x00 ∷ 0x00 ∷ 0x00 ∷ 0x00 ∷ 0x00 ∷ 0x00 ∷ 0x00 ∷ 0x00 ∷ 0x00 ∷ 0x00 ∷ 0x00 ∷ 0x00 ∷ 0x00 ∷ 0x00 ∷ 0x00 ∷ 0x00 ∷ 0x00 ∷ 0x00 ∷ 0x00 ∷ 0x00 ∷ [])) (nm (0xD5 ∷ 0xC5 ∷ 0xE6 ∷ []))) 3
     ∷ hurt ((60, 0x01) ∷ []) (obtain (nm (0x00 ∷ 0x00 ∷ 0x00 ∷ 0x00 ∷ 0x00 ∷ 0x00 ∷ 0x00 ∷ 0x00 ∷ 0x00 ∷ 0x00 ∷ 0x00 ∷ 0x00 ∷ 0x00 ∷ 0x00 ∷ 0x00 ∷ 0x00 ∷ 0x00 ∷ 0x00 ∷ 0x00 ∷ 0x00 ∷ 0x00 ∷ 0x00 ∷ 0x00 ∷ 0x00 ∷ 0x00 ∷ 0x00 ∷ 0x00 ∷ 0x00 ∷ 0x00 ∷ 0x00 ∷ 0x00 ∷ 0x00 ∷ 0x00 ∷ 0x00 ∷ 0x00 ∷ 0x00 ∷ 0x00 ∷ 0x00 ∷ 0x00 ∷ 0x00 ∷ 0x00 ∷ 0x00 ∷ 0x00 ∷ 0x00 ∷ []))) 3
     ∷ hurt ((60, 0x01) ∷ []) lspace 3
     ∷ []
 
 pub case18 : T (right [] sequence18)
-unfolding held gaps free used unused format0s choose extentPart format4 format5 format1 format3 records encode readGeometry readExtents readLabel readRecords read goodName limits goodLabel valid taken goodLength settle grant tracksKept rule goodLengths perform initialise printable listing
+unfolding held gaps free used unused format0s choose extentPart format4 format5 format1 format3 records encode readGeometry readExtents readLabel readRecords read goodName limits goodLabel valid taken goodLength settle grant tracksKept toStored toPacked expiryFrom withExpiry rule goodLengths perform initialise convertDate printable listing
 case18 = tt
 
 -- Damaged tables with a format 3
@@ -528,12 +529,12 @@ case18 = tt
 abbrev pub sequence19 : List Row
 sequence19 =
     begin 11 3 4 4 2 0 0xB433BC0EC5C5BCD
-    ∷ ok (allocate (request (nm (0xC7 ∷ 0xC1 ∷ 0xD7 ∷ [])) (attr 1) 2 9 1 0 0)) 0x101000900010000000000000000000000000000000000 0x165A0968A7CA8336
-    ∷ ok (allocate (request (nm (0xC3 ∷ 0xE8 ∷ 0xD3 ∷ [])) (attr 2) 1 0 1 1 0)) 0x301000600030000000000000000000000000000000000 0x199EE5ABFFE151E3
-    ∷ ok (allocate (request (nm (0xD3 ∷ 0xD6 ∷ 0xD5 ∷ 0xC7 ∷ [])) (attr 3) 0 0 2 2 0)) 0x201000100020000000000000000000000000000000000 0xFFF2F7064401EB4
-    ∷ ok (extend (nm (0xD3 ∷ 0xD6 ∷ 0xD5 ∷ 0xC7 ∷ []))) 0x201000A00020000000000000000000000000000000000 0x1A851B726132BD72
-    ∷ ok (extend (nm (0xD3 ∷ 0xD6 ∷ 0xD5 ∷ 0xC7 ∷ []))) 0x201000C00020000000000000000000000000000000000 0x15EBDFCF84F76EE7
-    ∷ ok (extend (nm (0xD3 ∷ 0xD6 ∷ 0xD5 ∷ 0xC7 ∷ []))) 0x201000E00020000000000000000000000000000000000 0x82889056FFCB1B0
+    ∷ ok (allocate (request (nm (0xC7 ∷ 0xC1 ∷ 0xD7 ∷ [])) (attr 1) 2 9 1 0 0 noDate)) 0x101000900010000000000000000000000000000000000 0xF616E4814785357
+    ∷ ok (allocate (request (nm (0xC3 ∷ 0xE8 ∷ 0xD3 ∷ [])) (attr 2) 1 0 1 1 0 noDate)) 0x301000600030000000000000000000000000000000000 0xB0AE013CFFA7299
+    ∷ ok (allocate (request (nm (0xD3 ∷ 0xD6 ∷ 0xD5 ∷ 0xC7 ∷ [])) (attr 3) 0 0 2 2 0 noDate)) 0x201000100020000000000000000000000000000000000 0x1CDD45963A186A38
+    ∷ ok (extend (nm (0xD3 ∷ 0xD6 ∷ 0xD5 ∷ 0xC7 ∷ []))) 0x201000A00020000000000000000000000000000000000 0x7633198370B08F7
+    ∷ ok (extend (nm (0xD3 ∷ 0xD6 ∷ 0xD5 ∷ 0xC7 ∷ []))) 0x201000C00020000000000000000000000000000000000 0x2C9F5F55ACFBA6C
+    ∷ ok (extend (nm (0xD3 ∷ 0xD6 ∷ 0xD5 ∷ 0xC7 ∷ []))) 0x201000E00020000000000000000000000000000000000 0x15069F2B45D4FD34
     ∷ hurt ((51, 0x03) ∷ (140, 0x00) ∷ (141, 0x00) ∷ (142, 0x00) ∷ (143, 0x00) ∷ (145, 0x00) ∷ (148, 0x00) ∷ (150, 0x00) ∷ (152, 0x00) ∷ (153, 0x00) ∷ (184, 0x00) ∷ []) lspace 3
     ∷ hurt ((110, 0x02) ∷ (112, 0x02) ∷ (114, 0x00) ∷ []) (extend (nm (0xD3 ∷ 0xD6 ∷ 0xD5 ∷ 0xC7 ∷ []))) 3
     ∷ hurt ((276, 0x01) ∷ (278, 0x01) ∷ (279, 0x02) ∷ []) (obtain (nm (0xC3 ∷ 0xE8 ∷ 0xD3 ∷ []))) 3
@@ -557,7 +558,7 @@ sequence19 =
     ∷ []
 
 pub case19 : T (right [] sequence19)
-unfolding held gaps free used unused format0s choose extentPart format4 format5 format1 format3 records encode readGeometry readExtents readLabel readRecords read goodName limits goodLabel valid taken goodLength settle grant tracksKept rule goodLengths perform initialise printable listing
+unfolding held gaps free used unused format0s choose extentPart format4 format5 format1 format3 records encode readGeometry readExtents readLabel readRecords read goodName limits goodLabel valid taken goodLength settle grant tracksKept toStored toPacked expiryFrom withExpiry rule goodLengths perform initialise convertDate printable listing
 case19 = tt
 
 -- Random calls, H = 3
@@ -565,22 +566,22 @@ case19 = tt
 abbrev pub sequence21 : List Row
 sequence21 =
     begin 9 3 3 1 3 0 0x192F20BA354C35C9
-    ∷ ok (allocate (request (nm (0x7B ∷ 0xE9 ∷ 0xF9 ∷ [])) (attr 234) 2 4 1 0 0)) 0x101000400010000000000000000000000000000000000 0x1FBC51776E468231
+    ∷ ok (allocate (request (nm (0x7B ∷ 0xE9 ∷ 0xF9 ∷ [])) (attr 234) 2 4 1 0 0 noDate)) 0x101000400010000000000000000000000000000000000 0x1EFC5B0B450D2F6D
     ∷ no (extend (nm (0x7B ∷ 0xE9 ∷ 0xF9 ∷ []))) 8
     ∷ no (extend (nm (0x7B ∷ 0xE9 ∷ 0xF9 ∷ []))) 8
-    ∷ ok (allocate (request (nm (0x7C ∷ 0xF0 ∷ 0x7B ∷ 0xF5 ∷ 0xD1 ∷ 0xE2 ∷ 0x4B ∷ 0x7B ∷ [])) (attr 186) 1 0 2 18 0)) 0x601000600060000000000000000000000000000000000 0x2A7C3C1CD11E75E
-    ∷ ok (allocate (request (nm (0xC1 ∷ 0xF5 ∷ 0xF9 ∷ 0xF0 ∷ 0x4B ∷ 0xD1 ∷ 0xF9 ∷ 0xF9 ∷ 0x7B ∷ 0x4B ∷ 0xC1 ∷ 0xF5 ∷ 0xE2 ∷ 0xE9 ∷ 0xD9 ∷ 0xF5 ∷ 0xD9 ∷ 0xF9 ∷ [])) (attr 34) 1 0 4 0 0)) 0xC01000C000C0000000000000000000000000000000000 0x1FB03BF01A6A1740
-    ∷ hurt ((145, 0x02) ∷ (148, 0x00) ∷ []) (allocate (request (nm (0xE9 ∷ 0xF5 ∷ 0xC9 ∷ 0xE9 ∷ 0xF9 ∷ 0xE2 ∷ 0x4B ∷ 0x5B ∷ 0x7C ∷ 0x5B ∷ 0xD1 ∷ 0x4B ∷ 0xC9 ∷ 0x60 ∷ [])) (attr 109) 0 3426709810 4 2 1)) 3
-    ∷ ok (allocate (request (nm (0xE2 ∷ 0x7B ∷ 0xF0 ∷ 0xC1 ∷ 0xC9 ∷ 0x7B ∷ 0xF5 ∷ 0x4B ∷ 0xD1 ∷ 0xC9 ∷ 0xF5 ∷ 0x5B ∷ 0x60 ∷ 0xF0 ∷ [])) (attr 4) 1 0 1 2 3)) 0x301001800030000000000000000000000000000000000 0x102338E6050DCC0D
-    ∷ ok (scratch (nm (0xE2 ∷ 0x7B ∷ 0xF0 ∷ 0xC1 ∷ 0xC9 ∷ 0x7B ∷ 0xF5 ∷ 0x4B ∷ 0xD1 ∷ 0xC9 ∷ 0xF5 ∷ 0x5B ∷ 0x60 ∷ 0xF0 ∷ []))) 0x300000000000000000000000000000000000000000000 0x1FB03BF01A6A1740
-    ∷ no (allocate (request (nm (0xC2 ∷ 0xC3 ∷ 0xFD ∷ 0xE6 ∷ 0x34 ∷ 0x5C ∷ 0xBE ∷ 0xD1 ∷ 0x66 ∷ 0xBB ∷ 0x9E ∷ 0x62 ∷ 0xD1 ∷ 0xF3 ∷ 0x13 ∷ 0x6E ∷ 0x20 ∷ 0xE0 ∷ 0x6C ∷ 0x0A ∷ 0xF3 ∷ 0x98 ∷ 0xD5 ∷ 0xB5 ∷ 0x34 ∷ 0xC1 ∷ 0x22 ∷ 0x60 ∷ 0x35 ∷ 0x5B ∷ 0x0A ∷ 0x35 ∷ 0xC2 ∷ 0xB7 ∷ 0x1B ∷ 0xB9 ∷ 0xDF ∷ 0xA5 ∷ 0x2D ∷ 0xA1 ∷ 0x95 ∷ 0x93 ∷ 0x2B ∷ 0xF8 ∷ [])) (attr 242) 1 0 1 3 3)) 4
-    ∷ no (allocate (request (nm (0x5B ∷ 0x60 ∷ 0xC9 ∷ 0x5B ∷ 0x4B ∷ 0x7B ∷ 0xC1 ∷ 0x5B ∷ 0x4B ∷ 0xE9 ∷ 0x60 ∷ 0x7C ∷ 0xD9 ∷ 0x5B ∷ [])) (attr 25) 0 422176148 5 0 0)) 9
-    ∷ ok (allocate (request (nm (0xC1 ∷ [])) (attr 224) 2 25 1 0 0)) 0x101001900010000000000000000000000000000000000 0x1777C6CEC63BCCBE
-    ∷ hurt ((528, 0x04) ∷ (532, 0x07) ∷ []) (scratch (nm (0x7C ∷ 0xF0 ∷ 0x7B ∷ 0xF5 ∷ 0xD1 ∷ 0xE2 ∷ 0x4B ∷ 0x7B ∷ []))) 3
+    ∷ ok (allocate (request (nm (0x7C ∷ 0xF0 ∷ 0x7B ∷ 0xF5 ∷ 0xD1 ∷ 0xE2 ∷ 0x4B ∷ 0x7B ∷ [])) (attr 186) 1 0 2 18 0 noDate)) 0x601000600060000000000000000000000000000000000 0xE0D83F0563C730A
+    ∷ ok (allocate (request (nm (0xC1 ∷ 0xF5 ∷ 0xF9 ∷ 0xF0 ∷ 0x4B ∷ 0xD1 ∷ 0xF9 ∷ 0xF9 ∷ 0x7B ∷ 0x4B ∷ 0xC1 ∷ 0xF5 ∷ 0xE2 ∷ 0xE9 ∷ 0xD9 ∷ 0xF5 ∷ 0xD9 ∷ 0xF9 ∷ [])) (attr 34) 1 0 4 0 0 noDate)) 0xC01000C000C0000000000000000000000000000000000 0xA535BCA31401AA9
+    ∷ hurt ((145, 0x02) ∷ (148, 0x00) ∷ []) (allocate (request (nm (0xE9 ∷ 0xF5 ∷ 0xC9 ∷ 0xE9 ∷ 0xF9 ∷ 0xE2 ∷ 0x4B ∷ 0x5B ∷ 0x7C ∷ 0x5B ∷ 0xD1 ∷ 0x4B ∷ 0xC9 ∷ 0x60 ∷ [])) (attr 109) 0 3426709810 4 2 1 noDate)) 3
+    ∷ ok (allocate (request (nm (0xE2 ∷ 0x7B ∷ 0xF0 ∷ 0xC1 ∷ 0xC9 ∷ 0x7B ∷ 0xF5 ∷ 0x4B ∷ 0xD1 ∷ 0xC9 ∷ 0xF5 ∷ 0x5B ∷ 0x60 ∷ 0xF0 ∷ [])) (attr 4) 1 0 1 2 3 noDate)) 0x301001800030000000000000000000000000000000000 0x14B3D312CE380889
+    ∷ ok (scratch (nm (0xE2 ∷ 0x7B ∷ 0xF0 ∷ 0xC1 ∷ 0xC9 ∷ 0x7B ∷ 0xF5 ∷ 0x4B ∷ 0xD1 ∷ 0xC9 ∷ 0xF5 ∷ 0x5B ∷ 0x60 ∷ 0xF0 ∷ [])) (date 4 0x0080365F) 0) 0x300000000000000000000000000000000000000000000 0xA535BCA31401AA9
+    ∷ no (allocate (request (nm (0xC2 ∷ 0xC3 ∷ 0xFD ∷ 0xE6 ∷ 0x34 ∷ 0x5C ∷ 0xBE ∷ 0xD1 ∷ 0x66 ∷ 0xBB ∷ 0x9E ∷ 0x62 ∷ 0xD1 ∷ 0xF3 ∷ 0x13 ∷ 0x6E ∷ 0x20 ∷ 0xE0 ∷ 0x6C ∷ 0x0A ∷ 0xF3 ∷ 0x98 ∷ 0xD5 ∷ 0xB5 ∷ 0x34 ∷ 0xC1 ∷ 0x22 ∷ 0x60 ∷ 0x35 ∷ 0x5B ∷ 0x0A ∷ 0x35 ∷ 0xC2 ∷ 0xB7 ∷ 0x1B ∷ 0xB9 ∷ 0xDF ∷ 0xA5 ∷ 0x2D ∷ 0xA1 ∷ 0x95 ∷ 0x93 ∷ 0x2B ∷ 0xF8 ∷ [])) (attr 242) 1 0 1 3 3 noDate)) 4
+    ∷ no (allocate (request (nm (0x5B ∷ 0x60 ∷ 0xC9 ∷ 0x5B ∷ 0x4B ∷ 0x7B ∷ 0xC1 ∷ 0x5B ∷ 0x4B ∷ 0xE9 ∷ 0x60 ∷ 0x7C ∷ 0xD9 ∷ 0x5B ∷ [])) (attr 25) 0 422176148 5 0 0 noDate)) 9
+    ∷ ok (allocate (request (nm (0xC1 ∷ [])) (attr 224) 2 25 1 0 0 noDate)) 0x101001900010000000000000000000000000000000000 0x7F9EB3477C64768
+    ∷ hurt ((528, 0x04) ∷ (532, 0x07) ∷ []) (scratch (nm (0x7C ∷ 0xF0 ∷ 0x7B ∷ 0xF5 ∷ 0xD1 ∷ 0xE2 ∷ 0x4B ∷ 0x7B ∷ [])) (date 4 0x0080365F) 0) 3
     ∷ []
 
 pub case21 : T (right [] sequence21)
-unfolding held gaps free used unused format0s choose extentPart format4 format5 format1 format3 records encode readGeometry readExtents readLabel readRecords read goodName limits goodLabel valid taken goodLength settle grant tracksKept rule goodLengths perform initialise printable listing
+unfolding held gaps free used unused format0s choose extentPart format4 format5 format1 format3 records encode readGeometry readExtents readLabel readRecords read goodName limits goodLabel valid taken goodLength settle grant tracksKept toStored toPacked expiryFrom withExpiry rule goodLengths perform initialise convertDate printable listing
 case21 = tt
 
 -- Random calls, H = 5
@@ -588,22 +589,22 @@ case21 = tt
 abbrev pub sequence22 : List Row
 sequence22 =
     begin 11 5 12 20 1 0 0x187888AF3FDB19AF
-    ∷ ok (allocate (request (nm (0xC9 ∷ 0xF0 ∷ 0x60 ∷ 0x60 ∷ 0x4B ∷ 0xC9 ∷ 0xC1 ∷ 0xF0 ∷ 0x4B ∷ 0x7C ∷ 0x7C ∷ [])) (attr 151) 2 22 1 0 0)) 0x101001600010000000000000000000000000000000000 0x322C4D20A67A6FE
-    ∷ no (allocate (request (nm (0xD9 ∷ 0x4B ∷ 0x5B ∷ 0x4B ∷ 0x7B ∷ 0x4B ∷ 0x5B ∷ 0x4B ∷ 0x5B ∷ 0x4B ∷ 0x7B ∷ 0x4B ∷ 0xE9 ∷ 0x4B ∷ 0xD1 ∷ 0x4B ∷ 0x7C ∷ [])) (attr 222) 0 2104727299 51 1 2)) 9
-    ∷ ok (allocate (request (nm (0xC9 ∷ 0xC1 ∷ 0xF5 ∷ 0x4B ∷ 0xD9 ∷ 0xD9 ∷ 0xD1 ∷ 0xE2 ∷ [])) (attr 233) 1 0 3 0 0)) 0xF010005000F0000000000000000000000000000000000 0x1FD3CA4A18C765F4
+    ∷ ok (allocate (request (nm (0xC9 ∷ 0xF0 ∷ 0x60 ∷ 0x60 ∷ 0x4B ∷ 0xC9 ∷ 0xC1 ∷ 0xF0 ∷ 0x4B ∷ 0x7C ∷ 0x7C ∷ [])) (attr 151) 2 22 1 0 0 noDate)) 0x101001600010000000000000000000000000000000000 0x191DC9DFE320F2F6
+    ∷ no (allocate (request (nm (0xD9 ∷ 0x4B ∷ 0x5B ∷ 0x4B ∷ 0x7B ∷ 0x4B ∷ 0x5B ∷ 0x4B ∷ 0x5B ∷ 0x4B ∷ 0x7B ∷ 0x4B ∷ 0xE9 ∷ 0x4B ∷ 0xD1 ∷ 0x4B ∷ 0x7C ∷ [])) (attr 222) 0 2104727299 51 1 2 noDate)) 9
+    ∷ ok (allocate (request (nm (0xC9 ∷ 0xC1 ∷ 0xF5 ∷ 0x4B ∷ 0xD9 ∷ 0xD9 ∷ 0xD1 ∷ 0xE2 ∷ [])) (attr 233) 1 0 3 0 0 noDate)) 0xF010005000F0000000000000000000000000000000000 0x15CB295D41E610AC
     ∷ no (extend (nm (0xC9 ∷ 0xC1 ∷ 0xF5 ∷ 0x4B ∷ 0xD9 ∷ 0xD9 ∷ 0xD1 ∷ 0xE2 ∷ []))) 8
     ∷ no (extend (nm (0xC9 ∷ 0xC1 ∷ 0xF5 ∷ 0x4B ∷ 0xD9 ∷ 0xD9 ∷ 0xD1 ∷ 0xE2 ∷ []))) 8
-    ∷ ok (release (nm (0xC9 ∷ 0xC1 ∷ 0xF5 ∷ 0x4B ∷ 0xD9 ∷ 0xD9 ∷ 0xD1 ∷ 0xE2 ∷ [])) 0x501) 0x500000000000000000000000000000000000000000000 0xE7A839A3DEBC40B
+    ∷ ok (release (nm (0xC9 ∷ 0xC1 ∷ 0xF5 ∷ 0x4B ∷ 0xD9 ∷ 0xD9 ∷ 0xD1 ∷ 0xE2 ∷ [])) 0x501) 0x500000000000000000000000000000000000000000000 0x471E2AD670A6EC3
     ∷ no (extend (nm (0xC9 ∷ 0xC1 ∷ 0xF5 ∷ 0x4B ∷ 0xD9 ∷ 0xD9 ∷ 0xD1 ∷ 0xE2 ∷ []))) 8
     ∷ no (extend (nm (0xC9 ∷ 0xC1 ∷ 0xF5 ∷ 0x4B ∷ 0xD9 ∷ 0xD9 ∷ 0xD1 ∷ 0xE2 ∷ []))) 8
-    ∷ hurt ((276, 0x04) ∷ (279, 0x02) ∷ []) (allocate (request (nm (0xE9 ∷ 0xE9 ∷ 0xF0 ∷ [])) (attr 26) 1 0 1 0 0)) 3
-    ∷ okLabels (obtain (nm (0xC9 ∷ 0xF0 ∷ 0x60 ∷ 0x60 ∷ 0x4B ∷ 0xC9 ∷ 0xC1 ∷ 0xF0 ∷ 0x4B ∷ 0x7C ∷ 0x7C ∷ []))) 0x0 0xE7A839A3DEBC40B 0x14577367AAD94A08
-    ∷ okLabels (obtain (nm (0xC9 ∷ 0xF0 ∷ 0x60 ∷ 0x60 ∷ 0x4B ∷ 0xC9 ∷ 0xC1 ∷ 0xF0 ∷ 0x4B ∷ 0x7C ∷ 0x7C ∷ []))) 0x0 0xE7A839A3DEBC40B 0x14577367AAD94A08
+    ∷ hurt ((276, 0x04) ∷ (279, 0x02) ∷ []) (allocate (request (nm (0xE9 ∷ 0xE9 ∷ 0xF0 ∷ [])) (attr 26) 1 0 1 0 0 noDate)) 3
+    ∷ okLabels (obtain (nm (0xC9 ∷ 0xF0 ∷ 0x60 ∷ 0x60 ∷ 0x4B ∷ 0xC9 ∷ 0xC1 ∷ 0xF0 ∷ 0x4B ∷ 0x7C ∷ 0x7C ∷ []))) 0x0 0x471E2AD670A6EC3 0x8E008F70FEB9118
+    ∷ okLabels (obtain (nm (0xC9 ∷ 0xF0 ∷ 0x60 ∷ 0x60 ∷ 0x4B ∷ 0xC9 ∷ 0xC1 ∷ 0xF0 ∷ 0x4B ∷ 0x7C ∷ 0x7C ∷ []))) 0x0 0x471E2AD670A6EC3 0x8E008F70FEB9118
     ∷ no (extend (nm (0xC9 ∷ 0xC1 ∷ 0xF5 ∷ 0x4B ∷ 0xD9 ∷ 0xD9 ∷ 0xD1 ∷ 0xE2 ∷ []))) 8
     ∷ []
 
 pub case22 : T (right [] sequence22)
-unfolding held gaps free used unused format0s choose extentPart format4 format5 format1 format3 records encode readGeometry readExtents readLabel readRecords read goodName limits goodLabel valid taken goodLength settle grant tracksKept rule goodLengths perform initialise printable listing
+unfolding held gaps free used unused format0s choose extentPart format4 format5 format1 format3 records encode readGeometry readExtents readLabel readRecords read goodName limits goodLabel valid taken goodLength settle grant tracksKept toStored toPacked expiryFrom withExpiry rule goodLengths perform initialise convertDate printable listing
 case22 = tt
 
 -- X'81' starts a cylinder and ends one
@@ -611,10 +612,10 @@ case22 = tt
 abbrev pub sequence23 : List Row
 sequence23 =
     begin 6 4 3 1 2 0 0x7A8069976F8FAB0
-    ∷ ok (allocate (request (nm (0xE2 ∷ 0xE3 ∷ 0xC1 ∷ 0xD9 ∷ 0xE3 ∷ [])) (attr 1) 2 4 3 0 0)) 0x301000400030000000000000000000000000000000000 0x461BB6BFBDD385D
-    ∷ ok (allocate (request (nm (0xC5 ∷ 0xD5 ∷ 0xC4 ∷ [])) (attr 2) 2 9 3 0 0)) 0x301000900030000000000000000000000000000000000 0x166BEA77AC8227D
-    ∷ ok (allocate (request (nm (0xE2 ∷ 0xD3 ∷ 0xC1 ∷ 0xD5 ∷ 0xE3 ∷ [])) (attr 3) 2 13 4 0 0)) 0x401000D00040000000000000000000000000000000000 0xD14E4C007BBD959
-    ∷ ok (allocate (request (nm (0xE6 ∷ 0xC8 ∷ 0xD6 ∷ 0xD3 ∷ 0xC5 ∷ [])) (attr 4) 2 20 4 0 0)) 0x401001400040000000000000000000000000000000000 0x19FD9DC0401C57C5
+    ∷ ok (allocate (request (nm (0xE2 ∷ 0xE3 ∷ 0xC1 ∷ 0xD9 ∷ 0xE3 ∷ [])) (attr 1) 2 4 3 0 0 noDate)) 0x301000400030000000000000000000000000000000000 0x2DD1A00A87246A2
+    ∷ ok (allocate (request (nm (0xC5 ∷ 0xD5 ∷ 0xC4 ∷ [])) (attr 2) 2 9 3 0 0 noDate)) 0x301000900030000000000000000000000000000000000 0x1AD8559909804C2D
+    ∷ ok (allocate (request (nm (0xE2 ∷ 0xD3 ∷ 0xC1 ∷ 0xD5 ∷ 0xE3 ∷ [])) (attr 3) 2 13 4 0 0 noDate)) 0x401000D00040000000000000000000000000000000000 0x17A979B10C2CE3AB
+    ∷ ok (allocate (request (nm (0xE6 ∷ 0xC8 ∷ 0xD6 ∷ 0xD3 ∷ 0xC5 ∷ [])) (attr 4) 2 20 4 0 0 noDate)) 0x401001400040000000000000000000000000000000000 0x28E5676DF119929
     ∷ hurt ((385, 0x81) ∷ []) lspace 3
     ∷ hurt ((525, 0x81) ∷ []) lspace 3
     ∷ hurt ((665, 0x81) ∷ []) lspace 3
@@ -622,7 +623,7 @@ sequence23 =
     ∷ []
 
 pub case23 : T (right [] sequence23)
-unfolding held gaps free used unused format0s choose extentPart format4 format5 format1 format3 records encode readGeometry readExtents readLabel readRecords read goodName limits goodLabel valid taken goodLength settle grant tracksKept rule goodLengths perform initialise printable listing
+unfolding held gaps free used unused format0s choose extentPart format4 format5 format1 format3 records encode readGeometry readExtents readLabel readRecords read goodName limits goodLabel valid taken goodLength settle grant tracksKept toStored toPacked expiryFrom withExpiry rule goodLengths perform initialise convertDate printable listing
 case23 = tt
 
 -- First characters, and those beside them
@@ -630,36 +631,36 @@ case23 = tt
 abbrev pub sequence24 : List Row
 sequence24 =
     begin 2 2 3 1 1 0 0xF39EF9611A36B55
-    ∷ no (scratch (nm (0xC1 ∷ []))) 5
-    ∷ no (scratch (nm (0xC9 ∷ []))) 5
-    ∷ no (scratch (nm (0xD1 ∷ []))) 5
-    ∷ no (scratch (nm (0xD9 ∷ []))) 5
-    ∷ no (scratch (nm (0xE2 ∷ []))) 5
-    ∷ no (scratch (nm (0xE9 ∷ []))) 5
-    ∷ no (scratch (nm (0x5B ∷ []))) 5
-    ∷ no (scratch (nm (0x7B ∷ []))) 5
-    ∷ no (scratch (nm (0x7C ∷ []))) 5
-    ∷ no (scratch (nm (0xC0 ∷ []))) 4
-    ∷ no (scratch (nm (0xCA ∷ []))) 4
-    ∷ no (scratch (nm (0xD0 ∷ []))) 4
-    ∷ no (scratch (nm (0xDA ∷ []))) 4
-    ∷ no (scratch (nm (0xE1 ∷ []))) 4
-    ∷ no (scratch (nm (0xEA ∷ []))) 4
-    ∷ no (scratch (nm (0x5A ∷ []))) 4
-    ∷ no (scratch (nm (0x5C ∷ []))) 4
-    ∷ no (scratch (nm (0x7A ∷ []))) 4
-    ∷ no (scratch (nm (0x7D ∷ []))) 4
-    ∷ no (scratch (nm (0x60 ∷ []))) 4
-    ∷ no (scratch (nm (0x4B ∷ []))) 4
-    ∷ no (scratch (nm [])) 4
-    ∷ no (scratch (nm (0xEF ∷ []))) 4
-    ∷ no (scratch (nm (0xF0 ∷ []))) 4
-    ∷ no (scratch (nm (0xF9 ∷ []))) 4
-    ∷ no (scratch (nm (0xFA ∷ []))) 4
+    ∷ no (scratch (nm (0xC1 ∷ [])) (date 4 0x0080365F) 0) 5
+    ∷ no (scratch (nm (0xC9 ∷ [])) (date 4 0x0080365F) 0) 5
+    ∷ no (scratch (nm (0xD1 ∷ [])) (date 4 0x0080365F) 0) 5
+    ∷ no (scratch (nm (0xD9 ∷ [])) (date 4 0x0080365F) 0) 5
+    ∷ no (scratch (nm (0xE2 ∷ [])) (date 4 0x0080365F) 0) 5
+    ∷ no (scratch (nm (0xE9 ∷ [])) (date 4 0x0080365F) 0) 5
+    ∷ no (scratch (nm (0x5B ∷ [])) (date 4 0x0080365F) 0) 5
+    ∷ no (scratch (nm (0x7B ∷ [])) (date 4 0x0080365F) 0) 5
+    ∷ no (scratch (nm (0x7C ∷ [])) (date 4 0x0080365F) 0) 5
+    ∷ no (scratch (nm (0xC0 ∷ [])) (date 4 0x0080365F) 0) 4
+    ∷ no (scratch (nm (0xCA ∷ [])) (date 4 0x0080365F) 0) 4
+    ∷ no (scratch (nm (0xD0 ∷ [])) (date 4 0x0080365F) 0) 4
+    ∷ no (scratch (nm (0xDA ∷ [])) (date 4 0x0080365F) 0) 4
+    ∷ no (scratch (nm (0xE1 ∷ [])) (date 4 0x0080365F) 0) 4
+    ∷ no (scratch (nm (0xEA ∷ [])) (date 4 0x0080365F) 0) 4
+    ∷ no (scratch (nm (0x5A ∷ [])) (date 4 0x0080365F) 0) 4
+    ∷ no (scratch (nm (0x5C ∷ [])) (date 4 0x0080365F) 0) 4
+    ∷ no (scratch (nm (0x7A ∷ [])) (date 4 0x0080365F) 0) 4
+    ∷ no (scratch (nm (0x7D ∷ [])) (date 4 0x0080365F) 0) 4
+    ∷ no (scratch (nm (0x60 ∷ [])) (date 4 0x0080365F) 0) 4
+    ∷ no (scratch (nm (0x4B ∷ [])) (date 4 0x0080365F) 0) 4
+    ∷ no (scratch (nm []) (date 4 0x0080365F) 0) 4
+    ∷ no (scratch (nm (0xEF ∷ [])) (date 4 0x0080365F) 0) 4
+    ∷ no (scratch (nm (0xF0 ∷ [])) (date 4 0x0080365F) 0) 4
+    ∷ no (scratch (nm (0xF9 ∷ [])) (date 4 0x0080365F) 0) 4
+    ∷ no (scratch (nm (0xFA ∷ [])) (date 4 0x0080365F) 0) 4
     ∷ []
 
 pub case24 : T (right [] sequence24)
-unfolding held gaps free used unused format0s choose extentPart format4 format5 format1 format3 records encode readGeometry readExtents readLabel readRecords read goodName limits goodLabel valid taken goodLength settle grant tracksKept rule goodLengths perform initialise printable listing
+unfolding held gaps free used unused format0s choose extentPart format4 format5 format1 format3 records encode readGeometry readExtents readLabel readRecords read goodName limits goodLabel valid taken goodLength settle grant tracksKept toStored toPacked expiryFrom withExpiry rule goodLengths perform initialise convertDate printable listing
 case24 = tt
 
 -- Later characters, and those beside them; a period that ends 44 bytes
@@ -667,32 +668,32 @@ case24 = tt
 abbrev pub sequence25 : List Row
 sequence25 =
     begin 2 2 3 1 1 0 0xF39EF9611A36B55
-    ∷ no (scratch (nm (0xC1 ∷ 0xC9 ∷ []))) 5
-    ∷ no (scratch (nm (0xC1 ∷ 0xD1 ∷ []))) 5
-    ∷ no (scratch (nm (0xC1 ∷ 0xE9 ∷ []))) 5
-    ∷ no (scratch (nm (0xC1 ∷ 0x7C ∷ []))) 5
-    ∷ no (scratch (nm (0xC1 ∷ 0xF0 ∷ []))) 5
-    ∷ no (scratch (nm (0xC1 ∷ 0xF9 ∷ []))) 5
-    ∷ no (scratch (nm (0xC1 ∷ 0x60 ∷ []))) 5
-    ∷ no (scratch (nm (0xC1 ∷ 0xC0 ∷ []))) 4
-    ∷ no (scratch (nm (0xC1 ∷ 0xCA ∷ []))) 4
-    ∷ no (scratch (nm (0xC1 ∷ 0xD0 ∷ []))) 4
-    ∷ no (scratch (nm (0xC1 ∷ 0xDA ∷ []))) 4
-    ∷ no (scratch (nm (0xC1 ∷ 0xE1 ∷ []))) 4
-    ∷ no (scratch (nm (0xC1 ∷ 0xEA ∷ []))) 4
-    ∷ no (scratch (nm (0xC1 ∷ 0xEF ∷ []))) 4
-    ∷ no (scratch (nm (0xC1 ∷ 0xFA ∷ []))) 4
-    ∷ no (scratch (nm (0xC1 ∷ 0x5F ∷ []))) 4
-    ∷ no (scratch (nm (0xC1 ∷ 0x61 ∷ []))) 4
-    ∷ no (scratch (nm (0xC1 ∷ 0x4B ∷ []))) 4
-    ∷ no (scratch (nm (0xC1 ∷ 0x4A ∷ []))) 4
-    ∷ no (scratch (nm (0xC1 ∷ 0xC1 ∷ 0xC1 ∷ 0xC1 ∷ 0xC1 ∷ 0xC1 ∷ 0xC1 ∷ 0xC1 ∷ 0x4B ∷ 0xC1 ∷ 0xC1 ∷ 0xC1 ∷ 0xC1 ∷ 0xC1 ∷ 0xC1 ∷ 0xC1 ∷ 0xC1 ∷ 0x4B ∷ 0xC1 ∷ 0xC1 ∷ 0xC1 ∷ 0xC1 ∷ 0xC1 ∷ 0xC1 ∷ 0xC1 ∷ 0xC1 ∷ 0x4B ∷ 0xC1 ∷ 0xC1 ∷ 0xC1 ∷ 0xC1 ∷ 0xC1 ∷ 0xC1 ∷ 0xC1 ∷ 0xC1 ∷ 0x4B ∷ 0xC1 ∷ 0xC1 ∷ 0xC1 ∷ 0xC1 ∷ 0xC1 ∷ 0xC1 ∷ 0xC1 ∷ 0xC1 ∷ []))) 5
-    ∷ no (scratch (nm (0xC1 ∷ 0xC1 ∷ 0xC1 ∷ 0xC1 ∷ 0xC1 ∷ 0xC1 ∷ 0xC1 ∷ 0xC1 ∷ 0x4B ∷ 0xC1 ∷ 0xC1 ∷ 0xC1 ∷ 0xC1 ∷ 0xC1 ∷ 0xC1 ∷ 0xC1 ∷ 0xC1 ∷ 0x4B ∷ 0xC1 ∷ 0xC1 ∷ 0xC1 ∷ 0xC1 ∷ 0xC1 ∷ 0xC1 ∷ 0xC1 ∷ 0xC1 ∷ 0x4B ∷ 0xC1 ∷ 0xC1 ∷ 0xC1 ∷ 0xC1 ∷ 0xC1 ∷ 0xC1 ∷ 0xC1 ∷ 0xC1 ∷ 0x4B ∷ 0xC1 ∷ 0xC1 ∷ 0xC1 ∷ 0xC1 ∷ 0xC1 ∷ 0xC1 ∷ 0xC1 ∷ 0x4B ∷ []))) 4
-    ∷ no (scratch (nm (0xC1 ∷ 0xC1 ∷ 0xC1 ∷ 0xC1 ∷ 0xC1 ∷ 0xC1 ∷ 0xC1 ∷ 0xC1 ∷ 0x4B ∷ 0xC1 ∷ 0xC1 ∷ 0xC1 ∷ 0xC1 ∷ 0xC1 ∷ 0xC1 ∷ 0xC1 ∷ 0xC1 ∷ 0x4B ∷ 0xC1 ∷ 0xC1 ∷ 0xC1 ∷ 0xC1 ∷ 0xC1 ∷ 0xC1 ∷ 0xC1 ∷ 0xC1 ∷ 0x4B ∷ 0xC1 ∷ 0xC1 ∷ 0xC1 ∷ 0xC1 ∷ 0xC1 ∷ 0xC1 ∷ 0xC1 ∷ 0xC1 ∷ 0x4B ∷ 0xC1 ∷ 0xC1 ∷ 0xC1 ∷ 0xC1 ∷ 0xC1 ∷ 0xC1 ∷ 0xC1 ∷ []))) 5
+    ∷ no (scratch (nm (0xC1 ∷ 0xC9 ∷ [])) (date 4 0x0080365F) 0) 5
+    ∷ no (scratch (nm (0xC1 ∷ 0xD1 ∷ [])) (date 4 0x0080365F) 0) 5
+    ∷ no (scratch (nm (0xC1 ∷ 0xE9 ∷ [])) (date 4 0x0080365F) 0) 5
+    ∷ no (scratch (nm (0xC1 ∷ 0x7C ∷ [])) (date 4 0x0080365F) 0) 5
+    ∷ no (scratch (nm (0xC1 ∷ 0xF0 ∷ [])) (date 4 0x0080365F) 0) 5
+    ∷ no (scratch (nm (0xC1 ∷ 0xF9 ∷ [])) (date 4 0x0080365F) 0) 5
+    ∷ no (scratch (nm (0xC1 ∷ 0x60 ∷ [])) (date 4 0x0080365F) 0) 5
+    ∷ no (scratch (nm (0xC1 ∷ 0xC0 ∷ [])) (date 4 0x0080365F) 0) 4
+    ∷ no (scratch (nm (0xC1 ∷ 0xCA ∷ [])) (date 4 0x0080365F) 0) 4
+    ∷ no (scratch (nm (0xC1 ∷ 0xD0 ∷ [])) (date 4 0x0080365F) 0) 4
+    ∷ no (scratch (nm (0xC1 ∷ 0xDA ∷ [])) (date 4 0x0080365F) 0) 4
+    ∷ no (scratch (nm (0xC1 ∷ 0xE1 ∷ [])) (date 4 0x0080365F) 0) 4
+    ∷ no (scratch (nm (0xC1 ∷ 0xEA ∷ [])) (date 4 0x0080365F) 0) 4
+    ∷ no (scratch (nm (0xC1 ∷ 0xEF ∷ [])) (date 4 0x0080365F) 0) 4
+    ∷ no (scratch (nm (0xC1 ∷ 0xFA ∷ [])) (date 4 0x0080365F) 0) 4
+    ∷ no (scratch (nm (0xC1 ∷ 0x5F ∷ [])) (date 4 0x0080365F) 0) 4
+    ∷ no (scratch (nm (0xC1 ∷ 0x61 ∷ [])) (date 4 0x0080365F) 0) 4
+    ∷ no (scratch (nm (0xC1 ∷ 0x4B ∷ [])) (date 4 0x0080365F) 0) 4
+    ∷ no (scratch (nm (0xC1 ∷ 0x4A ∷ [])) (date 4 0x0080365F) 0) 4
+    ∷ no (scratch (nm (0xC1 ∷ 0xC1 ∷ 0xC1 ∷ 0xC1 ∷ 0xC1 ∷ 0xC1 ∷ 0xC1 ∷ 0xC1 ∷ 0x4B ∷ 0xC1 ∷ 0xC1 ∷ 0xC1 ∷ 0xC1 ∷ 0xC1 ∷ 0xC1 ∷ 0xC1 ∷ 0xC1 ∷ 0x4B ∷ 0xC1 ∷ 0xC1 ∷ 0xC1 ∷ 0xC1 ∷ 0xC1 ∷ 0xC1 ∷ 0xC1 ∷ 0xC1 ∷ 0x4B ∷ 0xC1 ∷ 0xC1 ∷ 0xC1 ∷ 0xC1 ∷ 0xC1 ∷ 0xC1 ∷ 0xC1 ∷ 0xC1 ∷ 0x4B ∷ 0xC1 ∷ 0xC1 ∷ 0xC1 ∷ 0xC1 ∷ 0xC1 ∷ 0xC1 ∷ 0xC1 ∷ 0xC1 ∷ [])) (date 4 0x0080365F) 0) 5
+    ∷ no (scratch (nm (0xC1 ∷ 0xC1 ∷ 0xC1 ∷ 0xC1 ∷ 0xC1 ∷ 0xC1 ∷ 0xC1 ∷ 0xC1 ∷ 0x4B ∷ 0xC1 ∷ 0xC1 ∷ 0xC1 ∷ 0xC1 ∷ 0xC1 ∷ 0xC1 ∷ 0xC1 ∷ 0xC1 ∷ 0x4B ∷ 0xC1 ∷ 0xC1 ∷ 0xC1 ∷ 0xC1 ∷ 0xC1 ∷ 0xC1 ∷ 0xC1 ∷ 0xC1 ∷ 0x4B ∷ 0xC1 ∷ 0xC1 ∷ 0xC1 ∷ 0xC1 ∷ 0xC1 ∷ 0xC1 ∷ 0xC1 ∷ 0xC1 ∷ 0x4B ∷ 0xC1 ∷ 0xC1 ∷ 0xC1 ∷ 0xC1 ∷ 0xC1 ∷ 0xC1 ∷ 0xC1 ∷ 0x4B ∷ [])) (date 4 0x0080365F) 0) 4
+    ∷ no (scratch (nm (0xC1 ∷ 0xC1 ∷ 0xC1 ∷ 0xC1 ∷ 0xC1 ∷ 0xC1 ∷ 0xC1 ∷ 0xC1 ∷ 0x4B ∷ 0xC1 ∷ 0xC1 ∷ 0xC1 ∷ 0xC1 ∷ 0xC1 ∷ 0xC1 ∷ 0xC1 ∷ 0xC1 ∷ 0x4B ∷ 0xC1 ∷ 0xC1 ∷ 0xC1 ∷ 0xC1 ∷ 0xC1 ∷ 0xC1 ∷ 0xC1 ∷ 0xC1 ∷ 0x4B ∷ 0xC1 ∷ 0xC1 ∷ 0xC1 ∷ 0xC1 ∷ 0xC1 ∷ 0xC1 ∷ 0xC1 ∷ 0xC1 ∷ 0x4B ∷ 0xC1 ∷ 0xC1 ∷ 0xC1 ∷ 0xC1 ∷ 0xC1 ∷ 0xC1 ∷ 0xC1 ∷ [])) (date 4 0x0080365F) 0) 5
     ∷ []
 
 pub case25 : T (right [] sequence25)
-unfolding held gaps free used unused format0s choose extentPart format4 format5 format1 format3 records encode readGeometry readExtents readLabel readRecords read goodName limits goodLabel valid taken goodLength settle grant tracksKept rule goodLengths perform initialise printable listing
+unfolding held gaps free used unused format0s choose extentPart format4 format5 format1 format3 records encode readGeometry readExtents readLabel readRecords read goodName limits goodLabel valid taken goodLength settle grant tracksKept toStored toPacked expiryFrom withExpiry rule goodLengths perform initialise convertDate printable listing
 case25 = tt
 
 -- Amounts and secondary amounts at their limits
@@ -700,23 +701,23 @@ case25 = tt
 abbrev pub sequence26 : List Row
 sequence26 =
     begin 4 2 4 1 1 0 0x1B369E71EBD16E27
-    ∷ no (allocate (request (nm (0xC1 ∷ [])) (attr 1) 1 0 1001 0 0)) 9
-    ∷ no (allocate (request (nm (0xC1 ∷ [])) (attr 2) 0 0 1001 0 0)) 9
-    ∷ no (allocate (request (nm (0xC1 ∷ [])) (attr 3) 1 0 65535 0 0)) 9
-    ∷ no (allocate (request (nm (0xC1 ∷ [])) (attr 4) 0 0 65535 0 0)) 9
-    ∷ no (allocate (request (nm (0xC1 ∷ [])) (attr 5) 1 0 0 0 0)) 7
-    ∷ no (allocate (request (nm (0xC1 ∷ [])) (attr 6) 0 0 0 0 0)) 7
-    ∷ no (allocate (request (nm (0xC1 ∷ [])) (attr 7) 1 0 65536 0 0)) 7
-    ∷ no (allocate (request (nm (0xC1 ∷ [])) (attr 8) 0 0 65536 0 0)) 7
-    ∷ no (allocate (request (nm (0xC1 ∷ [])) (attr 9) 1 0 1 16777216 0)) 7
-    ∷ no (allocate (request (nm (0xC1 ∷ [])) (attr 10) 0 0 1 16777216 0)) 7
-    ∷ ok (allocate (request (nm (0xC1 ∷ [])) (attr 11) 1 0 1 16777215 0)) 0x201000200020000000000000000000000000000000000 0xA5160EC2A19BC80
-    ∷ ok (allocate (request (nm (0xC2 ∷ [])) (attr 12) 0 0 1 16777215 0)) 0x101000400010000000000000000000000000000000000 0x1118A8333355ED68
+    ∷ no (allocate (request (nm (0xC1 ∷ [])) (attr 1) 1 0 1001 0 0 noDate)) 9
+    ∷ no (allocate (request (nm (0xC1 ∷ [])) (attr 2) 0 0 1001 0 0 noDate)) 9
+    ∷ no (allocate (request (nm (0xC1 ∷ [])) (attr 3) 1 0 65535 0 0 noDate)) 9
+    ∷ no (allocate (request (nm (0xC1 ∷ [])) (attr 4) 0 0 65535 0 0 noDate)) 9
+    ∷ no (allocate (request (nm (0xC1 ∷ [])) (attr 5) 1 0 0 0 0 noDate)) 7
+    ∷ no (allocate (request (nm (0xC1 ∷ [])) (attr 6) 0 0 0 0 0 noDate)) 7
+    ∷ no (allocate (request (nm (0xC1 ∷ [])) (attr 7) 1 0 65536 0 0 noDate)) 7
+    ∷ no (allocate (request (nm (0xC1 ∷ [])) (attr 8) 0 0 65536 0 0 noDate)) 7
+    ∷ no (allocate (request (nm (0xC1 ∷ [])) (attr 9) 1 0 1 16777216 0 noDate)) 7
+    ∷ no (allocate (request (nm (0xC1 ∷ [])) (attr 10) 0 0 1 16777216 0 noDate)) 7
+    ∷ ok (allocate (request (nm (0xC1 ∷ [])) (attr 11) 1 0 1 16777215 0 noDate)) 0x201000200020000000000000000000000000000000000 0x927043F846A497B
+    ∷ ok (allocate (request (nm (0xC2 ∷ [])) (attr 12) 0 0 1 16777215 0 noDate)) 0x101000400010000000000000000000000000000000000 0x9E2B6D75D331F96
     ∷ no (extend (nm (0xC1 ∷ []))) 9
     ∷ []
 
 pub case26 : T (right [] sequence26)
-unfolding held gaps free used unused format0s choose extentPart format4 format5 format1 format3 records encode readGeometry readExtents readLabel readRecords read goodName limits goodLabel valid taken goodLength settle grant tracksKept rule goodLengths perform initialise printable listing
+unfolding held gaps free used unused format0s choose extentPart format4 format5 format1 format3 records encode readGeometry readExtents readLabel readRecords read goodName limits goodLabel valid taken goodLength settle grant tracksKept toStored toPacked expiryFrom withExpiry rule goodLengths perform initialise convertDate printable listing
 case26 = tt
 
 -- Initialise with buffers of other lengths; tables of 2, 468 and 469 records
@@ -737,7 +738,7 @@ sequence27 =
     ∷ []
 
 pub case27 : T (right [] sequence27)
-unfolding held gaps free used unused format0s choose extentPart format4 format5 format1 format3 records encode readGeometry readExtents readLabel readRecords read goodName limits goodLabel valid taken goodLength settle grant tracksKept rule goodLengths perform initialise printable listing
+unfolding held gaps free used unused format0s choose extentPart format4 format5 format1 format3 records encode readGeometry readExtents readLabel readRecords read goodName limits goodLabel valid taken goodLength settle grant tracksKept toStored toPacked expiryFrom withExpiry rule goodLengths perform initialise convertDate printable listing
 case27 = tt
 
 -- Listings: all 41 characters of names; tables that are refused
@@ -745,9 +746,9 @@ case27 = tt
 abbrev pub sequence28 : List Row
 sequence28 =
     begin 4 3 4 1 2 0 0x12B74DDC0C209218
-    ∷ ok (allocate (request (nm (0xC1 ∷ 0xC2 ∷ 0xC3 ∷ 0xC4 ∷ 0xC5 ∷ 0xC6 ∷ 0xC7 ∷ 0xC8 ∷ 0x4B ∷ 0xC9 ∷ 0xD1 ∷ 0xD2 ∷ 0xD3 ∷ 0xD4 ∷ 0xD5 ∷ 0xD6 ∷ 0xD7 ∷ 0x4B ∷ 0xD8 ∷ 0xD9 ∷ 0xE2 ∷ 0xE3 ∷ 0xE4 ∷ 0xE5 ∷ 0xE6 ∷ 0xE7 ∷ 0x4B ∷ 0xE8 ∷ 0xE9 ∷ 0xF0 ∷ 0xF1 ∷ 0xF2 ∷ 0xF3 ∷ 0xF4 ∷ 0xF5 ∷ 0x4B ∷ 0x7B ∷ 0xF6 ∷ 0xF7 ∷ 0xF8 ∷ 0xF9 ∷ 0x60 ∷ 0x5B ∷ 0x7C ∷ [])) (attr 1) 0 0 4 0 0)) 0x401000300040000000000000000000000000000000000 0x1E4A0C439C81AE9F
-    ∷ ok (allocate (request (nm (0x5B ∷ [])) (attr 2) 2 8 1 0 0)) 0x101000800010000000000000000000000000000000000 0x1E3B2ECA2202FD6F
-    ∷ ok (allocate (request (nm (0x7C ∷ [])) (attr 3) 2 10 1 0 0)) 0x101000A00010000000000000000000000000000000000 0xFAAE32605CAA54A
+    ∷ ok (allocate (request (nm (0xC1 ∷ 0xC2 ∷ 0xC3 ∷ 0xC4 ∷ 0xC5 ∷ 0xC6 ∷ 0xC7 ∷ 0xC8 ∷ 0x4B ∷ 0xC9 ∷ 0xD1 ∷ 0xD2 ∷ 0xD3 ∷ 0xD4 ∷ 0xD5 ∷ 0xD6 ∷ 0xD7 ∷ 0x4B ∷ 0xD8 ∷ 0xD9 ∷ 0xE2 ∷ 0xE3 ∷ 0xE4 ∷ 0xE5 ∷ 0xE6 ∷ 0xE7 ∷ 0x4B ∷ 0xE8 ∷ 0xE9 ∷ 0xF0 ∷ 0xF1 ∷ 0xF2 ∷ 0xF3 ∷ 0xF4 ∷ 0xF5 ∷ 0x4B ∷ 0x7B ∷ 0xF6 ∷ 0xF7 ∷ 0xF8 ∷ 0xF9 ∷ 0x60 ∷ 0x5B ∷ 0x7C ∷ [])) (attr 1) 0 0 4 0 0 noDate)) 0x401000300040000000000000000000000000000000000 0x17517123092F7EC0
+    ∷ ok (allocate (request (nm (0x5B ∷ [])) (attr 2) 2 8 1 0 0 noDate)) 0x101000800010000000000000000000000000000000000 0xFA72931F21C1E25
+    ∷ ok (allocate (request (nm (0x7C ∷ [])) (attr 3) 2 10 1 0 0 noDate)) 0x101000A00010000000000000000000000000000000000 0x1C88F94BDBA2F0CE
     ∷ listed [] 1120 0x19E71294436AE79A
     ∷ listed ((51, 0x00) ∷ []) 1120 0x46F448A6
     ∷ listed [] 1260 0x46F448A6
@@ -757,7 +758,7 @@ sequence28 =
     ∷ []
 
 pub case28 : T (right [] sequence28)
-unfolding held gaps free used unused format0s choose extentPart format4 format5 format1 format3 records encode readGeometry readExtents readLabel readRecords read goodName limits goodLabel valid taken goodLength settle grant tracksKept rule goodLengths perform initialise printable listing
+unfolding held gaps free used unused format0s choose extentPart format4 format5 format1 format3 records encode readGeometry readExtents readLabel readRecords read goodName limits goodLabel valid taken goodLength settle grant tracksKept toStored toPacked expiryFrom withExpiry rule goodLengths perform initialise convertDate printable listing
 case28 = tt
 
 -- A listing with numbers of four and of five digits
@@ -769,7 +770,7 @@ sequence29 =
     ∷ []
 
 pub case29 : T (right [] sequence29)
-unfolding held gaps free used unused format0s choose extentPart format4 format5 format1 format3 records encode readGeometry readExtents readLabel readRecords read goodName limits goodLabel valid taken goodLength settle grant tracksKept rule goodLengths perform initialise printable listing
+unfolding held gaps free used unused format0s choose extentPart format4 format5 format1 format3 records encode readGeometry readExtents readLabel readRecords read goodName limits goodLabel valid taken goodLength settle grant tracksKept toStored toPacked expiryFrom withExpiry rule goodLengths perform initialise convertDate printable listing
 case29 = tt
 
 -- The ten bytes of an extent, or none
@@ -787,5 +788,5 @@ sequence30 =
     ∷ []
 
 pub case30 : T (right [] sequence30)
-unfolding held gaps free used unused format0s choose extentPart format4 format5 format1 format3 records encode readGeometry readExtents readLabel readRecords read goodName limits goodLabel valid taken goodLength settle grant tracksKept rule goodLengths perform initialise printable listing
+unfolding held gaps free used unused format0s choose extentPart format4 format5 format1 format3 records encode readGeometry readExtents readLabel readRecords read goodName limits goodLabel valid taken goodLength settle grant tracksKept toStored toPacked expiryFrom withExpiry rule goodLengths perform initialise convertDate printable listing
 case30 = tt

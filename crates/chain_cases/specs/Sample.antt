@@ -5,82 +5,83 @@ use Rattle.model.specs.Choice.{choose}
 use Rattle.model.specs.Model.{format0s, free, gaps, held, unused, used}
 use Rattle.model.specs.Tracks.{tracksKept}
 use Rattle.rules.specs.Calls.{allocate, extend, grant, lspace, obtain, release, request, rule, scratch}
-use Rattle.rules.specs.Entries.{goodLengths, initialise, perform}
+use Rattle.rules.specs.Dates.{expiryFrom, toPacked, toStored, withExpiry}
+use Rattle.rules.specs.Entries.{convertDate, goodLengths, initialise, perform}
 use Rattle.rules.specs.Layout.{encode, extentPart, format1, format3, format4, format5, records}
 use Rattle.rules.specs.Listing.{listing, printable}
 use Rattle.rules.specs.Reading.{read, readExtents, readGeometry, readLabel, readRecords}
 use Rattle.rules.specs.Slots.{settle}
 use Rattle.rules.specs.Table.{goodLabel, goodLength, goodName, limits, taken, valid}
-use Rattle.case_rows.specs.Check.{Row, attr, build, hurt, nm, no, ok, okLabels, right}
+use Rattle.case_rows.specs.Check.{Row, attr, build, date, hurt, nm, no, noDate, ok, okLabels, right}
 
 -- 26 free extents and more, and a full VTOC
 
 abbrev pub sequence20 : List Row
 sequence20 =
     build 38 2 31 1 1
-    (allocate (request (nm (0xC1 ∷ [])) (attr 1) 0 0 1 1 0)
+    (allocate (request (nm (0xC1 ∷ [])) (attr 1) 0 0 1 1 0 noDate)
     ∷ extend (nm (0xC1 ∷ []))
     ∷ extend (nm (0xC1 ∷ []))
     ∷ extend (nm (0xC1 ∷ []))
     ∷ extend (nm (0xC1 ∷ []))
-    ∷ allocate (request (nm (0xC7 ∷ 0xE4 ∷ 0xC1 ∷ 0xD9 ∷ 0xC4 ∷ [])) (attr 6) 2 7 1 0 0)
-    ∷ allocate (request (nm (0xE6 ∷ 0xF0 ∷ [])) (attr 7) 2 9 1 0 0)
-    ∷ allocate (request (nm (0xE6 ∷ 0xF1 ∷ [])) (attr 8) 2 11 2 0 0)
-    ∷ allocate (request (nm (0xE6 ∷ 0xF2 ∷ [])) (attr 9) 2 17 2 0 0)
-    ∷ allocate (request (nm (0xE6 ∷ 0xF3 ∷ [])) (attr 10) 2 23 2 0 0)
-    ∷ allocate (request (nm (0xE6 ∷ 0xF4 ∷ [])) (attr 11) 2 29 2 0 0)
-    ∷ allocate (request (nm (0xE6 ∷ 0xF5 ∷ [])) (attr 12) 2 35 1 0 0)
-    ∷ allocate (request (nm (0xE6 ∷ 0xF6 ∷ [])) (attr 13) 2 37 1 0 0)
-    ∷ allocate (request (nm (0xE6 ∷ 0xF7 ∷ [])) (attr 14) 2 39 1 0 0)
-    ∷ allocate (request (nm (0xE6 ∷ 0xF8 ∷ [])) (attr 15) 2 41 1 0 0)
-    ∷ allocate (request (nm (0xE6 ∷ 0xF9 ∷ [])) (attr 16) 2 43 1 0 0)
-    ∷ allocate (request (nm (0xE6 ∷ 0xF1 ∷ 0xF0 ∷ [])) (attr 17) 2 45 1 0 0)
-    ∷ allocate (request (nm (0xE6 ∷ 0xF1 ∷ 0xF1 ∷ [])) (attr 18) 2 47 1 0 0)
-    ∷ allocate (request (nm (0xE6 ∷ 0xF1 ∷ 0xF2 ∷ [])) (attr 19) 2 49 1 0 0)
-    ∷ allocate (request (nm (0xE6 ∷ 0xF1 ∷ 0xF3 ∷ [])) (attr 20) 2 51 1 0 0)
-    ∷ allocate (request (nm (0xE6 ∷ 0xF1 ∷ 0xF4 ∷ [])) (attr 21) 2 53 1 0 0)
-    ∷ allocate (request (nm (0xE6 ∷ 0xF1 ∷ 0xF5 ∷ [])) (attr 22) 2 55 1 0 0)
-    ∷ allocate (request (nm (0xE6 ∷ 0xF1 ∷ 0xF6 ∷ [])) (attr 23) 2 57 1 0 0)
-    ∷ allocate (request (nm (0xE6 ∷ 0xF1 ∷ 0xF7 ∷ [])) (attr 24) 2 59 1 0 0)
-    ∷ allocate (request (nm (0xE6 ∷ 0xF1 ∷ 0xF8 ∷ [])) (attr 25) 2 61 1 0 0)
-    ∷ allocate (request (nm (0xE6 ∷ 0xF1 ∷ 0xF9 ∷ [])) (attr 26) 2 63 1 0 0)
-    ∷ allocate (request (nm (0xE6 ∷ 0xF2 ∷ 0xF0 ∷ [])) (attr 27) 2 65 1 0 0)
-    ∷ allocate (request (nm (0xE6 ∷ 0xF2 ∷ 0xF1 ∷ [])) (attr 28) 2 67 1 0 0)
-    ∷ allocate (request (nm (0xE6 ∷ 0xF2 ∷ 0xF2 ∷ [])) (attr 29) 2 69 1 0 0)
-    ∷ allocate (request (nm (0xE6 ∷ 0xF2 ∷ 0xF3 ∷ [])) (attr 30) 2 71 1 0 0)
-    ∷ allocate (request (nm (0xE6 ∷ 0xF2 ∷ 0xF4 ∷ [])) (attr 31) 2 73 1 0 0)
-    ∷ allocate (request (nm (0xE6 ∷ 0xF2 ∷ 0xF5 ∷ [])) (attr 32) 2 75 1 0 0)
+    ∷ allocate (request (nm (0xC7 ∷ 0xE4 ∷ 0xC1 ∷ 0xD9 ∷ 0xC4 ∷ [])) (attr 6) 2 7 1 0 0 noDate)
+    ∷ allocate (request (nm (0xE6 ∷ 0xF0 ∷ [])) (attr 7) 2 9 1 0 0 noDate)
+    ∷ allocate (request (nm (0xE6 ∷ 0xF1 ∷ [])) (attr 8) 2 11 2 0 0 noDate)
+    ∷ allocate (request (nm (0xE6 ∷ 0xF2 ∷ [])) (attr 9) 2 17 2 0 0 noDate)
+    ∷ allocate (request (nm (0xE6 ∷ 0xF3 ∷ [])) (attr 10) 2 23 2 0 0 noDate)
+    ∷ allocate (request (nm (0xE6 ∷ 0xF4 ∷ [])) (attr 11) 2 29 2 0 0 noDate)
+    ∷ allocate (request (nm (0xE6 ∷ 0xF5 ∷ [])) (attr 12) 2 35 1 0 0 noDate)
+    ∷ allocate (request (nm (0xE6 ∷ 0xF6 ∷ [])) (attr 13) 2 37 1 0 0 noDate)
+    ∷ allocate (request (nm (0xE6 ∷ 0xF7 ∷ [])) (attr 14) 2 39 1 0 0 noDate)
+    ∷ allocate (request (nm (0xE6 ∷ 0xF8 ∷ [])) (attr 15) 2 41 1 0 0 noDate)
+    ∷ allocate (request (nm (0xE6 ∷ 0xF9 ∷ [])) (attr 16) 2 43 1 0 0 noDate)
+    ∷ allocate (request (nm (0xE6 ∷ 0xF1 ∷ 0xF0 ∷ [])) (attr 17) 2 45 1 0 0 noDate)
+    ∷ allocate (request (nm (0xE6 ∷ 0xF1 ∷ 0xF1 ∷ [])) (attr 18) 2 47 1 0 0 noDate)
+    ∷ allocate (request (nm (0xE6 ∷ 0xF1 ∷ 0xF2 ∷ [])) (attr 19) 2 49 1 0 0 noDate)
+    ∷ allocate (request (nm (0xE6 ∷ 0xF1 ∷ 0xF3 ∷ [])) (attr 20) 2 51 1 0 0 noDate)
+    ∷ allocate (request (nm (0xE6 ∷ 0xF1 ∷ 0xF4 ∷ [])) (attr 21) 2 53 1 0 0 noDate)
+    ∷ allocate (request (nm (0xE6 ∷ 0xF1 ∷ 0xF5 ∷ [])) (attr 22) 2 55 1 0 0 noDate)
+    ∷ allocate (request (nm (0xE6 ∷ 0xF1 ∷ 0xF6 ∷ [])) (attr 23) 2 57 1 0 0 noDate)
+    ∷ allocate (request (nm (0xE6 ∷ 0xF1 ∷ 0xF7 ∷ [])) (attr 24) 2 59 1 0 0 noDate)
+    ∷ allocate (request (nm (0xE6 ∷ 0xF1 ∷ 0xF8 ∷ [])) (attr 25) 2 61 1 0 0 noDate)
+    ∷ allocate (request (nm (0xE6 ∷ 0xF1 ∷ 0xF9 ∷ [])) (attr 26) 2 63 1 0 0 noDate)
+    ∷ allocate (request (nm (0xE6 ∷ 0xF2 ∷ 0xF0 ∷ [])) (attr 27) 2 65 1 0 0 noDate)
+    ∷ allocate (request (nm (0xE6 ∷ 0xF2 ∷ 0xF1 ∷ [])) (attr 28) 2 67 1 0 0 noDate)
+    ∷ allocate (request (nm (0xE6 ∷ 0xF2 ∷ 0xF2 ∷ [])) (attr 29) 2 69 1 0 0 noDate)
+    ∷ allocate (request (nm (0xE6 ∷ 0xF2 ∷ 0xF3 ∷ [])) (attr 30) 2 71 1 0 0 noDate)
+    ∷ allocate (request (nm (0xE6 ∷ 0xF2 ∷ 0xF4 ∷ [])) (attr 31) 2 73 1 0 0 noDate)
+    ∷ allocate (request (nm (0xE6 ∷ 0xF2 ∷ 0xF5 ∷ [])) (attr 32) 2 75 1 0 0 noDate)
     ∷ [])
-    0x120D4276B4048AA8
+    0x1ECA36F6BCA34BBB
     ∷ no (release (nm (0xC1 ∷ [])) 0x301) 11
-    ∷ ok (release (nm (0xC1 ∷ [])) 0x201) 0x200000000000000000000000000000000000000000000 0xED3D9ED9D7E8C75
-    ∷ ok lspace 0x90016001B000200000000000000000000000000000000 0xED3D9ED9D7E8C75
-    ∷ ok (allocate (request (nm (0xE7 ∷ [])) (attr 36) 0 0 1 0 0)) 0x101000800010000000000000000000000000000000000 0xE37C86DF007EC84
-    ∷ no (allocate (request (nm (0xE8 ∷ [])) (attr 37) 0 0 1 0 0)) 11
-    ∷ ok (scratch (nm (0xE7 ∷ []))) 0x100000000000000000000000000000000000000000000 0xED3D9ED9D7E8C75
+    ∷ ok (release (nm (0xC1 ∷ [])) 0x201) 0x200000000000000000000000000000000000000000000 0x1B90CE6DA61D4D88
+    ∷ ok lspace 0x90016001B000200000000000000000000000000000000 0x1B90CE6DA61D4D88
+    ∷ ok (allocate (request (nm (0xE7 ∷ [])) (attr 36) 0 0 1 0 0 noDate)) 0x101000800010000000000000000000000000000000000 0x14213EDF285FE758
+    ∷ no (allocate (request (nm (0xE8 ∷ [])) (attr 37) 0 0 1 0 0 noDate)) 11
+    ∷ ok (scratch (nm (0xE7 ∷ [])) (date 4 0x0080365F) 0) 0x100000000000000000000000000000000000000000000 0x1B90CE6DA61D4D88
     ∷ hurt ((278, 0x00) ∷ (279, 0x00) ∷ []) lspace 3
     ∷ hurt ((279, 0x05) ∷ []) lspace 3
     ∷ hurt ((279, 0x20) ∷ []) lspace 3
     ∷ hurt ((558, 0x01) ∷ (559, 0x02) ∷ []) lspace 3
-    ∷ ok (extend (nm (0xC1 ∷ []))) 0x101000800010000000000000000000000000000000000 0xCAD386059F5ED10
-    ∷ ok (scratch (nm (0xC7 ∷ 0xE4 ∷ 0xC1 ∷ 0xD9 ∷ 0xC4 ∷ []))) 0x100000000000000000000000000000000000000000000 0x1374970E27CA86B8
-    ∷ ok (scratch (nm (0xE6 ∷ 0xF0 ∷ []))) 0x100000000000000000000000000000000000000000000 0x6938F49850A126D
-    ∷ ok (allocate (request (nm (0xC2 ∷ [])) (attr 46) 2 6 1 0 0)) 0x101000600010000000000000000000000000000000000 0x1D49BC852507A4A6
-    ∷ ok (release (nm (0xC1 ∷ [])) 0x201) 0x100000000000000000000000000000000000000000000 0x55D587BC751EB64
-    ∷ no (allocate (request (nm (0xC3 ∷ [])) (attr 48) 1 0 4 0 0)) 11
-    ∷ no (allocate (request (nm (0xC3 ∷ [])) (attr 49) 1 0 1 0 3)) 11
-    ∷ ok (scratch (nm (0xE6 ∷ 0xF2 ∷ 0xF4 ∷ []))) 0x100000000000000000000000000000000000000000000 0xEF6F6751AAAC689
-    ∷ ok (allocate (request (nm (0xC3 ∷ [])) (attr 51) 1 0 4 0 0)) 0x80400080002000E000200140002001A00020000000000 0x1784E13F6AE3CBF7
-    ∷ ok (scratch (nm (0xC3 ∷ []))) 0x800000000000000000000000000000000000000000000 0xEF6F6751AAAC689
-    ∷ ok (allocate (request (nm (0xC3 ∷ [])) (attr 53) 1 0 1 3 0)) 0x201000800020000000000000000000000000000000000 0x93BBB6275BFF77B
-    ∷ ok (extend (nm (0xC3 ∷ []))) 0x603000E000200140002001A0002000000000000000000 0x5BD0A4144019057
-    ∷ okLabels (obtain (nm (0xC3 ∷ []))) 0x0 0x5BD0A4144019057 0x148BAFE6F4B1DDBF
-    ∷ ok (scratch (nm (0xC3 ∷ []))) 0x800000000000000000000000000000000000000000000 0xEF6F6751AAAC689
-    ∷ ok (allocate (request (nm (0xC3 ∷ [])) (attr 57) 1 0 1 0 3)) 0xA0500080002000E000200140002001A00020020000200 0x1798830CA799AC03
-    ∷ ok (scratch (nm (0xE6 ∷ 0xF2 ∷ 0xF5 ∷ []))) 0x100000000000000000000000000000000000000000000 0x19EE7E7BA7CEC4B0
-    ∷ ok (allocate (request (nm (0xC4 ∷ [])) (attr 59) 0 0 1 0 3)) 0x805004800040005000100070001000A0001000D000100 0x3DE2228F74F4F9B
+    ∷ ok (extend (nm (0xC1 ∷ []))) 0x101000800010000000000000000000000000000000000 0x196A2CE06294AE23
+    ∷ ok (scratch (nm (0xC7 ∷ 0xE4 ∷ 0xC1 ∷ 0xD9 ∷ 0xC4 ∷ [])) (date 4 0x0080365F) 0) 0x100000000000000000000000000000000000000000000 0xE103D6D46A3109E
+    ∷ ok (scratch (nm (0xE6 ∷ 0xF0 ∷ [])) (date 4 0x0080365F) 0) 0x100000000000000000000000000000000000000000000 0x84C33E0DEB852E
+    ∷ ok (allocate (request (nm (0xC2 ∷ [])) (attr 46) 2 6 1 0 0 noDate)) 0x101000600010000000000000000000000000000000000 0x16101FA9FAACB02C
+    ∷ ok (release (nm (0xC1 ∷ [])) 0x201) 0x100000000000000000000000000000000000000000000 0x1E23BBA09CF6F6E9
+    ∷ no (allocate (request (nm (0xC3 ∷ [])) (attr 48) 1 0 4 0 0 noDate)) 11
+    ∷ no (allocate (request (nm (0xC3 ∷ [])) (attr 49) 1 0 1 0 3 noDate)) 11
+    ∷ ok (scratch (nm (0xE6 ∷ 0xF2 ∷ 0xF4 ∷ [])) (date 4 0x0080365F) 0) 0x100000000000000000000000000000000000000000000 0x27261A60C977AB9
+    ∷ ok (allocate (request (nm (0xC3 ∷ [])) (attr 51) 1 0 4 0 0 noDate)) 0x80400080002000E000200140002001A00020000000000 0x146218E2E58EB4CF
+    ∷ ok (scratch (nm (0xC3 ∷ [])) (date 4 0x0080365F) 0) 0x800000000000000000000000000000000000000000000 0x27261A60C977AB9
+    ∷ ok (allocate (request (nm (0xC3 ∷ [])) (attr 53) 1 0 1 3 0 noDate)) 0x201000800020000000000000000000000000000000000 0x13244DA2E04B47D5
+    ∷ ok (extend (nm (0xC3 ∷ []))) 0x603000E000200140002001A0002000000000000000000 0xFA59C81AE8CE0B1
+    ∷ okLabels (obtain (nm (0xC3 ∷ []))) 0x0 0xFA59C81AE8CE0B1 0xBB8A5D05AF7EA87
+    ∷ ok (scratch (nm (0xC3 ∷ [])) (date 4 0x0080365F) 0) 0x800000000000000000000000000000000000000000000 0x27261A60C977AB9
+    ∷ ok (allocate (request (nm (0xC3 ∷ [])) (attr 57) 1 0 1 0 3 noDate)) 0xA0500080002000E000200140002001A00020020000200 0x10084A16E6412E1A
+    ∷ ok (scratch (nm (0xE6 ∷ 0xF2 ∷ 0xF5 ∷ [])) (date 4 0x0080365F) 0) 0x100000000000000000000000000000000000000000000 0x1C6F6B7AC5C0DFDD
+    ∷ ok (allocate (request (nm (0xC4 ∷ [])) (attr 59) 0 0 1 0 3 noDate)) 0x805004800040005000100070001000A0001000D000100 0x84FA2E8AFE46A69
     ∷ []
 
 pub case20 : T (right [] sequence20)
-unfolding held gaps free used unused format0s choose extentPart format4 format5 format1 format3 records encode readGeometry readExtents readLabel readRecords read goodName limits goodLabel valid taken goodLength settle grant tracksKept rule goodLengths perform initialise printable listing
+unfolding held gaps free used unused format0s choose extentPart format4 format5 format1 format3 records encode readGeometry readExtents readLabel readRecords read goodName limits goodLabel valid taken goodLength settle grant tracksKept toStored toPacked expiryFrom withExpiry rule goodLengths perform initialise convertDate printable listing
 case20 = tt

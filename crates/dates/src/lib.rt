@@ -124,10 +124,7 @@ pub fn to_stored(packed: &[u8]) -> Stored
         return not_stored();
     }
     let bytes = store(year, day);
-    Stored {
-        ok: true,
-        bytes,
-    }
+    Stored { ok: true, bytes }
 }
 
 fn not_packed() -> Packed
@@ -154,10 +151,7 @@ pub fn to_packed(stored: &[u8]) -> Packed
         return not_packed();
     }
     let bytes = pack(year, day);
-    Packed {
-        ok: true,
-        bytes,
-    }
+    Packed { ok: true, bytes }
 }
 
 // ---- for allocate and scratch

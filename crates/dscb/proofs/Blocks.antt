@@ -11,12 +11,12 @@ use lib.ListN.{length, getD, take, drop, length-drop, length-take, take-append-d
 use lib.Seq.{drop-drop, getD-drop, getD-take, take-all}
 use Rattle.model.specs.Basics.{fill, part, zeros}
 use Rattle.model.specs.Model.{Extent, Geometry, extent, run}
-use Rattle.model.proofs.Lists.{by}
+use Rattle.model.proofs.Lists.{by, part-part}
 use Rattle.rules.specs.Layout.{extentBytes, extentPart, extentsBytes}
 use Rattle.rules.proofs.Bytes.{fill-split, length-fill}
 use Rattle.dscb.proofs.Records.{length-part}
 use Rattle.dscb.proofs.Tens.{in-format1, in-format3, in-rest3}
-use Rattle.dscb.proofs.Cutting.{part-part, zeros-part}
+use Rattle.dscb.proofs.Cutting.{zeros-part}
 
 abbrev pub noExtent : Extent
 noExtent = extent 0 (run 0 0)

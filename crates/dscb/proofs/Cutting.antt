@@ -5,8 +5,7 @@ use Prim.Native.Nat.{ℕ, zero, suc, _+_, _-_, _≤_, _<_, _/_, _%_}
 use native.Mathlib.Omega.{arith}
 use lib.Dec.{T}
 use lib.ListN.{length, getD, take, drop, replicate, drop-of-length-le, length-replicate, take-append-drop, replicate-append-replicate}
-use lib.Seq.{drop-at, drop-cons, drop-drop, getD-drop, take-at, take-take}
-use Rattle.model.proofs.Lists.{drop-take}
+use lib.Seq.{drop-at, drop-cons, drop-drop, getD-drop, take-at}
 use Rattle.model.specs.Basics.{be3, get3, part, sumOf, zeros}
 use Rattle.rules.specs.Layout.{whole}
 use Rattle.rows.specs.Words.{Bytes, allAre}
@@ -60,9 +59,6 @@ pub alike-is : (v n : ℕ) (xs : List ℕ) → xs ≡ replicate n v → T (allAr
 alike-is v n xs e = subst (λ (y : List ℕ). T (allAre v y)) (sym e) (→are v n)
 
 -- ---- parts of parts
-
-pub part-part : (i n j m : ℕ) (r : List ℕ) → j + m ≤ n → part j m (part i n r) ≡ part (i + j) m r
-part-part i n j m r h = ap (take m) (drop-take j n (drop i r)) ∙ take-take m (n - j) (drop j (drop i r)) (omega arith) ∙ ap (take m) (drop-drop j i r)
 
 pub zeros-part : (i n m : ℕ) → i + n ≤ m → part i n (zeros m) ≡ zeros n
 zeros-part i n m h =

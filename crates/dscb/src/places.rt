@@ -4,6 +4,8 @@
 
 pub const DS1FMTID: usize = 44; // behind the name, DS1DSNAM
 
+pub const DS1EXPDT: usize = 56; // expiry date: year less 1900, day
+
 pub const DS1NOEPV: usize = 59; // number of extents
 
 pub const DS1SCALO: usize = 94; // unit, secondary amount

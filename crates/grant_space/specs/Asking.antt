@@ -30,7 +30,7 @@ pub record Asking (t m s name at a : List ℕ) (g : Geometry) (option : SpaceOpt
 
 -- what is left of a request once its amount is read: the numbers that told it matter no more
 abbrev pub asking : (name at : List ℕ) (secondary : ℕ) → Request
-asking name at secondary = request name at 0 0 0 secondary 0
+asking name at secondary = request name at 0 0 0 secondary 0 []
 
 -- what the rule says of it: the choice of pieces, and the data set with them
 abbrev pub choice : (t name at : List ℕ) (option : SpaceOption) (amount : Amount) (secondary : ℕ) → Outcome

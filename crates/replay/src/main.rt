@@ -13,10 +13,10 @@ fn play_one(table: &mut [u8], lent: &mut usize) -> bool
     requires { ⌜ (length (now table) ≡ 65536) × (now lent < 65536) ⌝ }
     ensures { λ _. ⌜ now (lent .exit) < 65536 ⌝ }
 {
-    let mut asked = [0u8; 128];
+    let mut asked = [0u8; 136];
     let mut line = [0u8; 73];
     let n = io::read_full(STDIN_FILENO, &mut asked);
-    if n < 128 {
+    if n < 136 {
         return false;
     }
     replay_step::step(&asked, table, &mut line);

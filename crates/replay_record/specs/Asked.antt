@@ -1,4 +1,4 @@
--- The fields of a record of 128 bytes (docs/REPLAY.md). Assumes nothing.
+-- The fields of a record of 136 bytes (docs/REPLAY.md). Assumes nothing.
 use Prim.Native.Nat.{ℕ, _+_, _*_, min}
 use mathlib.Core.List.{List, [], _∷_, _++_}
 use lib.ListN.{getD, take, drop}
@@ -19,13 +19,16 @@ labelsLent r = min (get2 r 4) 288
 unfoldable pub tableLent : List ℕ → ℕ
 tableLent r = get2 r 6
 
--- ---- the lent name, the second name or attributes, and the bytes that are put
+-- ---- the lent name, the second name or attributes, the date, and the bytes that are put
 
 unfoldable pub nameAsked : List ℕ → List ℕ
 nameAsked r = part 28 (min (getD r 1 0) 46) r
 
 unfoldable pub otherOf : List ℕ → List ℕ
 otherOf r = part 74 (min (getD r 2 0) 54) r
+
+unfoldable pub dateAsked : List ℕ → List ℕ
+dateAsked r = part 129 (min (getD r 128 0) 7) r
 
 unfoldable pub bytesOf : List ℕ → List ℕ
 bytesOf r = part 28 (min (getD r 1 0) 100) r

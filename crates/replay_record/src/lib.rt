@@ -5,7 +5,7 @@ ghost use mathlib.Core.List.{_∷_};
 ghost use lib.ListN.{length};
 ghost use Rattle.rows.specs.Text.{Written};
 ghost use Rattle.replay_record.specs.Line.{be4, digest, hex, hexByte, hexDigit, lineOf, twoDigits};
-ghost use Rattle.replay_record.specs.Asked.{answerLent, bytesOf, get4, labelsLent, nameAsked, otherOf, overAt, tableLent};
+ghost use Rattle.replay_record.specs.Asked.{answerLent, bytesOf, dateAsked, get4, labelsLent, nameAsked, otherOf, overAt, tableLent};
 
 // ---- the fields of a record
 
@@ -21,7 +21,7 @@ pub fn four(s: &[u8], i: usize) -> u32
 
 // How many bytes of the answer buffer are lent.
 pub fn answer_lent(asked: &[u8]) -> usize
-    requires { ⌜ length (now asked) ≡ 128 ⌝ }
+    requires { ⌜ length (now asked) ≡ 136 ⌝ }
     ensures { λ r. ⌜ (r ≡ answerLent (now (asked .entry))) × (r ≤ 32) ⌝ }
 {
     rows::at_most(rows::wide(asked[3]) as usize, 32)
@@ -29,7 +29,7 @@ pub fn answer_lent(asked: &[u8]) -> usize
 
 // How many bytes of the labels buffer are lent.
 pub fn labels_lent(asked: &[u8]) -> usize
-    requires { ⌜ length (now asked) ≡ 128 ⌝ }
+    requires { ⌜ length (now asked) ≡ 136 ⌝ }
     ensures { λ r. ⌜ (r ≡ labelsLent (now (asked .entry))) × (r ≤ 288) ⌝ }
 {
     rows::at_most(rows::two(asked, 4) as usize, 288)
@@ -37,7 +37,7 @@ pub fn labels_lent(asked: &[u8]) -> usize
 
 // How many bytes of the table buffer are lent.
 pub fn table_lent(asked: &[u8]) -> usize
-    requires { ⌜ length (now asked) ≡ 128 ⌝ }
+    requires { ⌜ length (now asked) ≡ 136 ⌝ }
     ensures { λ r. ⌜ (r ≡ tableLent (now (asked .entry))) × (r < 65536) ⌝ }
 {
     rows::two(asked, 6) as usize
@@ -45,7 +45,7 @@ pub fn table_lent(asked: &[u8]) -> usize
 
 // The lent bytes of the name.
 pub fn name_of(asked: &[u8]) -> &[u8]
-    requires { ⌜ length (now asked) ≡ 128 ⌝ }
+    requires { ⌜ length (now asked) ≡ 136 ⌝ }
     ensures { λ r. ⌜ now r ≡ nameAsked (now (asked .entry)) ⌝ }
 {
     let e = 28 + rows::at_most(rows::wide(asked[1]) as usize, 46);
@@ -54,16 +54,25 @@ pub fn name_of(asked: &[u8]) -> &[u8]
 
 // The lent bytes of the second name or the attributes.
 pub fn other_of(asked: &[u8]) -> &[u8]
-    requires { ⌜ length (now asked) ≡ 128 ⌝ }
+    requires { ⌜ length (now asked) ≡ 136 ⌝ }
     ensures { λ r. ⌜ now r ≡ otherOf (now (asked .entry)) ⌝ }
 {
     let e = 74 + rows::at_most(rows::wide(asked[2]) as usize, 54);
     &asked[74..e]
 }
 
+// The lent bytes of the date.
+pub fn date_of(asked: &[u8]) -> &[u8]
+    requires { ⌜ length (now asked) ≡ 136 ⌝ }
+    ensures { λ r. ⌜ now r ≡ dateAsked (now (asked .entry)) ⌝ }
+{
+    let e = 129 + rows::at_most(rows::wide(asked[128]) as usize, 7);
+    &asked[129..e]
+}
+
 // The bytes that are put.
 pub fn bytes_of(asked: &[u8]) -> &[u8]
-    requires { ⌜ length (now asked) ≡ 128 ⌝ }
+    requires { ⌜ length (now asked) ≡ 136 ⌝ }
     ensures { λ r. ⌜ now r ≡ bytesOf (now (asked .entry)) ⌝ }
 {
     let e = 28 + rows::at_most(rows::wide(asked[1]) as usize, 100);

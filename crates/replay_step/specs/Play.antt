@@ -7,15 +7,18 @@ use mathlib.Core.List.{List, [], _++_}
 use lib.Dec.{eqb}
 use lib.ListN.{getD, take, drop, replicate}
 use Rattle.model.specs.Basics.{within}
-use Rattle.rules.specs.Calls.{Call, Request, allocate, extend, lspace, obtain, preview, release, rename, request, scratch}
+use Rattle.rules.specs.Calls.{Call, DateCall, Request, allocate, dateToPacked, dateToStored, extend, lspace, obtain, preview, release, rename, request, scratch}
 use Rattle.rules.specs.Contracts.{geometry}
-use Rattle.rules.specs.Entries.{Lent, Result, initialise, lent, perform, result}
-use Rattle.replay_record.specs.Asked.{answerLent, bytesOf, get4, labelsLent, nameAsked, otherOf, overAt, tableLent}
+use Rattle.rules.specs.Entries.{Lent, Result, convertDate, initialise, lent, perform, result}
+use Rattle.replay_record.specs.Asked.{answerLent, bytesOf, dateAsked, get4, labelsLent, nameAsked, otherOf, overAt, tableLent}
 use Rattle.replay_record.specs.Line.{digest, lineOf}
 
 -- what allocate is asked for
 abbrev pub requestOf : List ℕ → Request
-requestOf r = request (nameAsked r) (otherOf r) (get4 r 8) (get4 r 12) (get4 r 16) (get4 r 20) (get4 r 24)
+requestOf r = request (nameAsked r) (otherOf r) (get4 r 8) (get4 r 12) (get4 r 16) (get4 r 20) (get4 r 24) (dateAsked r)
+
+abbrev pub scratchOf : List ℕ → Call
+scratchOf r = scratch (nameAsked r) (dateAsked r) (get4 r 8)
 
 -- ---- a call, with the lent first bytes of the buffers; the bytes behind them stay. Only obtain is lent labels
 
@@ -34,6 +37,10 @@ initialised r b =
 unfoldable pub called : List ℕ → Lent → Call → Result
 called r b c = wholeTable r b (perform (lentOf r b []) c) (b .extra)
 
+-- a date is converted without the table
+unfoldable pub told : List ℕ → Lent → DateCall → Result
+told r b c = wholeTable r b (convertDate c (lentOf r b [])) (b .extra)
+
 abbrev pub withLabels : List ℕ → Lent → Result → Result
 withLabels r b p = wholeTable r b p (p .after .extra ++ drop (labelsLent r) (b .extra))
 
@@ -44,6 +51,10 @@ obtained r b = withLabels r b (perform (lentOf r b (take (labelsLent r) (b .extr
 abbrev pub Does : (Lent → Result) → (t a : List ℕ) (r : ℕ) (t′ a′ : List ℕ) → Type 0
 Does f t a r t′ a′ = (l : List ℕ) → result r (lent t′ a′ l) ≡ f (lent t a l)
 
+-- the same, beside any table
+abbrev pub Tells : (asked : List ℕ) → DateCall → (a : List ℕ) (r : ℕ) (a′ : List ℕ) → Type 0
+Tells asked c a r a′ = (t : List ℕ) → Does (λ b. told asked b c) t a r t a′
+
 -- ---- put
 
 unfoldable pub loaded : List ℕ → Lent → Result
@@ -52,8 +63,8 @@ loaded r b = result 0 (lent (overAt (get4 r 8) (bytesOf r) (b .table)) (b .answe
 abbrev pub Loads : (asked t : List ℕ) (r : ℕ) (t′ : List ℕ) → Type 0
 Loads asked t r t′ = (a l : List ℕ) → result r (lent t′ a l) ≡ loaded asked (lent t a l)
 
--- ---- by the operation: 1 initialise, 2 allocate, 3 extend, 4 release, 5 scratch, 6 rename, 7 obtain, 8 LSPACE, 9 put; 128 and 2 to 5
--- a preview of operation 2 to 5
+-- ---- by the operation: 1 initialise, 2 allocate, 3 extend, 4 release, 5 scratch, 6 rename, 7 obtain, 8 LSPACE, 9 put, 10 and 11 a date
+-- to its stored and to its packed form; 128 and 2 to 5 a preview of operation 2 to 5
 
 abbrev pub isPreview : ℕ → Bool
 isPreview op = within 130 133 op
@@ -62,18 +73,22 @@ isPreview op = within 130 133 op
 abbrev pub previewed : ℕ → List ℕ → Call
 previewed op r =
     cond (eqb op 130) (allocate (requestOf r))
-    (cond (eqb op 131) (extend (nameAsked r)) (cond (eqb op 132) (release (nameAsked r) (get4 r 8)) (scratch (nameAsked r))))
+    (cond (eqb op 131) (extend (nameAsked r)) (cond (eqb op 132) (release (nameAsked r) (get4 r 8)) (scratchOf r)))
 
 unfoldable pub previewOp : ℕ → List ℕ → Lent → Result
 previewOp op r b = cond (isPreview op) (called r b (preview (previewed op r))) (result 99 b)
 
+unfoldable pub readingOp : ℕ → List ℕ → Lent → Result
+readingOp op r b =
+    cond (eqb op 10) (told r b (dateToStored (dateAsked r))) (cond (eqb op 11) (told r b (dateToPacked (dateAsked r))) (previewOp op r b))
+
 unfoldable pub laterOp : ℕ → List ℕ → Lent → Result
 laterOp op r b =
-    cond (eqb op 5) (called r b (scratch (nameAsked r)))
+    cond (eqb op 5) (called r b (scratchOf r))
     (cond (eqb op 6) (called r b (rename (nameAsked r) (otherOf r)))
     (cond (eqb op 7) (obtained r b)
     (cond (eqb op 8) (called r b lspace)
-    (cond (eqb op 9) (loaded r b) (previewOp op r b)))))
+    (cond (eqb op 9) (loaded r b) (readingOp op r b)))))
 
 unfoldable pub operated : ℕ → List ℕ → Lent → Result
 operated op r b =

@@ -1,15 +1,15 @@
 // One record played (docs/REPLAY.md).
 ghost use mathlib.Core.Path.{_≡_};
 ghost use lib.ListN.{getD, length};
-ghost use Rattle.rules.specs.Calls.{allocate, extend, lspace, preview, release, rename, scratch};
+ghost use Rattle.rules.specs.Calls.{allocate, dateToPacked, dateToStored, extend, lspace, preview, release, rename};
 ghost use Rattle.rules.specs.Entries.{lent, result};
-ghost use Rattle.replay_record.specs.Asked.{get4, nameAsked, otherOf};
-ghost use Rattle.replay_step.specs.Play.{Does, Loads, bothLent, called, freshAnswer, freshLabels, initialised, laterOp, lineFor, obtained, operated, played, previewOp, requestOf};
+ghost use Rattle.replay_record.specs.Asked.{dateAsked, get4, nameAsked, otherOf};
+ghost use Rattle.replay_step.specs.Play.{Does, Loads, Tells, bothLent, called, freshAnswer, freshLabels, initialised, laterOp, lineFor, obtained, operated, played, previewOp, readingOp, requestOf, scratchOf};
 
 // ---- the calls, each with the lent first bytes of the buffers
 
 fn do_initialise(asked: &[u8], table: &mut [u8], answer: &mut [u8]) -> u32
-    requires { ⌜ (length (now asked) ≡ 128) × (length (now table) ≡ 65536) × (length (now answer) ≡ 32) ⌝ }
+    requires { ⌜ (length (now asked) ≡ 136) × (length (now table) ≡ 65536) × (length (now answer) ≡ 32) ⌝ }
     ensures { λ r. ⌜ Does (initialised (now (asked .entry))) (now (table .entry)) (now (answer .entry)) r (now (table .exit)) (now (answer .exit)) ⌝ }
 {
     let n = replay_record::table_lent(asked);
@@ -23,7 +23,7 @@ fn do_initialise(asked: &[u8], table: &mut [u8], answer: &mut [u8]) -> u32
 }
 
 fn do_allocate(asked: &[u8], table: &mut [u8], answer: &mut [u8]) -> u32
-    requires { ⌜ (length (now asked) ≡ 128) × (length (now table) ≡ 65536) × (length (now answer) ≡ 32) ⌝ }
+    requires { ⌜ (length (now asked) ≡ 136) × (length (now table) ≡ 65536) × (length (now answer) ≡ 32) ⌝ }
     ensures { λ r. ⌜ Does (λ b. called (now (asked .entry)) b (allocate (requestOf (now (asked .entry))))) (now (table .entry)) (now (answer .entry)) r (now (table .exit)) (now (answer .exit)) ⌝ }
 {
     let n = replay_record::table_lent(asked);
@@ -35,6 +35,7 @@ fn do_allocate(asked: &[u8], table: &mut [u8], answer: &mut [u8]) -> u32
     let option = replay_record::four(asked, 24);
     let name = replay_record::name_of(asked);
     let attributes = replay_record::other_of(asked);
+    let expiry = replay_record::date_of(asked);
     vtoc::vtoc_allocate(
         &mut table[..n],
         name,
@@ -44,12 +45,13 @@ fn do_allocate(asked: &[u8], table: &mut [u8], answer: &mut [u8]) -> u32
         amount,
         secondary,
         option,
+        expiry,
         &mut answer[..k],
     )
 }
 
 fn do_extend(asked: &[u8], table: &mut [u8], answer: &mut [u8]) -> u32
-    requires { ⌜ (length (now asked) ≡ 128) × (length (now table) ≡ 65536) × (length (now answer) ≡ 32) ⌝ }
+    requires { ⌜ (length (now asked) ≡ 136) × (length (now table) ≡ 65536) × (length (now answer) ≡ 32) ⌝ }
     ensures { λ r. ⌜ Does (λ b. called (now (asked .entry)) b (extend (nameAsked (now (asked .entry))))) (now (table .entry)) (now (answer .entry)) r (now (table .exit)) (now (answer .exit)) ⌝ }
 {
     let n = replay_record::table_lent(asked);
@@ -62,7 +64,7 @@ fn do_extend(asked: &[u8], table: &mut [u8], answer: &mut [u8]) -> u32
 }
 
 fn do_release(asked: &[u8], table: &mut [u8], answer: &mut [u8]) -> u32
-    requires { ⌜ (length (now asked) ≡ 128) × (length (now table) ≡ 65536) × (length (now answer) ≡ 32) ⌝ }
+    requires { ⌜ (length (now asked) ≡ 136) × (length (now table) ≡ 65536) × (length (now answer) ≡ 32) ⌝ }
     ensures { λ r. ⌜ Does (λ b. called (now (asked .entry)) b (release (nameAsked (now (asked .entry))) (get4 (now (asked .entry)) 8))) (now (table .entry)) (now (answer .entry)) r (now (table .exit)) (now (answer .exit)) ⌝ }
 {
     let n = replay_record::table_lent(asked);
@@ -77,20 +79,22 @@ fn do_release(asked: &[u8], table: &mut [u8], answer: &mut [u8]) -> u32
 }
 
 fn do_scratch(asked: &[u8], table: &mut [u8], answer: &mut [u8]) -> u32
-    requires { ⌜ (length (now asked) ≡ 128) × (length (now table) ≡ 65536) × (length (now answer) ≡ 32) ⌝ }
-    ensures { λ r. ⌜ Does (λ b. called (now (asked .entry)) b (scratch (nameAsked (now (asked .entry))))) (now (table .entry)) (now (answer .entry)) r (now (table .exit)) (now (answer .exit)) ⌝ }
+    requires { ⌜ (length (now asked) ≡ 136) × (length (now table) ≡ 65536) × (length (now answer) ≡ 32) ⌝ }
+    ensures { λ r. ⌜ Does (λ b. called (now (asked .entry)) b (scratchOf (now (asked .entry)))) (now (table .entry)) (now (answer .entry)) r (now (table .exit)) (now (answer .exit)) ⌝ }
 {
     let n = replay_record::table_lent(asked);
     let k = replay_record::answer_lent(asked);
     vtoc::vtoc_scratch(
         &mut table[..n],
         replay_record::name_of(asked),
+        replay_record::date_of(asked),
+        replay_record::four(asked, 8),
         &mut answer[..k],
     )
 }
 
 fn do_rename(asked: &[u8], table: &mut [u8], answer: &mut [u8]) -> u32
-    requires { ⌜ (length (now asked) ≡ 128) × (length (now table) ≡ 65536) × (length (now answer) ≡ 32) ⌝ }
+    requires { ⌜ (length (now asked) ≡ 136) × (length (now table) ≡ 65536) × (length (now answer) ≡ 32) ⌝ }
     ensures { λ r. ⌜ Does (λ b. called (now (asked .entry)) b (rename (nameAsked (now (asked .entry))) (otherOf (now (asked .entry))))) (now (table .entry)) (now (answer .entry)) r (now (table .exit)) (now (answer .exit)) ⌝ }
 {
     let n = replay_record::table_lent(asked);
@@ -104,7 +108,7 @@ fn do_rename(asked: &[u8], table: &mut [u8], answer: &mut [u8]) -> u32
 }
 
 fn do_obtain(asked: &[u8], table: &[u8], answer: &mut [u8], labels: &mut [u8]) -> u32
-    requires { ⌜ (length (now asked) ≡ 128) × (length (now table) ≡ 65536) × (length (now answer) ≡ 32) × (length (now labels) ≡ 288) ⌝ }
+    requires { ⌜ (length (now asked) ≡ 136) × (length (now table) ≡ 65536) × (length (now answer) ≡ 32) × (length (now labels) ≡ 288) ⌝ }
     ensures { λ r. ⌜ result r (lent (now (table .entry)) (now (answer .exit)) (now (labels .exit))) ≡ obtained (now (asked .entry)) (lent (now (table .entry)) (now (answer .entry)) (now (labels .entry))) ⌝ }
 {
     let n = replay_record::table_lent(asked);
@@ -119,7 +123,7 @@ fn do_obtain(asked: &[u8], table: &[u8], answer: &mut [u8], labels: &mut [u8]) -
 }
 
 fn do_lspace(asked: &[u8], table: &[u8], answer: &mut [u8]) -> u32
-    requires { ⌜ (length (now asked) ≡ 128) × (length (now table) ≡ 65536) × (length (now answer) ≡ 32) ⌝ }
+    requires { ⌜ (length (now asked) ≡ 136) × (length (now table) ≡ 65536) × (length (now answer) ≡ 32) ⌝ }
     ensures { λ r. ⌜ Does (λ b. called (now (asked .entry)) b lspace) (now (table .entry)) (now (answer .entry)) r (now (table .entry)) (now (answer .exit)) ⌝ }
 {
     let n = replay_record::table_lent(asked);
@@ -128,7 +132,7 @@ fn do_lspace(asked: &[u8], table: &[u8], answer: &mut [u8]) -> u32
 }
 
 fn do_put(asked: &[u8], table: &mut [u8]) -> u32
-    requires { ⌜ length (now asked) ≡ 128 ⌝ }
+    requires { ⌜ length (now asked) ≡ 136 ⌝ }
     ensures { λ r. ⌜ Loads (now (asked .entry)) (now (table .entry)) r (now (table .exit)) ⌝ }
 {
     let place = replay_record::four(asked, 8);
@@ -139,7 +143,7 @@ fn do_put(asked: &[u8], table: &mut [u8]) -> u32
 // ---- previews
 
 fn do_preview_allocate(asked: &[u8], table: &[u8], answer: &mut [u8]) -> u32
-    requires { ⌜ (length (now asked) ≡ 128) × (length (now table) ≡ 65536) × (length (now answer) ≡ 32) ⌝ }
+    requires { ⌜ (length (now asked) ≡ 136) × (length (now table) ≡ 65536) × (length (now answer) ≡ 32) ⌝ }
     ensures { λ r. ⌜ Does (λ b. called (now (asked .entry)) b (preview (allocate (requestOf (now (asked .entry)))))) (now (table .entry)) (now (answer .entry)) r (now (table .entry)) (now (answer .exit)) ⌝ }
 {
     let n = replay_record::table_lent(asked);
@@ -153,12 +157,13 @@ fn do_preview_allocate(asked: &[u8], table: &[u8], answer: &mut [u8]) -> u32
         replay_record::four(asked, 16),
         replay_record::four(asked, 20),
         replay_record::four(asked, 24),
+        replay_record::date_of(asked),
         &mut answer[..k],
     )
 }
 
 fn do_preview_extend(asked: &[u8], table: &[u8], answer: &mut [u8]) -> u32
-    requires { ⌜ (length (now asked) ≡ 128) × (length (now table) ≡ 65536) × (length (now answer) ≡ 32) ⌝ }
+    requires { ⌜ (length (now asked) ≡ 136) × (length (now table) ≡ 65536) × (length (now answer) ≡ 32) ⌝ }
     ensures { λ r. ⌜ Does (λ b. called (now (asked .entry)) b (preview (extend (nameAsked (now (asked .entry)))))) (now (table .entry)) (now (answer .entry)) r (now (table .entry)) (now (answer .exit)) ⌝ }
 {
     let n = replay_record::table_lent(asked);
@@ -167,7 +172,7 @@ fn do_preview_extend(asked: &[u8], table: &[u8], answer: &mut [u8]) -> u32
 }
 
 fn do_preview_release(asked: &[u8], table: &[u8], answer: &mut [u8]) -> u32
-    requires { ⌜ (length (now asked) ≡ 128) × (length (now table) ≡ 65536) × (length (now answer) ≡ 32) ⌝ }
+    requires { ⌜ (length (now asked) ≡ 136) × (length (now table) ≡ 65536) × (length (now answer) ≡ 32) ⌝ }
     ensures { λ r. ⌜ Does (λ b. called (now (asked .entry)) b (preview (release (nameAsked (now (asked .entry))) (get4 (now (asked .entry)) 8)))) (now (table .entry)) (now (answer .entry)) r (now (table .entry)) (now (answer .exit)) ⌝ }
 {
     let n = replay_record::table_lent(asked);
@@ -181,19 +186,43 @@ fn do_preview_release(asked: &[u8], table: &[u8], answer: &mut [u8]) -> u32
 }
 
 fn do_preview_scratch(asked: &[u8], table: &[u8], answer: &mut [u8]) -> u32
-    requires { ⌜ (length (now asked) ≡ 128) × (length (now table) ≡ 65536) × (length (now answer) ≡ 32) ⌝ }
-    ensures { λ r. ⌜ Does (λ b. called (now (asked .entry)) b (preview (scratch (nameAsked (now (asked .entry)))))) (now (table .entry)) (now (answer .entry)) r (now (table .entry)) (now (answer .exit)) ⌝ }
+    requires { ⌜ (length (now asked) ≡ 136) × (length (now table) ≡ 65536) × (length (now answer) ≡ 32) ⌝ }
+    ensures { λ r. ⌜ Does (λ b. called (now (asked .entry)) b (preview (scratchOf (now (asked .entry))))) (now (table .entry)) (now (answer .entry)) r (now (table .entry)) (now (answer .exit)) ⌝ }
 {
     let n = replay_record::table_lent(asked);
     let k = replay_record::answer_lent(asked);
-    vtoc::vtoc_preview_scratch(&table[..n], replay_record::name_of(asked), &mut answer[..k])
+    vtoc::vtoc_preview_scratch(
+        &table[..n],
+        replay_record::name_of(asked),
+        replay_record::date_of(asked),
+        replay_record::four(asked, 8),
+        &mut answer[..k],
+    )
+}
+
+// ---- dates, with no table
+
+fn do_date_to_stored(asked: &[u8], answer: &mut [u8]) -> u32
+    requires { ⌜ (length (now asked) ≡ 136) × (length (now answer) ≡ 32) ⌝ }
+    ensures { λ r. ⌜ Tells (now (asked .entry)) (dateToStored (dateAsked (now (asked .entry)))) (now (answer .entry)) r (now (answer .exit)) ⌝ }
+{
+    let k = replay_record::answer_lent(asked);
+    vtoc::vtoc_date_to_stored(replay_record::date_of(asked), &mut answer[..k])
+}
+
+fn do_date_to_packed(asked: &[u8], answer: &mut [u8]) -> u32
+    requires { ⌜ (length (now asked) ≡ 136) × (length (now answer) ≡ 32) ⌝ }
+    ensures { λ r. ⌜ Tells (now (asked .entry)) (dateToPacked (dateAsked (now (asked .entry)))) (now (answer .entry)) r (now (answer .exit)) ⌝ }
+{
+    let k = replay_record::answer_lent(asked);
+    vtoc::vtoc_date_to_packed(replay_record::date_of(asked), &mut answer[..k])
 }
 
 // ---- by the operation
 
 // The previews: 128 more than the operation of their call.
 fn play_preview(asked: &[u8], table: &[u8], answer: &mut [u8]) -> u32
-    requires { ⌜ (length (now asked) ≡ 128) × (length (now table) ≡ 65536) × (length (now answer) ≡ 32) ⌝ }
+    requires { ⌜ (length (now asked) ≡ 136) × (length (now table) ≡ 65536) × (length (now answer) ≡ 32) ⌝ }
     ensures { λ r. ⌜ Does (previewOp (getD (now (asked .entry)) 0 0) (now (asked .entry))) (now (table .entry)) (now (answer .entry)) r (now (table .entry)) (now (answer .exit)) ⌝ }
 {
     let op = asked[0];
@@ -212,9 +241,24 @@ fn play_preview(asked: &[u8], table: &[u8], answer: &mut [u8]) -> u32
     99
 }
 
+// The conversions of dates, and previews.
+fn play_reading(asked: &[u8], table: &[u8], answer: &mut [u8]) -> u32
+    requires { ⌜ (length (now asked) ≡ 136) × (length (now table) ≡ 65536) × (length (now answer) ≡ 32) ⌝ }
+    ensures { λ r. ⌜ Does (readingOp (getD (now (asked .entry)) 0 0) (now (asked .entry))) (now (table .entry)) (now (answer .entry)) r (now (table .entry)) (now (answer .exit)) ⌝ }
+{
+    let op = asked[0];
+    if op == 10 {
+        return do_date_to_stored(asked, answer);
+    }
+    if op == 11 {
+        return do_date_to_packed(asked, answer);
+    }
+    play_preview(asked, table, answer)
+}
+
 // The operations from 5 on.
 fn play_later(asked: &[u8], table: &mut [u8], answer: &mut [u8], labels: &mut [u8]) -> u32
-    requires { ⌜ (length (now asked) ≡ 128) × (length (now table) ≡ 65536) × (length (now answer) ≡ 32) × (length (now labels) ≡ 288) ⌝ }
+    requires { ⌜ (length (now asked) ≡ 136) × (length (now table) ≡ 65536) × (length (now answer) ≡ 32) × (length (now labels) ≡ 288) ⌝ }
     ensures { λ r. ⌜ result r (lent (now (table .exit)) (now (answer .exit)) (now (labels .exit))) ≡ laterOp (getD (now (asked .entry)) 0 0) (now (asked .entry)) (lent (now (table .entry)) (now (answer .entry)) (now (labels .entry))) ⌝ }
 {
     let op = asked[0];
@@ -233,11 +277,11 @@ fn play_later(asked: &[u8], table: &mut [u8], answer: &mut [u8], labels: &mut [u
     if op == 9 {
         return do_put(asked, table);
     }
-    play_preview(asked, table, answer)
+    play_reading(asked, table, answer)
 }
 
 fn play(asked: &[u8], table: &mut [u8], answer: &mut [u8], labels: &mut [u8]) -> u32
-    requires { ⌜ (length (now asked) ≡ 128) × (length (now table) ≡ 65536) × (length (now answer) ≡ 32) × (length (now labels) ≡ 288) ⌝ }
+    requires { ⌜ (length (now asked) ≡ 136) × (length (now table) ≡ 65536) × (length (now answer) ≡ 32) × (length (now labels) ≡ 288) ⌝ }
     ensures { λ r. ⌜ result r (lent (now (table .exit)) (now (answer .exit)) (now (labels .exit))) ≡ operated (getD (now (asked .entry)) 0 0) (now (asked .entry)) (lent (now (table .entry)) (now (answer .entry)) (now (labels .entry))) ⌝ }
 {
     let op = asked[0];
@@ -260,7 +304,7 @@ fn play(asked: &[u8], table: &mut [u8], answer: &mut [u8], labels: &mut [u8]) ->
 
 // Writes the line of a record, by its result and the buffers after it.
 fn report(asked: &[u8], r: u32, table: &[u8], answer: &[u8], labels: &[u8], line: &mut [u8])
-    requires { ⌜ (length (now asked) ≡ 128) × (length (now table) ≡ 65536) × (length (now answer) ≡ 32) × (length (now labels) ≡ 288) × (length (now line) ≡ 73) ⌝ }
+    requires { ⌜ (length (now asked) ≡ 136) × (length (now table) ≡ 65536) × (length (now answer) ≡ 32) × (length (now labels) ≡ 288) × (length (now line) ≡ 73) ⌝ }
     ensures { λ _. ⌜ now (line .exit) ≡ lineFor (now (asked .entry)) (result r (lent (now (table .entry)) (now (answer .entry)) (now (labels .entry)))) ⌝ }
 {
     let n = replay_record::table_lent(asked);
@@ -286,7 +330,7 @@ fn fresh_labels() -> [u8; 288]
 
 // Plays one record: does what it asks for with the table, and writes its line.
 pub fn step(asked: &[u8], table: &mut [u8], line: &mut [u8])
-    requires { ⌜ (length (now asked) ≡ 128) × (length (now table) ≡ 65536) × (length (now line) ≡ 73) ⌝ }
+    requires { ⌜ (length (now asked) ≡ 136) × (length (now table) ≡ 65536) × (length (now line) ≡ 73) ⌝ }
     ensures { λ _. ⌜ bothLent (now (line .exit)) (now (table .exit)) ≡ played (now (asked .entry)) (now (table .entry)) ⌝ }
 {
     let mut answer = fresh_answer();

@@ -4,51 +4,52 @@ use lib.Dec.{T}
 use Rattle.model.specs.Choice.{choose}
 use Rattle.model.specs.Model.{format0s, free, gaps, held, unused, used}
 use Rattle.model.specs.Tracks.{tracksKept}
-use Rattle.rules.specs.Calls.{allocate, extend, grant, lspace, obtain, preview, release, rename, request, rule, scratch}
-use Rattle.rules.specs.Entries.{goodLengths, initialise, perform}
+use Rattle.rules.specs.Calls.{allocate, dateToPacked, dateToStored, extend, grant, lspace, obtain, preview, release, rename, request, rule, scratch}
+use Rattle.rules.specs.Dates.{expiryFrom, toPacked, toStored, withExpiry}
+use Rattle.rules.specs.Entries.{convertDate, goodLengths, initialise, perform}
 use Rattle.rules.specs.Layout.{encode, extentPart, format1, format3, format4, format5, records}
 use Rattle.rules.specs.Listing.{listing, printable}
 use Rattle.rules.specs.Reading.{read, readExtents, readGeometry, readLabel, readRecords}
 use Rattle.rules.specs.Slots.{settle}
 use Rattle.rules.specs.Table.{goodLabel, goodLength, goodName, limits, taken, valid}
-use Rattle.case_rows.specs.Check.{Row, attr, attrN, begin, hurt, nm, no, ok, okLabels, put, raw, right, sized}
+use Rattle.case_rows.specs.Check.{Row, attr, attrN, begin, convertSized, date, hurt, nm, no, noDate, ok, okLabels, put, raw, right, sized, told, untold}
 
 -- CONTIG, MXIG and ALX of tracks
 
 abbrev pub sequence31 : List Row
 sequence31 =
     begin 31 1 6 1 2 0 0x1F24C8886BE88DF4
-    ∷ ok (allocate (request (nm (0xE6 ∷ 0xF0 ∷ [])) (attr 1) 2 6 1 0 0)) 0x101000600010000000000000000000000000000000000 0x82E7402E0EE8DFF
-    ∷ ok (allocate (request (nm (0xE6 ∷ 0xF1 ∷ [])) (attr 2) 2 12 1 0 0)) 0x101000C00010000000000000000000000000000000000 0xD85A08315B08EEE
-    ∷ ok (allocate (request (nm (0xE6 ∷ 0xF2 ∷ [])) (attr 3) 2 16 1 0 0)) 0x101001000010000000000000000000000000000000000 0x1920F9D2E9829D8D
-    ∷ ok (allocate (request (nm (0xE6 ∷ 0xF3 ∷ [])) (attr 4) 2 22 1 0 0)) 0x101001600010000000000000000000000000000000000 0x1C2BF6803DC0AD15
-    ∷ ok (allocate (request (nm (0xE6 ∷ 0xF4 ∷ [])) (attr 5) 2 26 1 0 0)) 0x101001A00010000000000000000000000000000000000 0x175A309E5518C310
-    ∷ ok (allocate (request (nm (0xE6 ∷ 0xF5 ∷ [])) (attr 6) 2 30 1 0 0)) 0x101001E00010000000000000000000000000000000000 0x224C9BBAB9FEF7D
-    ∷ no (allocate (request (nm (0xC1 ∷ [])) (attr 7) 0 0 6 0 1)) 9
-    ∷ no (allocate (request (nm (0xC1 ∷ [])) (attr 8) 0 0 6 0 2)) 9
-    ∷ no (allocate (request (nm (0xC1 ∷ [])) (attr 9) 0 0 6 0 3)) 9
-    ∷ ok (allocate (request (nm (0xC1 ∷ [])) (attr 10) 0 0 3 0 3)) 0x1305000700050011000500030003000D00030017000300 0x93B3F5634B6B083
-    ∷ okLabels (obtain (nm (0xC1 ∷ []))) 0x0 0x93B3F5634B6B083 0x19EEB0206B1B525E
-    ∷ ok (scratch (nm (0xC1 ∷ []))) 0x1300000000000000000000000000000000000000000000 0x224C9BBAB9FEF7D
-    ∷ ok (allocate (request (nm (0xC1 ∷ [])) (attr 13) 0 0 2 4 2)) 0x501000700050000000000000000000000000000000000 0x197AE6D7F37915C5
-    ∷ ok (allocate (request (nm (0xC2 ∷ [])) (attr 14) 0 0 5 0 2)) 0x501001100050000000000000000000000000000000000 0x18F27DBF5C1A5B5
-    ∷ ok (allocate (request (nm (0xC3 ∷ [])) (attr 15) 0 0 1 0 3)) 0xC0400030003000D000300170003001B00030000000000 0x185A8A08D86B213E
-    ∷ ok (scratch (nm (0xC3 ∷ []))) 0xC00000000000000000000000000000000000000000000 0x18F27DBF5C1A5B5
-    ∷ ok (allocate (request (nm (0xC3 ∷ [])) (attr 17) 0 0 2 0 1)) 0x201000300020000000000000000000000000000000000 0x2A521AB0688AC65
-    ∷ no (allocate (request (nm (0xC4 ∷ [])) (attr 18) 0 0 1 0 3)) 11
-    ∷ ok (allocate (request (nm (0xC4 ∷ [])) (attr 19) 0 0 2 0 3)) 0x903000D000300170003001B0003000000000000000000 0xC6B0840FC17A430
-    ∷ no (allocate (request (nm (0xC5 ∷ [])) (attr 20) 0 0 1 0 3)) 11
-    ∷ ok (scratch (nm (0xC4 ∷ []))) 0x900000000000000000000000000000000000000000000 0x2A521AB0688AC65
-    ∷ ok (allocate (request (nm (0xC4 ∷ [])) (attr 22) 0 0 3 0 1)) 0x301000D00030000000000000000000000000000000000 0x8538CF3FFFC4329
-    ∷ ok (extend (nm (0xC1 ∷ []))) 0x40200170003001B000100000000000000000000000000 0x90A3647A81303EF
-    ∷ ok (scratch (nm (0xC2 ∷ []))) 0x500000000000000000000000000000000000000000000 0x10147D9247A2C3F0
-    ∷ ok (allocate (request (nm (0xC2 ∷ [])) (attr 25) 0 0 3 0 3)) 0x501001100050000000000000000000000000000000000 0xF887B56B5CF7799
-    ∷ ok (scratch (nm (0xC2 ∷ []))) 0x500000000000000000000000000000000000000000000 0x10147D9247A2C3F0
-    ∷ ok (allocate (request (nm (0xC2 ∷ [])) (attr 27) 0 0 2 0 3)) 0x70200110005001C000200000000000000000000000000 0xECDB49B4082A1F
+    ∷ ok (allocate (request (nm (0xE6 ∷ 0xF0 ∷ [])) (attr 1) 2 6 1 0 0 noDate)) 0x101000600010000000000000000000000000000000000 0x182BF587A6F6500D
+    ∷ ok (allocate (request (nm (0xE6 ∷ 0xF1 ∷ [])) (attr 2) 2 12 1 0 0 noDate)) 0x101000C00010000000000000000000000000000000000 0x18853AD28773EE47
+    ∷ ok (allocate (request (nm (0xE6 ∷ 0xF2 ∷ [])) (attr 3) 2 16 1 0 0 noDate)) 0x101001000010000000000000000000000000000000000 0x1E517CBD3FFECB31
+    ∷ ok (allocate (request (nm (0xE6 ∷ 0xF3 ∷ [])) (attr 4) 2 22 1 0 0 noDate)) 0x101001600010000000000000000000000000000000000 0xA4CC0AB91BB4252
+    ∷ ok (allocate (request (nm (0xE6 ∷ 0xF4 ∷ [])) (attr 5) 2 26 1 0 0 noDate)) 0x101001A00010000000000000000000000000000000000 0x29FF326C87868F1
+    ∷ ok (allocate (request (nm (0xE6 ∷ 0xF5 ∷ [])) (attr 6) 2 30 1 0 0 noDate)) 0x101001E00010000000000000000000000000000000000 0x16984CDD4941871B
+    ∷ no (allocate (request (nm (0xC1 ∷ [])) (attr 7) 0 0 6 0 1 noDate)) 9
+    ∷ no (allocate (request (nm (0xC1 ∷ [])) (attr 8) 0 0 6 0 2 noDate)) 9
+    ∷ no (allocate (request (nm (0xC1 ∷ [])) (attr 9) 0 0 6 0 3 noDate)) 9
+    ∷ ok (allocate (request (nm (0xC1 ∷ [])) (attr 10) 0 0 3 0 3 noDate)) 0x1305000700050011000500030003000D00030017000300 0xE807446902AD6D3
+    ∷ okLabels (obtain (nm (0xC1 ∷ []))) 0x0 0xE807446902AD6D3 0x130DFEC948D8E9CE
+    ∷ ok (scratch (nm (0xC1 ∷ [])) (date 4 0x0080365F) 0) 0x1300000000000000000000000000000000000000000000 0x16984CDD4941871B
+    ∷ ok (allocate (request (nm (0xC1 ∷ [])) (attr 13) 0 0 2 4 2 noDate)) 0x501000700050000000000000000000000000000000000 0x1A32378654AC66E4
+    ∷ ok (allocate (request (nm (0xC2 ∷ [])) (attr 14) 0 0 5 0 2 noDate)) 0x501001100050000000000000000000000000000000000 0x1F02031485EAB6C6
+    ∷ ok (allocate (request (nm (0xC3 ∷ [])) (attr 15) 0 0 1 0 3 noDate)) 0xC0400030003000D000300170003001B00030000000000 0xB7C5B3EB5309578
+    ∷ ok (scratch (nm (0xC3 ∷ [])) (date 4 0x0080365F) 0) 0xC00000000000000000000000000000000000000000000 0x1F02031485EAB6C6
+    ∷ ok (allocate (request (nm (0xC3 ∷ [])) (attr 17) 0 0 2 0 1 noDate)) 0x201000300020000000000000000000000000000000000 0x1339C35DC740BB5
+    ∷ no (allocate (request (nm (0xC4 ∷ [])) (attr 18) 0 0 1 0 3 noDate)) 11
+    ∷ ok (allocate (request (nm (0xC4 ∷ [])) (attr 19) 0 0 2 0 3 noDate)) 0x903000D000300170003001B0003000000000000000000 0xAABB16887788A9B
+    ∷ no (allocate (request (nm (0xC5 ∷ [])) (attr 20) 0 0 1 0 3 noDate)) 11
+    ∷ ok (scratch (nm (0xC4 ∷ [])) (date 4 0x0080365F) 0) 0x900000000000000000000000000000000000000000000 0x1339C35DC740BB5
+    ∷ ok (allocate (request (nm (0xC4 ∷ [])) (attr 22) 0 0 3 0 1 noDate)) 0x301000D00030000000000000000000000000000000000 0x11DA881BF4527FB8
+    ∷ ok (extend (nm (0xC1 ∷ []))) 0x40200170003001B000100000000000000000000000000 0x1291316F9C69407E
+    ∷ ok (scratch (nm (0xC2 ∷ [])) (date 4 0x0080365F) 0) 0x500000000000000000000000000000000000000000000 0x1CDFEE300D03408C
+    ∷ ok (allocate (request (nm (0xC2 ∷ [])) (attr 25) 0 0 3 0 3 noDate)) 0x501001100050000000000000000000000000000000000 0x165F0E37F56F2FA3
+    ∷ ok (scratch (nm (0xC2 ∷ [])) (date 4 0x0080365F) 0) 0x500000000000000000000000000000000000000000000 0x1CDFEE300D03408C
+    ∷ ok (allocate (request (nm (0xC2 ∷ [])) (attr 27) 0 0 2 0 3 noDate)) 0x70200110005001C000200000000000000000000000000 0x2B9A687D5CAFD95
     ∷ []
 
 pub case31 : T (right [] sequence31)
-unfolding held gaps free used unused format0s choose extentPart format4 format5 format1 format3 records encode readGeometry readExtents readLabel readRecords read goodName limits goodLabel valid taken goodLength settle grant tracksKept rule goodLengths perform initialise printable listing
+unfolding held gaps free used unused format0s choose extentPart format4 format5 format1 format3 records encode readGeometry readExtents readLabel readRecords read goodName limits goodLabel valid taken goodLength settle grant tracksKept toStored toPacked expiryFrom withExpiry rule goodLengths perform initialise convertDate printable listing
 case31 = tt
 
 -- CONTIG, MXIG and ALX of cylinders, never the rest of a free extent
@@ -56,36 +57,36 @@ case31 = tt
 abbrev pub sequence32 : List Row
 sequence32 =
     begin 16 3 7 1 2 0 0x14AF8B63850CAB34
-    ∷ ok (allocate (request (nm (0xE6 ∷ 0xF0 ∷ [])) (attr 1) 2 3 1 0 0)) 0x101000300010000000000000000000000000000000000 0xBB2F0E30FE1985
-    ∷ ok (allocate (request (nm (0xE6 ∷ 0xF1 ∷ [])) (attr 2) 2 11 1 0 0)) 0x101000B00010000000000000000000000000000000000 0x12A6F2C352CE47F4
-    ∷ ok (allocate (request (nm (0xE6 ∷ 0xF2 ∷ [])) (attr 3) 2 18 1 0 0)) 0x101001200010000000000000000000000000000000000 0xCB9D16AD7756776
-    ∷ ok (allocate (request (nm (0xE6 ∷ 0xF3 ∷ [])) (attr 4) 2 27 3 0 0)) 0x301001B00030000000000000000000000000000000000 0xC496D4C02B647B5
-    ∷ ok (allocate (request (nm (0xE6 ∷ 0xF4 ∷ [])) (attr 5) 2 33 2 0 0)) 0x201002100020000000000000000000000000000000000 0x1C403511912D2AA6
-    ∷ ok (allocate (request (nm (0xE6 ∷ 0xF5 ∷ [])) (attr 6) 2 41 1 0 0)) 0x101002900010000000000000000000000000000000000 0x10312413AB33257F
-    ∷ ok (allocate (request (nm (0xE6 ∷ 0xF6 ∷ [])) (attr 7) 2 46 2 0 0)) 0x201002E00020000000000000000000000000000000000 0x11C7760549BF6682
-    ∷ ok (allocate (request (nm (0xC1 ∷ [])) (attr 8) 1 0 1 0 3)) 0x1505000C00060015000600060003001E00030024000300 0xCCCBA62AC860375
-    ∷ ok (scratch (nm (0xC1 ∷ []))) 0x1500000000000000000000000000000000000000000000 0x11C7760549BF6682
-    ∷ ok (allocate (request (nm (0xC1 ∷ [])) (attr 10) 1 0 1 0 2)) 0x601000C00060000000000000000000000000000000000 0x83C320F01782FF3
-    ∷ ok (allocate (request (nm (0xC2 ∷ [])) (attr 11) 1 0 2 1 2)) 0x601001500060000000000000000000000000000000000 0x1E246975C11B46FF
-    ∷ no (allocate (request (nm (0xC3 ∷ [])) (attr 12) 1 0 2 0 1)) 9
-    ∷ no (allocate (request (nm (0xC3 ∷ [])) (attr 13) 1 0 2 0 2)) 9
-    ∷ no (allocate (request (nm (0xC3 ∷ [])) (attr 14) 1 0 2 0 3)) 9
-    ∷ ok (allocate (request (nm (0xC3 ∷ [])) (attr 15) 1 0 1 0 3)) 0xC0400060003001E000300240003002A00030000000000 0x15C1496CBF57B31C
-    ∷ ok (scratch (nm (0xC3 ∷ []))) 0xC00000000000000000000000000000000000000000000 0x1E246975C11B46FF
-    ∷ ok (allocate (request (nm (0xC3 ∷ [])) (attr 17) 1 0 1 0 1)) 0x301000600030000000000000000000000000000000000 0x75C735E123CE8E7
-    ∷ ok (allocate (request (nm (0xC4 ∷ [])) (attr 18) 1 0 1 0 3)) 0x903001E000300240003002A0003000000000000000000 0x15303F545655E01D
-    ∷ ok (release (nm (0xC2 ∷ [])) 0x201) 0x300000000000000000000000000000000000000000000 0x120651DF0C49719B
-    ∷ ok (extend (nm (0xC2 ∷ []))) 0x301001800030000000000000000000000000000000000 0xC640C2864012ACC
-    ∷ ok (scratch (nm (0xC2 ∷ []))) 0x600000000000000000000000000000000000000000000 0x129CACF82B35EBEA
-    ∷ ok (allocate (request (nm (0xC2 ∷ [])) (attr 22) 1 0 1 0 1)) 0x301001500030000000000000000000000000000000000 0x4EE83E6D7D8FA1A
-    ∷ ok (allocate (request (nm (0xC5 ∷ [])) (attr 23) 1 0 1 0 3)) 0x301001800030000000000000000000000000000000000 0x820E0D150CC584F
-    ∷ ok (scratch (nm (0xC1 ∷ []))) 0x600000000000000000000000000000000000000000000 0xE107DB26B929512
-    ∷ ok (scratch (nm (0xC5 ∷ []))) 0x300000000000000000000000000000000000000000000 0x11D33AC2A6DFF5D5
-    ∷ ok (allocate (request (nm (0xC1 ∷ [])) (attr 26) 1 0 1 0 3)) 0x902000C00060018000300000000000000000000000000 0x1D128197F0315D
+    ∷ ok (allocate (request (nm (0xE6 ∷ 0xF0 ∷ [])) (attr 1) 2 3 1 0 0 noDate)) 0x101000300010000000000000000000000000000000000 0x1E31A83FE51BF41
+    ∷ ok (allocate (request (nm (0xE6 ∷ 0xF1 ∷ [])) (attr 2) 2 11 1 0 0 noDate)) 0x101000B00010000000000000000000000000000000000 0x1A7A91E1C9EDD795
+    ∷ ok (allocate (request (nm (0xE6 ∷ 0xF2 ∷ [])) (attr 3) 2 18 1 0 0 noDate)) 0x101001200010000000000000000000000000000000000 0x485F517A0AC3D43
+    ∷ ok (allocate (request (nm (0xE6 ∷ 0xF3 ∷ [])) (attr 4) 2 27 3 0 0 noDate)) 0x301001B00030000000000000000000000000000000000 0x1A19C28E23645817
+    ∷ ok (allocate (request (nm (0xE6 ∷ 0xF4 ∷ [])) (attr 5) 2 33 2 0 0 noDate)) 0x201002100020000000000000000000000000000000000 0x15B76355D9B9E830
+    ∷ ok (allocate (request (nm (0xE6 ∷ 0xF5 ∷ [])) (attr 6) 2 41 1 0 0 noDate)) 0x101002900010000000000000000000000000000000000 0x1710BD396FFD7E6D
+    ∷ ok (allocate (request (nm (0xE6 ∷ 0xF6 ∷ [])) (attr 7) 2 46 2 0 0 noDate)) 0x201002E00020000000000000000000000000000000000 0x7DAD147074A7056
+    ∷ ok (allocate (request (nm (0xC1 ∷ [])) (attr 8) 1 0 1 0 3 noDate)) 0x1505000C00060015000600060003001E00030024000300 0x4726BC5F7BE4F9C
+    ∷ ok (scratch (nm (0xC1 ∷ [])) (date 4 0x0080365F) 0) 0x1500000000000000000000000000000000000000000000 0x7DAD147074A7056
+    ∷ ok (allocate (request (nm (0xC1 ∷ [])) (attr 10) 1 0 1 0 2 noDate)) 0x601000C00060000000000000000000000000000000000 0x184678FAB01BCCAE
+    ∷ ok (allocate (request (nm (0xC2 ∷ [])) (attr 11) 1 0 2 1 2 noDate)) 0x601001500060000000000000000000000000000000000 0x1D7BC0C4DA2680B1
+    ∷ no (allocate (request (nm (0xC3 ∷ [])) (attr 12) 1 0 2 0 1 noDate)) 9
+    ∷ no (allocate (request (nm (0xC3 ∷ [])) (attr 13) 1 0 2 0 2 noDate)) 9
+    ∷ no (allocate (request (nm (0xC3 ∷ [])) (attr 14) 1 0 2 0 3 noDate)) 9
+    ∷ ok (allocate (request (nm (0xC3 ∷ [])) (attr 15) 1 0 1 0 3 noDate)) 0xC0400060003001E000300240003002A00030000000000 0xF4F4774786A3A77
+    ∷ ok (scratch (nm (0xC3 ∷ [])) (date 4 0x0080365F) 0) 0xC00000000000000000000000000000000000000000000 0x1D7BC0C4DA2680B1
+    ∷ ok (allocate (request (nm (0xC3 ∷ [])) (attr 17) 1 0 1 0 1 noDate)) 0x301000600030000000000000000000000000000000000 0x1BE0A9C2AD728BAD
+    ∷ ok (allocate (request (nm (0xC4 ∷ [])) (attr 18) 1 0 1 0 3 noDate)) 0x903001E000300240003002A0003000000000000000000 0x108669B5B3E0C6AD
+    ∷ ok (release (nm (0xC2 ∷ [])) 0x201) 0x300000000000000000000000000000000000000000000 0xD5C7C4069D4582B
+    ∷ ok (extend (nm (0xC2 ∷ []))) 0x301001800030000000000000000000000000000000000 0x7BA3689C18C115C
+    ∷ ok (scratch (nm (0xC2 ∷ [])) (date 4 0x0080365F) 0) 0x600000000000000000000000000000000000000000000 0x1EA5C6F61E593583
+    ∷ ok (allocate (request (nm (0xC2 ∷ [])) (attr 22) 1 0 1 0 1 noDate)) 0x301001500030000000000000000000000000000000000 0x14EC531B09205DB0
+    ∷ ok (allocate (request (nm (0xC5 ∷ [])) (attr 23) 1 0 1 0 3 noDate)) 0x301001800030000000000000000000000000000000000 0xA963994071FA6E9
+    ∷ ok (scratch (nm (0xC1 ∷ [])) (date 4 0x0080365F) 0) 0x600000000000000000000000000000000000000000000 0x168EEACB30CD50C4
+    ∷ ok (scratch (nm (0xC5 ∷ [])) (date 4 0x0080365F) 0) 0x300000000000000000000000000000000000000000000 0x7DA1E4CE70EC684
+    ∷ ok (allocate (request (nm (0xC1 ∷ [])) (attr 26) 1 0 1 0 3 noDate)) 0x902000C00060018000300000000000000000000000000 0x13CEFF95D81D3774
     ∷ []
 
 pub case32 : T (right [] sequence32)
-unfolding held gaps free used unused format0s choose extentPart format4 format5 format1 format3 records encode readGeometry readExtents readLabel readRecords read goodName limits goodLabel valid taken goodLength settle grant tracksKept rule goodLengths perform initialise printable listing
+unfolding held gaps free used unused format0s choose extentPart format4 format5 format1 format3 records encode readGeometry readExtents readLabel readRecords read goodName limits goodLabel valid taken goodLength settle grant tracksKept toStored toPacked expiryFrom withExpiry rule goodLengths perform initialise convertDate printable listing
 case32 = tt
 
 -- Options at a candidate's length; longer in tracks, shorter in cylinders
@@ -93,37 +94,37 @@ case32 = tt
 abbrev pub sequence33 : List Row
 sequence33 =
     begin 8 3 4 1 2 0 0x13382A71A9E4AD4A
-    ∷ ok (allocate (request (nm (0xE6 ∷ 0xF0 ∷ [])) (attr 1) 2 3 1 0 0)) 0x101000300010000000000000000000000000000000000 0x12377E64189EE0C1
-    ∷ ok (allocate (request (nm (0xE6 ∷ 0xF1 ∷ [])) (attr 2) 2 11 1 0 0)) 0x101000B00010000000000000000000000000000000000 0xDE3A5248D79D25F
-    ∷ ok (allocate (request (nm (0xE6 ∷ 0xF2 ∷ [])) (attr 3) 2 18 6 0 0)) 0x601001200060000000000000000000000000000000000 0x175F37C53435E9E8
-    ∷ no (allocate (request (nm (0xC1 ∷ [])) (attr 4) 0 0 8 0 1)) 9
-    ∷ no (allocate (request (nm (0xC1 ∷ [])) (attr 5) 1 0 3 0 1)) 9
-    ∷ no (allocate (request (nm (0xC1 ∷ [])) (attr 6) 0 0 8 0 2)) 9
-    ∷ no (allocate (request (nm (0xC1 ∷ [])) (attr 7) 1 0 3 0 2)) 9
-    ∷ no (allocate (request (nm (0xC1 ∷ [])) (attr 8) 0 0 8 0 3)) 9
-    ∷ no (allocate (request (nm (0xC1 ∷ [])) (attr 9) 1 0 3 0 3)) 9
-    ∷ ok (allocate (request (nm (0xC1 ∷ [])) (attr 10) 0 4 6 0 1)) 0x601000C00060000000000000000000000000000000000 0x18143E36B4282355
-    ∷ ok (scratch (nm (0xC1 ∷ []))) 0x600000000000000000000000000000000000000000000 0x175F37C53435E9E8
-    ∷ ok (allocate (request (nm (0xC1 ∷ [])) (attr 12) 0 4 7 0 1)) 0x701000400070000000000000000000000000000000000 0x1681FB099817AA4C
-    ∷ ok (scratch (nm (0xC1 ∷ []))) 0x700000000000000000000000000000000000000000000 0x175F37C53435E9E8
-    ∷ ok (allocate (request (nm (0xC1 ∷ [])) (attr 14) 0 4 7 0 2)) 0x701000400070000000000000000000000000000000000 0xDE997BE72BE336D
-    ∷ ok (scratch (nm (0xC1 ∷ []))) 0x700000000000000000000000000000000000000000000 0x175F37C53435E9E8
-    ∷ ok (allocate (request (nm (0xC1 ∷ [])) (attr 16) 0 4 6 0 3)) 0xD0200040007000C000600000000000000000000000000 0x59D62E7D815F91F
-    ∷ ok (scratch (nm (0xC1 ∷ []))) 0xD00000000000000000000000000000000000000000000 0x175F37C53435E9E8
-    ∷ ok (allocate (request (nm (0xC1 ∷ [])) (attr 18) 0 4 7 0 3)) 0x701000400070000000000000000000000000000000000 0x195046AA80D03662
-    ∷ ok (scratch (nm (0xC1 ∷ []))) 0x700000000000000000000000000000000000000000000 0x175F37C53435E9E8
-    ∷ ok (allocate (request (nm (0xC1 ∷ [])) (attr 20) 1 4 2 0 1)) 0x601000C00060000000000000000000000000000000000 0xF5977B580B285A6
-    ∷ ok (scratch (nm (0xC1 ∷ []))) 0x600000000000000000000000000000000000000000000 0x175F37C53435E9E8
-    ∷ ok (allocate (request (nm (0xC1 ∷ [])) (attr 22) 1 4 1 0 2)) 0x601000C00060000000000000000000000000000000000 0x12066E3A26A7F49E
-    ∷ ok (scratch (nm (0xC1 ∷ []))) 0x600000000000000000000000000000000000000000000 0x175F37C53435E9E8
-    ∷ ok (allocate (request (nm (0xC1 ∷ [])) (attr 24) 1 4 1 0 3)) 0x902000C00060006000300000000000000000000000000 0x374F8394088AA84
-    ∷ ok (scratch (nm (0xC1 ∷ []))) 0x900000000000000000000000000000000000000000000 0x175F37C53435E9E8
-    ∷ ok (allocate (request (nm (0xC1 ∷ [])) (attr 26) 1 4 2 0 3)) 0x601000C00060000000000000000000000000000000000 0x174655F1F018FD8D
-    ∷ ok (scratch (nm (0xC1 ∷ []))) 0x600000000000000000000000000000000000000000000 0x175F37C53435E9E8
+    ∷ ok (allocate (request (nm (0xE6 ∷ 0xF0 ∷ [])) (attr 1) 2 3 1 0 0 noDate)) 0x101000300010000000000000000000000000000000000 0xB3EE343854CB0E2
+    ∷ ok (allocate (request (nm (0xE6 ∷ 0xF1 ∷ [])) (attr 2) 2 11 1 0 0 noDate)) 0x101000B00010000000000000000000000000000000000 0x1F4F9F8C5D92F314
+    ∷ ok (allocate (request (nm (0xE6 ∷ 0xF2 ∷ [])) (attr 3) 2 18 6 0 0 noDate)) 0x601001200060000000000000000000000000000000000 0x43D4DEB0A0E356D
+    ∷ no (allocate (request (nm (0xC1 ∷ [])) (attr 4) 0 0 8 0 1 noDate)) 9
+    ∷ no (allocate (request (nm (0xC1 ∷ [])) (attr 5) 1 0 3 0 1 noDate)) 9
+    ∷ no (allocate (request (nm (0xC1 ∷ [])) (attr 6) 0 0 8 0 2 noDate)) 9
+    ∷ no (allocate (request (nm (0xC1 ∷ [])) (attr 7) 1 0 3 0 2 noDate)) 9
+    ∷ no (allocate (request (nm (0xC1 ∷ [])) (attr 8) 0 0 8 0 3 noDate)) 9
+    ∷ no (allocate (request (nm (0xC1 ∷ [])) (attr 9) 1 0 3 0 3 noDate)) 9
+    ∷ ok (allocate (request (nm (0xC1 ∷ [])) (attr 10) 0 4 6 0 1 noDate)) 0x601000C00060000000000000000000000000000000000 0xBC16E2CF4AFF7F5
+    ∷ ok (scratch (nm (0xC1 ∷ [])) (date 4 0x0080365F) 0) 0x600000000000000000000000000000000000000000000 0x43D4DEB0A0E356D
+    ∷ ok (allocate (request (nm (0xC1 ∷ [])) (attr 12) 0 4 7 0 1 noDate)) 0x701000400070000000000000000000000000000000000 0x525635CBAC29A58
+    ∷ ok (scratch (nm (0xC1 ∷ [])) (date 4 0x0080365F) 0) 0x700000000000000000000000000000000000000000000 0x43D4DEB0A0E356D
+    ∷ ok (allocate (request (nm (0xC1 ∷ [])) (attr 14) 0 4 7 0 2 noDate)) 0x701000400070000000000000000000000000000000000 0x1783386E778C3EE4
+    ∷ ok (scratch (nm (0xC1 ∷ [])) (date 4 0x0080365F) 0) 0x700000000000000000000000000000000000000000000 0x43D4DEB0A0E356D
+    ∷ ok (allocate (request (nm (0xC1 ∷ [])) (attr 16) 0 4 6 0 3 noDate)) 0xD0200040007000C000600000000000000000000000000 0xA2D3BF4BF072002
+    ∷ ok (scratch (nm (0xC1 ∷ [])) (date 4 0x0080365F) 0) 0xD00000000000000000000000000000000000000000000 0x43D4DEB0A0E356D
+    ∷ ok (allocate (request (nm (0xC1 ∷ [])) (attr 18) 0 4 7 0 3 noDate)) 0x701000400070000000000000000000000000000000000 0x18D6581449E478B1
+    ∷ ok (scratch (nm (0xC1 ∷ [])) (date 4 0x0080365F) 0) 0x700000000000000000000000000000000000000000000 0x43D4DEB0A0E356D
+    ∷ ok (allocate (request (nm (0xC1 ∷ [])) (attr 20) 1 4 2 0 1 noDate)) 0x601000C00060000000000000000000000000000000000 0x1B3623A114A55E33
+    ∷ ok (scratch (nm (0xC1 ∷ [])) (date 4 0x0080365F) 0) 0x600000000000000000000000000000000000000000000 0x43D4DEB0A0E356D
+    ∷ ok (allocate (request (nm (0xC1 ∷ [])) (attr 22) 1 4 1 0 2 noDate)) 0x601000C00060000000000000000000000000000000000 0x7E5218238AD26F
+    ∷ ok (scratch (nm (0xC1 ∷ [])) (date 4 0x0080365F) 0) 0x600000000000000000000000000000000000000000000 0x43D4DEB0A0E356D
+    ∷ ok (allocate (request (nm (0xC1 ∷ [])) (attr 24) 1 4 1 0 3 noDate)) 0x902000C00060006000300000000000000000000000000 0xCE314741F8EA3C0
+    ∷ ok (scratch (nm (0xC1 ∷ [])) (date 4 0x0080365F) 0) 0x900000000000000000000000000000000000000000000 0x43D4DEB0A0E356D
+    ∷ ok (allocate (request (nm (0xC1 ∷ [])) (attr 26) 1 4 2 0 3 noDate)) 0x601000C00060000000000000000000000000000000000 0x1BAAAA89B1421235
+    ∷ ok (scratch (nm (0xC1 ∷ [])) (date 4 0x0080365F) 0) 0x600000000000000000000000000000000000000000000 0x43D4DEB0A0E356D
     ∷ []
 
 pub case33 : T (right [] sequence33)
-unfolding held gaps free used unused format0s choose extentPart format4 format5 format1 format3 records encode readGeometry readExtents readLabel readRecords read goodName limits goodLabel valid taken goodLength settle grant tracksKept rule goodLengths perform initialise printable listing
+unfolding held gaps free used unused format0s choose extentPart format4 format5 format1 format3 records encode readGeometry readExtents readLabel readRecords read goodName limits goodLabel valid taken goodLength settle grant tracksKept toStored toPacked expiryFrom withExpiry rule goodLengths perform initialise convertDate printable listing
 case33 = tt
 
 -- Options that are unknown, or on absolute tracks
@@ -131,31 +132,31 @@ case33 = tt
 abbrev pub sequence34 : List Row
 sequence34 =
     begin 8 3 4 1 2 0 0x13382A71A9E4AD4A
-    ∷ ok (allocate (request (nm (0xE6 ∷ 0xF0 ∷ [])) (attr 1) 2 3 1 0 0)) 0x101000300010000000000000000000000000000000000 0x12377E64189EE0C1
-    ∷ ok (allocate (request (nm (0xE6 ∷ 0xF1 ∷ [])) (attr 2) 2 11 1 0 0)) 0x101000B00010000000000000000000000000000000000 0xDE3A5248D79D25F
-    ∷ ok (allocate (request (nm (0xE6 ∷ 0xF2 ∷ [])) (attr 3) 2 18 6 0 0)) 0x601001200060000000000000000000000000000000000 0x175F37C53435E9E8
-    ∷ no (allocate (request (nm (0xC1 ∷ [])) (attr 4) 0 0 1 0 256)) 7
-    ∷ no (allocate (request (nm (0xC1 ∷ [])) (attr 5) 1 0 1 0 256)) 7
-    ∷ no (allocate (request (nm (0xC1 ∷ [])) (attr 6) 2 4 1 0 256)) 7
-    ∷ no (allocate (request (nm (0xC1 ∷ [])) (attr 7) 0 0 1 0 65537)) 7
-    ∷ no (allocate (request (nm (0xC1 ∷ [])) (attr 8) 1 0 1 0 65537)) 7
-    ∷ no (allocate (request (nm (0xC1 ∷ [])) (attr 9) 2 4 1 0 65537)) 7
-    ∷ no (allocate (request (nm (0xC1 ∷ [])) (attr 10) 0 0 0 0 1)) 7
-    ∷ no (allocate (request (nm (0xC1 ∷ [])) (attr 11) 1 0 65536 0 2)) 7
-    ∷ no (allocate (request (nm (0xC1 ∷ [])) (attr 12) 0 0 1 16777216 3)) 7
-    ∷ no (allocate (request (nm (0xC1 ∷ [])) (attr 13) 3 4 1 0 2)) 7
-    ∷ no (allocate (request (nm (0xC1 ∷ [])) (attr 14) 1 0 65535 16777215 1)) 9
-    ∷ no (allocate (request (nm (0xC1 ∷ [])) (attr 15) 1 0 65535 16777215 2)) 9
-    ∷ no (allocate (request (nm (0xC1 ∷ [])) (attr 16) 1 0 65535 16777215 3)) 9
-    ∷ no (allocate (request (nm []) (attr 17) 0 0 1 0 4)) 4
-    ∷ no (allocate (request (nm (0xE6 ∷ 0xF0 ∷ [])) (attr 18) 2 4 1 0 3)) 7
-    ∷ no (allocate (request (nm (0xC1 ∷ [])) (attr 19) 0 0 14 0 4)) 7
-    ∷ no (allocate (request (nm (0xC1 ∷ [])) (attr 20) 2 3 1 0 1)) 7
-    ∷ ok (allocate (request (nm (0xC1 ∷ [])) (attr 21) 2 4 1 0 0)) 0x101000400010000000000000000000000000000000000 0x1EA7E153900E4621
+    ∷ ok (allocate (request (nm (0xE6 ∷ 0xF0 ∷ [])) (attr 1) 2 3 1 0 0 noDate)) 0x101000300010000000000000000000000000000000000 0xB3EE343854CB0E2
+    ∷ ok (allocate (request (nm (0xE6 ∷ 0xF1 ∷ [])) (attr 2) 2 11 1 0 0 noDate)) 0x101000B00010000000000000000000000000000000000 0x1F4F9F8C5D92F314
+    ∷ ok (allocate (request (nm (0xE6 ∷ 0xF2 ∷ [])) (attr 3) 2 18 6 0 0 noDate)) 0x601001200060000000000000000000000000000000000 0x43D4DEB0A0E356D
+    ∷ no (allocate (request (nm (0xC1 ∷ [])) (attr 4) 0 0 1 0 256 noDate)) 7
+    ∷ no (allocate (request (nm (0xC1 ∷ [])) (attr 5) 1 0 1 0 256 noDate)) 7
+    ∷ no (allocate (request (nm (0xC1 ∷ [])) (attr 6) 2 4 1 0 256 noDate)) 7
+    ∷ no (allocate (request (nm (0xC1 ∷ [])) (attr 7) 0 0 1 0 65537 noDate)) 7
+    ∷ no (allocate (request (nm (0xC1 ∷ [])) (attr 8) 1 0 1 0 65537 noDate)) 7
+    ∷ no (allocate (request (nm (0xC1 ∷ [])) (attr 9) 2 4 1 0 65537 noDate)) 7
+    ∷ no (allocate (request (nm (0xC1 ∷ [])) (attr 10) 0 0 0 0 1 noDate)) 7
+    ∷ no (allocate (request (nm (0xC1 ∷ [])) (attr 11) 1 0 65536 0 2 noDate)) 7
+    ∷ no (allocate (request (nm (0xC1 ∷ [])) (attr 12) 0 0 1 16777216 3 noDate)) 7
+    ∷ no (allocate (request (nm (0xC1 ∷ [])) (attr 13) 3 4 1 0 2 noDate)) 7
+    ∷ no (allocate (request (nm (0xC1 ∷ [])) (attr 14) 1 0 65535 16777215 1 noDate)) 9
+    ∷ no (allocate (request (nm (0xC1 ∷ [])) (attr 15) 1 0 65535 16777215 2 noDate)) 9
+    ∷ no (allocate (request (nm (0xC1 ∷ [])) (attr 16) 1 0 65535 16777215 3 noDate)) 9
+    ∷ no (allocate (request (nm []) (attr 17) 0 0 1 0 4 noDate)) 4
+    ∷ no (allocate (request (nm (0xE6 ∷ 0xF0 ∷ [])) (attr 18) 2 4 1 0 3 noDate)) 7
+    ∷ no (allocate (request (nm (0xC1 ∷ [])) (attr 19) 0 0 14 0 4 noDate)) 7
+    ∷ no (allocate (request (nm (0xC1 ∷ [])) (attr 20) 2 3 1 0 1 noDate)) 7
+    ∷ ok (allocate (request (nm (0xC1 ∷ [])) (attr 21) 2 4 1 0 0 noDate)) 0x101000400010000000000000000000000000000000000 0x7FFA96D9512AC65
     ∷ []
 
 pub case34 : T (right [] sequence34)
-unfolding held gaps free used unused format0s choose extentPart format4 format5 format1 format3 records encode readGeometry readExtents readLabel readRecords read goodName limits goodLabel valid taken goodLength settle grant tracksKept rule goodLengths perform initialise printable listing
+unfolding held gaps free used unused format0s choose extentPart format4 format5 format1 format3 records encode readGeometry readExtents readLabel readRecords read goodName limits goodLabel valid taken goodLength settle grant tracksKept toStored toPacked expiryFrom withExpiry rule goodLengths perform initialise convertDate printable listing
 case34 = tt
 
 -- Cylinder files keep whole cylinders, by the list of their tracks
@@ -163,43 +164,43 @@ case34 = tt
 abbrev pub sequence35 : List Row
 sequence35 =
     begin 6 5 2 1 4 0 0x1E73537064963E99
-    ∷ ok (allocate (request (nm (0xC1 ∷ [])) (attr 1) 1 0 5 1 0)) 0x1901000500190000000000000000000000000000000000 0x10BC89D6DAF9CA25
-    ∷ ok (release (nm (0xC1 ∷ [])) 0x1501) 0x0 0x9CB460EBA2BF8F1
+    ∷ ok (allocate (request (nm (0xC1 ∷ [])) (attr 1) 1 0 5 1 0 noDate)) 0x1901000500190000000000000000000000000000000000 0x9C3EEB647A79A46
+    ∷ ok (release (nm (0xC1 ∷ [])) 0x1501) 0x0 0x2D2AAEE26D9C912
     ∷ no (release (nm (0xC1 ∷ [])) 0x1901) 12
-    ∷ ok (release (nm (0xC1 ∷ [])) 0x901) 0xF00000000000000000000000000000000000000000000 0x1D9D205673BBA331
-    ∷ ok (extend (nm (0xC1 ∷ []))) 0x501000F00050000000000000000000000000000000000 0x186A37662E02730B
-    ∷ ok (release (nm (0xC1 ∷ [])) 0x501) 0x500000000000000000000000000000000000000000000 0x126762BDD24914EC
+    ∷ ok (release (nm (0xC1 ∷ [])) 0x901) 0xF00000000000000000000000000000000000000000000 0x16A48535E0697352
+    ∷ ok (extend (nm (0xC1 ∷ []))) 0x501000F00050000000000000000000000000000000000 0x11719C459AB0432C
+    ∷ ok (release (nm (0xC1 ∷ [])) 0x501) 0x500000000000000000000000000000000000000000000 0xB6EC79D3EF6E50D
     ∷ put ((385, 0x01) ∷ [])
-    ∷ ok (release (nm (0xC1 ∷ [])) 0x0) 0x500000000000000000000000000000000000000000000 0x12BE9AAB3362993E
-    ∷ ok (allocate (request (nm (0xE5 ∷ [])) (attr 9) 2 10 1 0 0)) 0x101000A00010000000000000000000000000000000000 0x42EF3543146CB66
-    ∷ ok (allocate (request (nm (0xC6 ∷ [])) (attr 10) 0 0 2 1 0)) 0x201000B00020000000000000000000000000000000000 0xEA27940B57C8882
-    ∷ ok (extend (nm (0xC6 ∷ []))) 0x101000D00010000000000000000000000000000000000 0x17213A1F2B81B72C
-    ∷ ok (scratch (nm (0xE5 ∷ []))) 0x100000000000000000000000000000000000000000000 0x1D0E2007FF9DBEAF
-    ∷ ok (extend (nm (0xC6 ∷ []))) 0x101000A00010000000000000000000000000000000000 0x3797839090E676E
-    ∷ ok (extend (nm (0xC6 ∷ []))) 0x101000E00010000000000000000000000000000000000 0x84A170D3FBF61B4
+    ∷ ok (release (nm (0xC1 ∷ [])) 0x0) 0x500000000000000000000000000000000000000000000 0xBC5FF8AA010695F
+    ∷ ok (allocate (request (nm (0xE5 ∷ [])) (attr 9) 2 10 1 0 0 noDate)) 0x101000A00010000000000000000000000000000000000 0xAFAF9195D578624
+    ∷ ok (allocate (request (nm (0xC6 ∷ [])) (attr 10) 0 0 2 1 0 noDate)) 0x201000B00020000000000000000000000000000000000 0x64030D49F5FD1F2
+    ∷ ok (extend (nm (0xC6 ∷ []))) 0x101000D00010000000000000000000000000000000000 0xEBEF1B31565009C
+    ∷ ok (scratch (nm (0xE5 ∷ [])) (date 4 0x0080365F) 0) 0x100000000000000000000000000000000000000000000 0x6E736B62A1E1D82
+    ∷ ok (extend (nm (0xC6 ∷ []))) 0x101000A00010000000000000000000000000000000000 0xD528EE7338EC640
+    ∷ ok (extend (nm (0xC6 ∷ []))) 0x101000E00010000000000000000000000000000000000 0x12232DBB6A3FC086
     ∷ put ((654, 0xC0) ∷ [])
-    ∷ ok (release (nm (0xC6 ∷ [])) 0x1) 0x200000000000000000000000000000000000000000000 0x13EFE5E291024004
-    ∷ ok (allocate (request (nm (0xD2 ∷ [])) (attr 17) 0 0 1 1 0)) 0x101000A00010000000000000000000000000000000000 0xCAE89492D54B519
-    ∷ ok (extend (nm (0xD2 ∷ []))) 0x101000E00010000000000000000000000000000000000 0x1A0B4A7146CFEBA4
-    ∷ ok (extend (nm (0xD2 ∷ []))) 0x101000F00010000000000000000000000000000000000 0x86499C5B5C533ED
-    ∷ ok (extend (nm (0xD2 ∷ []))) 0x101001000010000000000000000000000000000000000 0x48668530407D0C7
-    ∷ ok (extend (nm (0xD2 ∷ []))) 0x101001100010000000000000000000000000000000000 0x1C473653A40D6FB2
+    ∷ ok (release (nm (0xC6 ∷ [])) 0x1) 0x200000000000000000000000000000000000000000000 0x1DC8FC90BB829ED6
+    ∷ ok (allocate (request (nm (0xD2 ∷ [])) (attr 17) 0 0 1 1 0 noDate)) 0x101000A00010000000000000000000000000000000000 0x5DE96FEA4E540DC
+    ∷ ok (extend (nm (0xD2 ∷ []))) 0x101000E00010000000000000000000000000000000000 0x133B5826BE607767
+    ∷ ok (extend (nm (0xD2 ∷ []))) 0x101000F00010000000000000000000000000000000000 0x194A77B2D55BFB0
+    ∷ ok (extend (nm (0xD2 ∷ []))) 0x101001000010000000000000000000000000000000000 0x1DB676087B985C89
+    ∷ ok (extend (nm (0xD2 ∷ []))) 0x101001100010000000000000000000000000000000000 0x157744091B9DFB75
     ∷ put ((514, 0xC0) ∷ [])
-    ∷ ok (release (nm (0xD2 ∷ [])) 0x201) 0x0 0xC5F09528ABA9A39
-    ∷ ok (release (nm (0xD2 ∷ [])) 0x1) 0x400000000000000000000000000000000000000000000 0x95DF9E3319EFA86
-    ∷ ok (allocate (request (nm (0xE7 ∷ [])) (attr 25) 2 25 5 0 0)) 0x501001900050000000000000000000000000000000000 0x139B3175B297DE1D
-    ∷ ok (allocate (request (nm (0xC7 ∷ [])) (attr 26) 0 0 2 3 0)) 0x201000E00020000000000000000000000000000000000 0x2392DC8CAE92D2A
-    ∷ ok (extend (nm (0xC7 ∷ []))) 0x301001000030000000000000000000000000000000000 0x6BF8C63A6FEE0F0
-    ∷ ok (extend (nm (0xC7 ∷ []))) 0x301001300030000000000000000000000000000000000 0x198790ECD5F8E4C3
+    ∷ ok (release (nm (0xD2 ∷ [])) 0x201) 0x0 0x58F1708024B25FC
+    ∷ ok (release (nm (0xD2 ∷ [])) 0x1) 0x400000000000000000000000000000000000000000000 0x28E0798A92F8649
+    ∷ ok (allocate (request (nm (0xE7 ∷ [])) (attr 25) 2 25 5 0 0 noDate)) 0x501001900050000000000000000000000000000000000 0x6D6616EA467A54E
+    ∷ ok (allocate (request (nm (0xC7 ∷ [])) (attr 26) 0 0 2 3 0 noDate)) 0x201000E00020000000000000000000000000000000000 0x1E2FAE6131927FF8
+    ∷ ok (extend (nm (0xC7 ∷ []))) 0x301001000030000000000000000000000000000000000 0x2B60CFC0DA833BF
+    ∷ ok (extend (nm (0xC7 ∷ []))) 0x301001300030000000000000000000000000000000000 0x157E11853CA23792
     ∷ put ((374, 0x80) ∷ (385, 0x81) ∷ (805, 0x81) ∷ (934, 0xC0) ∷ [])
-    ∷ ok (release (nm (0xC7 ∷ [])) 0x101) 0x200000000000000000000000000000000000000000000 0xC71003F84E09C10
-    ∷ ok (release (nm (0xC7 ∷ [])) 0x1) 0x500000000000000000000000000000000000000000000 0xED73F628C3F1755
-    ∷ ok (release (nm (0xC1 ∷ [])) 0x201) 0x200000000000000000000000000000000000000000000 0x55BD0261CF9DFDF
-    ∷ ok (release (nm (0xE7 ∷ [])) 0x101) 0x300000000000000000000000000000000000000000000 0x10CD33C00EFE27FE
+    ∷ ok (release (nm (0xC7 ∷ [])) 0x101) 0x200000000000000000000000000000000000000000000 0x86780D7EB89EEDF
+    ∷ ok (release (nm (0xC7 ∷ [])) 0x1) 0x500000000000000000000000000000000000000000000 0xACDBFFAF2E86A24
+    ∷ ok (release (nm (0xC1 ∷ [])) 0x201) 0x200000000000000000000000000000000000000000000 0x15250BE83A332AE
+    ∷ ok (release (nm (0xE7 ∷ [])) 0x101) 0x300000000000000000000000000000000000000000000 0xCC3B45875A77ACD
     ∷ []
 
 pub case35 : T (right [] sequence35)
-unfolding held gaps free used unused format0s choose extentPart format4 format5 format1 format3 records encode readGeometry readExtents readLabel readRecords read goodName limits goodLabel valid taken goodLength settle grant tracksKept rule goodLengths perform initialise printable listing
+unfolding held gaps free used unused format0s choose extentPart format4 format5 format1 format3 records encode readGeometry readExtents readLabel readRecords read goodName limits goodLabel valid taken goodLength settle grant tracksKept toStored toPacked expiryFrom withExpiry rule goodLengths perform initialise convertDate printable listing
 case35 = tt
 
 -- A full VTOC, where what a cylinder file keeps decides on its format 3
@@ -207,39 +208,39 @@ case35 = tt
 abbrev pub sequence36 : List Row
 sequence36 =
     begin 12 5 8 1 1 0 0xEE382DC42F21376
-    ∷ ok (allocate (request (nm (0xC3 ∷ 0xD6 ∷ 0xD4 ∷ 0xC2 ∷ [])) (attr 1) 2 3 1 0 0)) 0x101000300010000000000000000000000000000000000 0x30FC6315E3D6FE6
-    ∷ ok (allocate (request (nm (0xD9 ∷ 0xC5 ∷ 0xE2 ∷ 0xE3 ∷ [])) (attr 2) 2 38 1 0 0)) 0x101002600010000000000000000000000000000000000 0x123E0580D56413B8
-    ∷ ok (allocate (request (nm (0xC1 ∷ [])) (attr 3) 2 33 1 0 0)) 0x101002100010000000000000000000000000000000000 0x1EB029DBCE2891D7
+    ∷ ok (allocate (request (nm (0xC3 ∷ 0xD6 ∷ 0xD4 ∷ 0xC2 ∷ [])) (attr 1) 2 3 1 0 0 noDate)) 0x101000300010000000000000000000000000000000000 0x1C172B10CAEB4006
+    ∷ ok (allocate (request (nm (0xD9 ∷ 0xC5 ∷ 0xE2 ∷ 0xE3 ∷ [])) (attr 2) 2 38 1 0 0 noDate)) 0x101002600010000000000000000000000000000000000 0x3A9FFE8A57D346E
+    ∷ ok (allocate (request (nm (0xC1 ∷ [])) (attr 3) 2 33 1 0 0 noDate)) 0x101002100010000000000000000000000000000000000 0xB8E4001A400DD5C
     ∷ put ((51, 0x00) ∷ (152, 0x00) ∷ (153, 0x01) ∷ (155, 0x06) ∷ (158, 0x01) ∷ (160, 0x08) ∷ (162, 0x00) ∷ (165, 0x0A) ∷ (168, 0x01) ∷ (170, 0x0C) ∷ (173, 0x01) ∷ (175, 0x0E) ∷ (178, 0x01) ∷ (180, 0x10) ∷ (183, 0x01) ∷ (186, 0x12) ∷ (189, 0x01) ∷ (191, 0x14) ∷ (194, 0x01) ∷ (196, 0x16) ∷ (199, 0x01) ∷ (201, 0x18) ∷ (204, 0x01) ∷ (206, 0x1A) ∷ (209, 0x01) ∷ (211, 0x1C) ∷ (214, 0x01) ∷ (216, 0x1E) ∷ (219, 0x01) ∷ (221, 0x20) ∷ (224, 0x01) ∷ (226, 0x29) ∷ (229, 0x01) ∷ (231, 0x2B) ∷ (234, 0x01) ∷ (236, 0x2D) ∷ (239, 0x01) ∷ (241, 0x2F) ∷ (244, 0x01) ∷ (246, 0x31) ∷ (249, 0x01) ∷ (251, 0x33) ∷ (254, 0x01) ∷ (256, 0x35) ∷ (259, 0x01) ∷ (261, 0x37) ∷ (264, 0x01) ∷ (266, 0x39) ∷ (269, 0x01) ∷ (271, 0x3B) ∷ (274, 0x01) ∷ (339, 0x0F) ∷ (374, 0x80) ∷ (395, 0x01) ∷ (396, 0x01) ∷ (398, 0x01) ∷ (402, 0x01) ∷ (405, 0x01) ∷ (406, 0x02) ∷ (408, 0x01) ∷ (410, 0x02) ∷ (412, 0x01) ∷ (414, 0x02) ∷ (418, 0x01) ∷ (419, 0x06) ∷ (479, 0x0B) ∷ (514, 0x80) ∷ (535, 0x01) ∷ (536, 0x01) ∷ (538, 0x08) ∷ (542, 0x08) ∷ (545, 0x01) ∷ (546, 0x02) ∷ (548, 0x08) ∷ (550, 0x02) ∷ (552, 0x08) ∷ (554, 0x02) ∷ (558, 0x01) ∷ (559, 0x07) ∷ (619, 0x05) ∷ (654, 0xC0) ∷ (674, 0x04) ∷ (675, 0x01) ∷ (676, 0x01) ∷ (678, 0x07) ∷ (682, 0x07) ∷ (685, 0x01) ∷ (686, 0x02) ∷ (688, 0x07) ∷ (690, 0x01) ∷ (692, 0x07) ∷ (694, 0x01) ∷ (698, 0x01) ∷ (699, 0x08) ∷ (700, 0x03) ∷ (701, 0x03) ∷ (702, 0x03) ∷ (703, 0x03) ∷ (704, 0x01) ∷ (705, 0x03) ∷ (707, 0x01) ∷ (709, 0x04) ∷ (711, 0x01) ∷ (713, 0x04) ∷ (714, 0x01) ∷ (715, 0x04) ∷ (717, 0x02) ∷ (719, 0x01) ∷ (721, 0x02) ∷ (723, 0x01) ∷ (724, 0x01) ∷ (725, 0x05) ∷ (727, 0x02) ∷ (729, 0x03) ∷ (731, 0x02) ∷ (733, 0x03) ∷ (734, 0x01) ∷ (735, 0x06) ∷ (737, 0x03) ∷ (741, 0x03) ∷ (744, 0xF3) ∷ (745, 0x01) ∷ (746, 0x07) ∷ (748, 0x03) ∷ (750, 0x02) ∷ (752, 0x03) ∷ (754, 0x02) ∷ (755, 0x01) ∷ (756, 0x08) ∷ (758, 0x03) ∷ (760, 0x04) ∷ (762, 0x03) ∷ (764, 0x04) ∷ (765, 0x01) ∷ (766, 0x09) ∷ (768, 0x04) ∷ (770, 0x01) ∷ (772, 0x04) ∷ (774, 0x01) ∷ (775, 0x01) ∷ (776, 0x0A) ∷ (778, 0x04) ∷ (780, 0x03) ∷ (782, 0x04) ∷ (784, 0x03) ∷ (785, 0x01) ∷ (786, 0x0B) ∷ (788, 0x05) ∷ (792, 0x05) ∷ (795, 0x01) ∷ (796, 0x0C) ∷ (798, 0x05) ∷ (800, 0x02) ∷ (802, 0x05) ∷ (804, 0x02) ∷ (805, 0x01) ∷ (806, 0x0D) ∷ (808, 0x05) ∷ (810, 0x04) ∷ (812, 0x05) ∷ (814, 0x04) ∷ (815, 0x01) ∷ (816, 0x0E) ∷ (818, 0x06) ∷ (820, 0x01) ∷ (822, 0x06) ∷ (824, 0x01) ∷ (840, 0x03) ∷ (841, 0x03) ∷ (842, 0x03) ∷ (843, 0x03) ∷ (844, 0x01) ∷ (845, 0x03) ∷ (847, 0x08) ∷ (849, 0x04) ∷ (851, 0x08) ∷ (853, 0x04) ∷ (854, 0x01) ∷ (855, 0x04) ∷ (857, 0x09) ∷ (859, 0x01) ∷ (861, 0x09) ∷ (863, 0x01) ∷ (864, 0x01) ∷ (865, 0x05) ∷ (867, 0x09) ∷ (869, 0x03) ∷ (871, 0x09) ∷ (873, 0x03) ∷ (874, 0x01) ∷ (875, 0x06) ∷ (877, 0x0A) ∷ (881, 0x0A) ∷ (884, 0xF3) ∷ (885, 0x01) ∷ (886, 0x07) ∷ (888, 0x0A) ∷ (890, 0x02) ∷ (892, 0x0A) ∷ (894, 0x02) ∷ (895, 0x01) ∷ (896, 0x08) ∷ (898, 0x0A) ∷ (900, 0x04) ∷ (902, 0x0A) ∷ (904, 0x04) ∷ (905, 0x01) ∷ (906, 0x09) ∷ (908, 0x0B) ∷ (910, 0x01) ∷ (912, 0x0B) ∷ (914, 0x01) ∷ (915, 0x01) ∷ (916, 0x0A) ∷ (918, 0x0B) ∷ (920, 0x03) ∷ (922, 0x0B) ∷ (924, 0x03) ∷ (980, 0x03) ∷ (981, 0x03) ∷ (982, 0x03) ∷ (983, 0x03) ∷ (984, 0x01) ∷ (985, 0x03) ∷ (987, 0x07) ∷ (989, 0x02) ∷ (991, 0x07) ∷ (993, 0x02) ∷ (994, 0x01) ∷ (995, 0x04) ∷ (997, 0x07) ∷ (999, 0x04) ∷ (1001, 0x07) ∷ (1003, 0x04) ∷ (1024, 0xF3) ∷ [])
     ∷ no (release (nm (0xC1 ∷ [])) 0x201) 11
-    ∷ ok (release (nm (0xC1 ∷ [])) 0x1) 0x400000000000000000000000000000000000000000000 0x1F2C53750E4AD8C2
+    ∷ ok (release (nm (0xC1 ∷ [])) 0x1) 0x400000000000000000000000000000000000000000000 0xC0A699AE4232447
     ∷ []
 
 pub case36 : T (right [] sequence36)
-unfolding held gaps free used unused format0s choose extentPart format4 format5 format1 format3 records encode readGeometry readExtents readLabel readRecords read goodName limits goodLabel valid taken goodLength settle grant tracksKept rule goodLengths perform initialise printable listing
+unfolding held gaps free used unused format0s choose extentPart format4 format5 format1 format3 records encode readGeometry readExtents readLabel readRecords read goodName limits goodLabel valid taken goodLength settle grant tracksKept toStored toPacked expiryFrom withExpiry rule goodLengths perform initialise convertDate printable listing
 case36 = tt
 
 -- What each call would answer, and then the call
 
 abbrev pub sequence37 : List Row
 sequence37 =
-    no (preview (allocate (request (nm (0xC1 ∷ [])) (attr 7) 0 0 4 0 0))) 2
+    no (preview (allocate (request (nm (0xC1 ∷ [])) (attr 7) 0 0 4 0 0 noDate))) 2
     ∷ begin 4 5 4 1 2 0 0xDA248CF69B83C5C
-    ∷ ok (preview (allocate (request (nm (0xC1 ∷ [])) (attr 7) 0 0 4 0 0))) 0x401000300040000000000000000000000000000000000 0xDA248CF69B83C5C
-    ∷ ok (allocate (request (nm (0xC1 ∷ [])) (attr 7) 0 0 4 0 0)) 0x401000300040000000000000000000000000000000000 0xE1BF53223E12311
-    ∷ ok (preview (allocate (request (nm (0xC2 ∷ [])) (attr 7) 1 0 1 1 0))) 0x501000A00050000000000000000000000000000000000 0xE1BF53223E12311
-    ∷ ok (allocate (request (nm (0xC2 ∷ [])) (attr 7) 1 0 1 1 0)) 0x501000A00050000000000000000000000000000000000 0xCCB72D5587090C0
-    ∷ ok (preview (allocate (request (nm (0xC3 ∷ [])) (attr 7) 2 16 2 0 0))) 0x201001000020000000000000000000000000000000000 0xCCB72D5587090C0
-    ∷ ok (preview (allocate (request (nm (0xC3 ∷ [])) (attr 7) 0 0 3 0 1))) 0x301000700030000000000000000000000000000000000 0xCCB72D5587090C0
-    ∷ ok (preview (allocate (request (nm (0xC3 ∷ [])) (attr 7) 0 0 1 0 2))) 0x501000F00050000000000000000000000000000000000 0xCCB72D5587090C0
-    ∷ ok (preview (allocate (request (nm (0xC3 ∷ [])) (attr 7) 0 0 3 0 3))) 0x802000F00050007000300000000000000000000000000 0xCCB72D5587090C0
-    ∷ ok (preview (allocate (request (nm (0xC3 ∷ [])) (attr 7) 0 0 7 2 0))) 0x702000F00050007000200000000000000000000000000 0xCCB72D5587090C0
-    ∷ ok (allocate (request (nm (0xC3 ∷ [])) (attr 7) 0 0 7 2 0)) 0x702000F00050007000200000000000000000000000000 0xB6A802A5D56A1E5
-    ∷ no (preview (allocate (request (nm []) (attr 7) 0 0 1 0 0))) 4
-    ∷ no (preview (allocate (request (nm (0xC4 ∷ [])) (attr 7) 2 19 2 0 0))) 7
-    ∷ no (preview (allocate (request (nm (0xC1 ∷ [])) (attr 7) 0 0 1 0 0))) 6
-    ∷ no (preview (allocate (request (nm (0xC4 ∷ [])) (attr 7) 0 0 2 0 0))) 9
-    ∷ no (allocate (request (nm (0xC4 ∷ [])) (attr 7) 0 0 2 0 0)) 9
+    ∷ ok (preview (allocate (request (nm (0xC1 ∷ [])) (attr 7) 0 0 4 0 0 noDate))) 0x401000300040000000000000000000000000000000000 0xDA248CF69B83C5C
+    ∷ ok (allocate (request (nm (0xC1 ∷ [])) (attr 7) 0 0 4 0 0 noDate)) 0x401000300040000000000000000000000000000000000 0x1D4FB74E1CA1D3F6
+    ∷ ok (preview (allocate (request (nm (0xC2 ∷ [])) (attr 7) 1 0 1 1 0 noDate))) 0x501000A00050000000000000000000000000000000000 0x1D4FB74E1CA1D3F6
+    ∷ ok (allocate (request (nm (0xC2 ∷ [])) (attr 7) 1 0 1 1 0 noDate)) 0x501000A00050000000000000000000000000000000000 0x115F404EAD28DBAE
+    ∷ ok (preview (allocate (request (nm (0xC3 ∷ [])) (attr 7) 2 16 2 0 0 noDate))) 0x201001000020000000000000000000000000000000000 0x115F404EAD28DBAE
+    ∷ ok (preview (allocate (request (nm (0xC3 ∷ [])) (attr 7) 0 0 3 0 1 noDate))) 0x301000700030000000000000000000000000000000000 0x115F404EAD28DBAE
+    ∷ ok (preview (allocate (request (nm (0xC3 ∷ [])) (attr 7) 0 0 1 0 2 noDate))) 0x501000F00050000000000000000000000000000000000 0x115F404EAD28DBAE
+    ∷ ok (preview (allocate (request (nm (0xC3 ∷ [])) (attr 7) 0 0 3 0 3 noDate))) 0x802000F00050007000300000000000000000000000000 0x115F404EAD28DBAE
+    ∷ ok (preview (allocate (request (nm (0xC3 ∷ [])) (attr 7) 0 0 7 2 0 noDate))) 0x702000F00050007000200000000000000000000000000 0x115F404EAD28DBAE
+    ∷ ok (allocate (request (nm (0xC3 ∷ [])) (attr 7) 0 0 7 2 0 noDate)) 0x702000F00050007000200000000000000000000000000 0x55DE3B46A2250B6
+    ∷ no (preview (allocate (request (nm []) (attr 7) 0 0 1 0 0 noDate))) 4
+    ∷ no (preview (allocate (request (nm (0xC4 ∷ [])) (attr 7) 2 19 2 0 0 noDate))) 7
+    ∷ no (preview (allocate (request (nm (0xC1 ∷ [])) (attr 7) 0 0 1 0 0 noDate))) 6
+    ∷ no (preview (allocate (request (nm (0xC4 ∷ [])) (attr 7) 0 0 2 0 0 noDate))) 9
+    ∷ no (allocate (request (nm (0xC4 ∷ [])) (attr 7) 0 0 2 0 0 noDate)) 9
     ∷ no (preview (extend (nm (0xC3 ∷ 0x4B ∷ [])))) 4
     ∷ no (preview (extend (nm (0xC4 ∷ [])))) 5
     ∷ no (preview (extend (nm (0xC1 ∷ [])))) 8
@@ -249,28 +250,28 @@ sequence37 =
     ∷ no (preview (release (nm (0xC4 ∷ [])) 0x1)) 5
     ∷ no (preview (release (nm (0xC3 ∷ [])) 0x701)) 12
     ∷ no (release (nm (0xC3 ∷ [])) 0x701) 12
-    ∷ no (preview (scratch (nm (0x60 ∷ [])))) 4
-    ∷ no (preview (scratch (nm (0xC4 ∷ [])))) 5
-    ∷ no (scratch (nm (0xC4 ∷ []))) 5
-    ∷ ok (preview (release (nm (0xC2 ∷ [])) 0x1)) 0x0 0xB6A802A5D56A1E5
-    ∷ ok (release (nm (0xC2 ∷ [])) 0x1) 0x0 0xA05994277AD7C7D
-    ∷ ok (preview (release (nm (0xC3 ∷ [])) 0x401)) 0x200000000000000000000000000000000000000000000 0xA05994277AD7C7D
-    ∷ ok (release (nm (0xC3 ∷ [])) 0x401) 0x200000000000000000000000000000000000000000000 0x8BA465BA27A6073
-    ∷ ok (preview (scratch (nm (0xC2 ∷ [])))) 0x500000000000000000000000000000000000000000000 0x8BA465BA27A6073
+    ∷ no (preview (scratch (nm (0x60 ∷ [])) (date 4 0x0080365F) 0)) 4
+    ∷ no (preview (scratch (nm (0xC4 ∷ [])) (date 4 0x0080365F) 0)) 5
+    ∷ no (scratch (nm (0xC4 ∷ [])) (date 4 0x0080365F) 0) 5
+    ∷ ok (preview (release (nm (0xC2 ∷ [])) 0x1)) 0x0 0x55DE3B46A2250B6
+    ∷ ok (release (nm (0xC2 ∷ [])) 0x1) 0x0 0x3F8FCCC84792B4E
+    ∷ ok (preview (release (nm (0xC3 ∷ [])) 0x401)) 0x200000000000000000000000000000000000000000000 0x3F8FCCC84792B4E
+    ∷ ok (release (nm (0xC3 ∷ [])) 0x401) 0x200000000000000000000000000000000000000000000 0x2ADA9E5AF460F44
+    ∷ ok (preview (scratch (nm (0xC2 ∷ [])) (date 4 0x0080365F) 0)) 0x500000000000000000000000000000000000000000000 0x2ADA9E5AF460F44
     ∷ no (preview (extend (nm (0xC2 ∷ [])))) 9
-    ∷ ok (preview (scratch (nm (0xC3 ∷ [])))) 0x500000000000000000000000000000000000000000000 0x8BA465BA27A6073
-    ∷ ok (scratch (nm (0xC3 ∷ []))) 0x500000000000000000000000000000000000000000000 0xB668BED72C76B58
-    ∷ ok (preview (extend (nm (0xC2 ∷ [])))) 0x501000F00050000000000000000000000000000000000 0xB668BED72C76B58
-    ∷ ok (extend (nm (0xC2 ∷ []))) 0x501000F00050000000000000000000000000000000000 0x18163ABED15CCDD5
-    ∷ ok (preview (release (nm (0xC2 ∷ [])) 0x101)) 0x500000000000000000000000000000000000000000000 0x18163ABED15CCDD5
-    ∷ ok (release (nm (0xC2 ∷ [])) 0x101) 0x500000000000000000000000000000000000000000000 0x51ABD1FE3F8DDE5
-    ∷ ok (preview (allocate (request (nm (0xC4 ∷ [])) (attr 7) 1 0 1 0 1))) 0x501000F00050000000000000000000000000000000000 0x51ABD1FE3F8DDE5
-    ∷ ok (preview (allocate (request (nm (0xC4 ∷ [])) (attr 7) 1 0 1 0 2))) 0x501000F00050000000000000000000000000000000000 0x51ABD1FE3F8DDE5
-    ∷ ok (preview (allocate (request (nm (0xC4 ∷ [])) (attr 7) 1 0 1 0 3))) 0x501000F00050000000000000000000000000000000000 0x51ABD1FE3F8DDE5
+    ∷ ok (preview (scratch (nm (0xC3 ∷ [])) (date 4 0x0080365F) 0)) 0x500000000000000000000000000000000000000000000 0x2ADA9E5AF460F44
+    ∷ ok (scratch (nm (0xC3 ∷ [])) (date 4 0x0080365F) 0) 0x500000000000000000000000000000000000000000000 0xFFA5966C77FB646
+    ∷ ok (preview (extend (nm (0xC2 ∷ [])))) 0x501000F00050000000000000000000000000000000000 0xFFA5966C77FB646
+    ∷ ok (extend (nm (0xC2 ∷ []))) 0x501000F00050000000000000000000000000000000000 0x1CAA0838261518C3
+    ∷ ok (preview (release (nm (0xC2 ∷ [])) 0x101)) 0x500000000000000000000000000000000000000000000 0x1CAA0838261518C3
+    ∷ ok (release (nm (0xC2 ∷ [])) 0x101) 0x500000000000000000000000000000000000000000000 0x9AE8A9938B128D3
+    ∷ ok (preview (allocate (request (nm (0xC4 ∷ [])) (attr 7) 1 0 1 0 1 noDate))) 0x501000F00050000000000000000000000000000000000 0x9AE8A9938B128D3
+    ∷ ok (preview (allocate (request (nm (0xC4 ∷ [])) (attr 7) 1 0 1 0 2 noDate))) 0x501000F00050000000000000000000000000000000000 0x9AE8A9938B128D3
+    ∷ ok (preview (allocate (request (nm (0xC4 ∷ [])) (attr 7) 1 0 1 0 3 noDate))) 0x501000F00050000000000000000000000000000000000 0x9AE8A9938B128D3
     ∷ []
 
 pub case37 : T (right [] sequence37)
-unfolding held gaps free used unused format0s choose extentPart format4 format5 format1 format3 records encode readGeometry readExtents readLabel readRecords read goodName limits goodLabel valid taken goodLength settle grant tracksKept rule goodLengths perform initialise printable listing
+unfolding held gaps free used unused format0s choose extentPart format4 format5 format1 format3 records encode readGeometry readExtents readLabel readRecords read goodName limits goodLabel valid taken goodLength settle grant tracksKept toStored toPacked expiryFrom withExpiry rule goodLengths perform initialise convertDate printable listing
 case37 = tt
 
 -- Previews where slots decide; damaged tables, and every length
@@ -278,50 +279,50 @@ case37 = tt
 abbrev pub sequence38 : List Row
 sequence38 =
     begin 5 4 3 1 1 0 0x81D3C6547556D5E
-    ∷ ok (allocate (request (nm (0xC1 ∷ [])) (attr 1) 0 0 1 1 0)) 0x101000200010000000000000000000000000000000000 0xBBA6FE782B3B8D5
-    ∷ no (preview (allocate (request (nm (0xC2 ∷ [])) (attr 7) 0 0 1 0 0))) 11
-    ∷ no (allocate (request (nm (0xC2 ∷ [])) (attr 7) 0 0 1 0 0)) 11
-    ∷ ok (extend (nm (0xC1 ∷ []))) 0x101000300010000000000000000000000000000000000 0x17B2B0A23C5B6D8E
-    ∷ ok (extend (nm (0xC1 ∷ []))) 0x101000400010000000000000000000000000000000000 0x751B4F73B47406F
+    ∷ ok (allocate (request (nm (0xC1 ∷ [])) (attr 1) 0 0 1 1 0 noDate)) 0x101000200010000000000000000000000000000000000 0x133978D8E954C699
+    ∷ no (preview (allocate (request (nm (0xC2 ∷ [])) (attr 7) 0 0 1 0 0 noDate))) 11
+    ∷ no (allocate (request (nm (0xC2 ∷ [])) (attr 7) 0 0 1 0 0 noDate)) 11
+    ∷ ok (extend (nm (0xC1 ∷ []))) 0x101000300010000000000000000000000000000000000 0x1F31B993A2FC7B52
+    ∷ ok (extend (nm (0xC1 ∷ []))) 0x101000400010000000000000000000000000000000000 0xED0BDE8A1E84E33
     ∷ no (preview (extend (nm (0xC1 ∷ [])))) 11
     ∷ no (extend (nm (0xC1 ∷ []))) 11
-    ∷ sized 419 24 0 (preview (allocate (request (nm (0xC2 ∷ [])) (attr 7) 0 0 1 0 0))) 2
-    ∷ sized 420 23 0 (preview (allocate (request (nm (0xC2 ∷ [])) (attr 7) 0 0 1 0 0))) 2
-    ∷ sized 420 24 0 (preview (allocate (request (raw 43 (0xC2 ∷ [])) (attr 7) 0 0 1 0 0))) 2
+    ∷ sized 419 24 0 (preview (allocate (request (nm (0xC2 ∷ [])) (attr 7) 0 0 1 0 0 noDate))) 2
+    ∷ sized 420 23 0 (preview (allocate (request (nm (0xC2 ∷ [])) (attr 7) 0 0 1 0 0 noDate))) 2
+    ∷ sized 420 24 0 (preview (allocate (request (raw 43 (0xC2 ∷ [])) (attr 7) 0 0 1 0 0 noDate))) 2
     ∷ sized 421 24 0 (preview (extend (nm (0xC1 ∷ [])))) 2
     ∷ sized 420 25 0 (preview (extend (nm (0xC1 ∷ [])))) 2
     ∷ sized 420 24 0 (preview (extend (raw 45 (0xC1 ∷ [])))) 2
     ∷ sized 280 24 0 (preview (release (nm (0xC1 ∷ [])) 0x1)) 2
     ∷ sized 420 0 0 (preview (release (nm (0xC1 ∷ [])) 0x1)) 2
     ∷ sized 420 24 0 (preview (release (raw 0 []) 0x1)) 2
-    ∷ sized 0 24 0 (preview (scratch (nm (0xC1 ∷ [])))) 2
-    ∷ sized 420 48 0 (preview (scratch (nm (0xC1 ∷ [])))) 2
-    ∷ sized 420 24 0 (preview (scratch (raw 88 (0xC1 ∷ [])))) 2
-    ∷ sized 420 24 0 (preview (allocate (request (nm (0xC2 ∷ [])) (attrN 51 7) 0 0 1 0 0))) 2
+    ∷ sized 0 24 0 (preview (scratch (nm (0xC1 ∷ [])) (date 4 0x0080365F) 0)) 2
+    ∷ sized 420 48 0 (preview (scratch (nm (0xC1 ∷ [])) (date 4 0x0080365F) 0)) 2
+    ∷ sized 420 24 0 (preview (scratch (raw 88 (0xC1 ∷ [])) (date 4 0x0080365F) 0)) 2
+    ∷ sized 420 24 0 (preview (allocate (request (nm (0xC2 ∷ [])) (attrN 51 7) 0 0 1 0 0 noDate))) 2
     ∷ sized 560 24 0 (preview (extend (nm (0xC1 ∷ [])))) 3
-    ∷ sized 420 24 0 (preview (scratch (nm (0xC1 ∷ [])))) 0
-    ∷ hurt ((60, 0x01) ∷ []) (preview (allocate (request (nm []) (attr 7) 0 0 1 0 0))) 3
+    ∷ sized 420 24 0 (preview (scratch (nm (0xC1 ∷ [])) (date 4 0x0080365F) 0)) 0
+    ∷ hurt ((60, 0x01) ∷ []) (preview (allocate (request (nm []) (attr 7) 0 0 1 0 0 noDate))) 3
     ∷ hurt ((60, 0x01) ∷ []) (preview (extend (nm (0xF9 ∷ [])))) 3
     ∷ hurt ((60, 0x01) ∷ []) (preview (release (nm []) 0x1)) 3
-    ∷ hurt ((60, 0x01) ∷ []) (preview (scratch (nm (0xF9 ∷ [])))) 3
+    ∷ hurt ((60, 0x01) ∷ []) (preview (scratch (nm (0xF9 ∷ [])) (date 4 0x0080365F) 0)) 3
     ∷ begin 20 3 8 2 1 0 0x60BE185D90FDC31
-    ∷ ok (allocate (request (nm (0xC3 ∷ 0xD6 ∷ 0xD4 ∷ 0xC2 ∷ [])) (attr 28) 0 0 1 1 0)) 0x101000100010000000000000000000000000000000000 0x1D5F6774870FE531
-    ∷ ok (allocate (request (nm (0xD9 ∷ 0xC5 ∷ 0xE2 ∷ 0xE3 ∷ [])) (attr 29) 0 0 1 1 0)) 0x101000300010000000000000000000000000000000000 0xFE567EF460AD991
-    ∷ ok (allocate (request (nm (0xC1 ∷ [])) (attr 30) 0 0 1 1 0)) 0x101000400010000000000000000000000000000000000 0x15962B7959BCD456
+    ∷ ok (allocate (request (nm (0xC3 ∷ 0xD6 ∷ 0xD4 ∷ 0xC2 ∷ [])) (attr 28) 0 0 1 1 0 noDate)) 0x101000100010000000000000000000000000000000000 0x1239CF7CF97F6EE
+    ∷ ok (allocate (request (nm (0xD9 ∷ 0xC5 ∷ 0xE2 ∷ 0xE3 ∷ [])) (attr 29) 0 0 1 1 0 noDate)) 0x101000300010000000000000000000000000000000000 0x15EB874923B21995
+    ∷ ok (allocate (request (nm (0xC1 ∷ [])) (attr 30) 0 0 1 1 0 noDate)) 0x101000400010000000000000000000000000000000000 0x136BF4AEDA30A07F
     ∷ put ((51, 0x00) ∷ (145, 0x01) ∷ (147, 0x00) ∷ (150, 0x03) ∷ (153, 0x01) ∷ (155, 0x05) ∷ (158, 0x01) ∷ (160, 0x07) ∷ (163, 0x01) ∷ (165, 0x09) ∷ (168, 0x01) ∷ (170, 0x0B) ∷ (173, 0x01) ∷ (175, 0x0D) ∷ (178, 0x01) ∷ (180, 0x0F) ∷ (183, 0x01) ∷ (186, 0x11) ∷ (189, 0x01) ∷ (191, 0x13) ∷ (194, 0x01) ∷ (196, 0x15) ∷ (199, 0x01) ∷ (201, 0x17) ∷ (204, 0x01) ∷ (206, 0x19) ∷ (209, 0x01) ∷ (211, 0x1B) ∷ (214, 0x01) ∷ (216, 0x1D) ∷ (219, 0x01) ∷ (221, 0x1F) ∷ (224, 0x01) ∷ (226, 0x21) ∷ (229, 0x01) ∷ (231, 0x2B) ∷ (234, 0x01) ∷ (236, 0x2D) ∷ (239, 0x01) ∷ (241, 0x2F) ∷ (244, 0x01) ∷ (246, 0x31) ∷ (249, 0x01) ∷ (251, 0x33) ∷ (254, 0x01) ∷ (256, 0x35) ∷ (259, 0x01) ∷ (261, 0x37) ∷ (264, 0x01) ∷ (266, 0x39) ∷ (269, 0x01) ∷ (271, 0x3B) ∷ (274, 0x01) ∷ (339, 0x10) ∷ (388, 0x01) ∷ (392, 0x01) ∷ (395, 0x01) ∷ (396, 0x01) ∷ (398, 0x02) ∷ (402, 0x02) ∷ (405, 0x01) ∷ (406, 0x02) ∷ (408, 0x02) ∷ (410, 0x02) ∷ (412, 0x02) ∷ (414, 0x02) ∷ (418, 0x02) ∷ (419, 0x06) ∷ (479, 0x0A) ∷ (517, 0x03) ∷ (528, 0x0D) ∷ (530, 0x01) ∷ (532, 0x0D) ∷ (534, 0x01) ∷ (535, 0x01) ∷ (536, 0x01) ∷ (538, 0x0E) ∷ (542, 0x0E) ∷ (545, 0x01) ∷ (546, 0x02) ∷ (548, 0x0E) ∷ (550, 0x02) ∷ (552, 0x0E) ∷ (554, 0x02) ∷ (558, 0x02) ∷ (559, 0x07) ∷ (619, 0x05) ∷ (654, 0xC0) ∷ (668, 0x0B) ∷ (670, 0x02) ∷ (672, 0x0C) ∷ (674, 0x00) ∷ (675, 0x01) ∷ (676, 0x01) ∷ (678, 0x0C) ∷ (680, 0x01) ∷ (682, 0x0C) ∷ (684, 0x01) ∷ (685, 0x01) ∷ (686, 0x02) ∷ (688, 0x0C) ∷ (690, 0x02) ∷ (692, 0x0C) ∷ (694, 0x02) ∷ (698, 0x02) ∷ (699, 0x08) ∷ (700, 0x03) ∷ (701, 0x03) ∷ (702, 0x03) ∷ (703, 0x03) ∷ (704, 0x01) ∷ (705, 0x03) ∷ (707, 0x03) ∷ (709, 0x01) ∷ (711, 0x03) ∷ (713, 0x01) ∷ (714, 0x01) ∷ (715, 0x04) ∷ (717, 0x04) ∷ (721, 0x04) ∷ (724, 0x01) ∷ (725, 0x05) ∷ (727, 0x04) ∷ (729, 0x02) ∷ (731, 0x04) ∷ (733, 0x02) ∷ (734, 0x01) ∷ (735, 0x06) ∷ (737, 0x05) ∷ (739, 0x01) ∷ (741, 0x05) ∷ (743, 0x01) ∷ (744, 0xF3) ∷ (745, 0x01) ∷ (746, 0x07) ∷ (748, 0x06) ∷ (752, 0x06) ∷ (755, 0x01) ∷ (756, 0x08) ∷ (758, 0x06) ∷ (760, 0x02) ∷ (762, 0x06) ∷ (764, 0x02) ∷ (765, 0x01) ∷ (766, 0x09) ∷ (768, 0x07) ∷ (770, 0x01) ∷ (772, 0x07) ∷ (774, 0x01) ∷ (775, 0x01) ∷ (776, 0x0A) ∷ (778, 0x08) ∷ (782, 0x08) ∷ (785, 0x01) ∷ (786, 0x0B) ∷ (788, 0x08) ∷ (790, 0x02) ∷ (792, 0x08) ∷ (794, 0x02) ∷ (795, 0x01) ∷ (796, 0x0C) ∷ (798, 0x09) ∷ (800, 0x01) ∷ (802, 0x09) ∷ (804, 0x01) ∷ (805, 0x01) ∷ (806, 0x0D) ∷ (808, 0x0A) ∷ (812, 0x0A) ∷ (815, 0x01) ∷ (816, 0x0E) ∷ (818, 0x0A) ∷ (820, 0x02) ∷ (822, 0x0A) ∷ (824, 0x02) ∷ (825, 0x01) ∷ (826, 0x0F) ∷ (828, 0x0B) ∷ (830, 0x01) ∷ (832, 0x0B) ∷ (834, 0x01) ∷ (840, 0x03) ∷ (841, 0x03) ∷ (842, 0x03) ∷ (843, 0x03) ∷ (844, 0x01) ∷ (845, 0x03) ∷ (847, 0x0F) ∷ (849, 0x01) ∷ (851, 0x0F) ∷ (853, 0x01) ∷ (854, 0x01) ∷ (855, 0x04) ∷ (857, 0x10) ∷ (861, 0x10) ∷ (864, 0x01) ∷ (865, 0x05) ∷ (867, 0x10) ∷ (869, 0x02) ∷ (871, 0x10) ∷ (873, 0x02) ∷ (874, 0x01) ∷ (875, 0x06) ∷ (877, 0x11) ∷ (879, 0x01) ∷ (881, 0x11) ∷ (883, 0x01) ∷ (884, 0xF3) ∷ (885, 0x01) ∷ (886, 0x07) ∷ (888, 0x12) ∷ (892, 0x12) ∷ (895, 0x01) ∷ (896, 0x08) ∷ (898, 0x12) ∷ (900, 0x02) ∷ (902, 0x12) ∷ (904, 0x02) ∷ (905, 0x01) ∷ (906, 0x09) ∷ (908, 0x13) ∷ (910, 0x01) ∷ (912, 0x13) ∷ (914, 0x01) ∷ (980, 0x03) ∷ (981, 0x03) ∷ (982, 0x03) ∷ (983, 0x03) ∷ (984, 0x01) ∷ (985, 0x03) ∷ (987, 0x0D) ∷ (991, 0x0D) ∷ (994, 0x01) ∷ (995, 0x04) ∷ (997, 0x0D) ∷ (999, 0x02) ∷ (1001, 0x0D) ∷ (1003, 0x02) ∷ (1024, 0xF3) ∷ [])
     ∷ no (preview (extend (nm (0xC3 ∷ 0xD6 ∷ 0xD4 ∷ 0xC2 ∷ [])))) 10
     ∷ no (extend (nm (0xC3 ∷ 0xD6 ∷ 0xD4 ∷ 0xC2 ∷ []))) 10
     ∷ no (preview (release (nm (0xC1 ∷ [])) 0x401)) 11
     ∷ no (release (nm (0xC1 ∷ [])) 0x401) 11
-    ∷ ok (preview (scratch (nm (0xC3 ∷ 0xD6 ∷ 0xD4 ∷ 0xC2 ∷ [])))) 0x1000000000000000000000000000000000000000000000 0x8163C55FDB6614A
-    ∷ ok (preview (release (nm (0xC1 ∷ [])) 0x101)) 0x200000000000000000000000000000000000000000000 0x8163C55FDB6614A
-    ∷ ok (release (nm (0xC1 ∷ [])) 0x101) 0x200000000000000000000000000000000000000000000 0x1392295E657743B9
-    ∷ ok (preview (extend (nm (0xD9 ∷ 0xC5 ∷ 0xE2 ∷ 0xE3 ∷ [])))) 0x303000100010003000100050001000000000000000000 0x1392295E657743B9
-    ∷ ok (extend (nm (0xD9 ∷ 0xC5 ∷ 0xE2 ∷ 0xE3 ∷ []))) 0x303000100010003000100050001000000000000000000 0x1554AEC8BB8097C2
+    ∷ ok (preview (scratch (nm (0xC3 ∷ 0xD6 ∷ 0xD4 ∷ 0xC2 ∷ [])) (date 4 0x0080365F) 0)) 0x1000000000000000000000000000000000000000000000 0x5EC058B7E2A2D73
+    ∷ ok (preview (release (nm (0xC1 ∷ [])) 0x101)) 0x200000000000000000000000000000000000000000000 0x5EC058B7E2A2D73
+    ∷ ok (release (nm (0xC1 ∷ [])) 0x101) 0x200000000000000000000000000000000000000000000 0x1167F293E5EB0FE2
+    ∷ ok (preview (extend (nm (0xD9 ∷ 0xC5 ∷ 0xE2 ∷ 0xE3 ∷ [])))) 0x303000100010003000100050001000000000000000000 0x1167F293E5EB0FE2
+    ∷ ok (extend (nm (0xD9 ∷ 0xC5 ∷ 0xE2 ∷ 0xE3 ∷ []))) 0x303000100010003000100050001000000000000000000 0x132A77FE3BF463EB
     ∷ []
 
 pub case38 : T (right [] sequence38)
-unfolding held gaps free used unused format0s choose extentPart format4 format5 format1 format3 records encode readGeometry readExtents readLabel readRecords read goodName limits goodLabel valid taken goodLength settle grant tracksKept rule goodLengths perform initialise printable listing
+unfolding held gaps free used unused format0s choose extentPart format4 format5 format1 format3 records encode readGeometry readExtents readLabel readRecords read goodName limits goodLabel valid taken goodLength settle grant tracksKept toStored toPacked expiryFrom withExpiry rule goodLengths perform initialise convertDate printable listing
 case38 = tt
 
 -- sums that would be right modulo 65,536
@@ -335,39 +336,166 @@ sequence39 =
     ∷ begin 257 255 4 4294967295 2 1 0x0
     ∷ begin 257 255 4 1 2 0 0x125588C0BEEB1E64
     ∷ hurt ((112, 0x40) ∷ (114, 0x42) ∷ (144, 0x40) ∷ (146, 0x00) ∷ (147, 0xC0) ∷ (148, 0xBC) ∷ []) lspace 3
-    ∷ hurt ((112, 0x40) ∷ (114, 0x42) ∷ (144, 0x40) ∷ (146, 0x00) ∷ (147, 0xC0) ∷ (148, 0xBC) ∷ []) (allocate (request (nm (0xC1 ∷ [])) (attr 7) 0 0 1 0 0)) 3
+    ∷ hurt ((112, 0x40) ∷ (114, 0x42) ∷ (144, 0x40) ∷ (146, 0x00) ∷ (147, 0xC0) ∷ (148, 0xBC) ∷ []) (allocate (request (nm (0xC1 ∷ [])) (attr 7) 0 0 1 0 0 noDate)) 3
     ∷ begin 4 255 4 1 2 0 0x125ED1A41CC65F7C
-    ∷ ok (allocate (request (nm (0xC1 ∷ [])) (attr 9) 1 0 1 1 0)) 0xFF0100FF00FF0000000000000000000000000000000000 0x19F5AB920513F7A1
-    ∷ ok (allocate (request (nm (0xC5 ∷ 0xD5 ∷ 0xC4 ∷ [])) (attr 10) 2 767 253 0 0)) 0xFD0102FF00FD0000000000000000000000000000000000 0x138844A049ED7E1B
-    ∷ ok (allocate (request (nm (0xC2 ∷ [])) (attr 11) 0 0 252 1 0)) 0xFC01000300FC0000000000000000000000000000000000 0xC465648CC093B83
-    ∷ ok (release (nm (0xC5 ∷ 0xD5 ∷ 0xC4 ∷ [])) 0xFB01) 0x100000000000000000000000000000000000000000000 0x124EB36C13B2BED3
-    ∷ ok (extend (nm (0xC2 ∷ []))) 0x10103FB00010000000000000000000000000000000000 0x1A866CACDE48FA58
-    ∷ ok (extend (nm (0xC2 ∷ []))) 0x10101FE00010000000000000000000000000000000000 0x3956C6D39BC9BEA
-    ∷ ok (extend (nm (0xC2 ∷ []))) 0x10101FF00010000000000000000000000000000000000 0x1886B169FC674AE6
-    ∷ ok lspace 0x100000001000100000002000000000000000000000000 0x1886B169FC674AE6
+    ∷ ok (allocate (request (nm (0xC1 ∷ [])) (attr 9) 1 0 1 1 0 noDate)) 0xFF0100FF00FF0000000000000000000000000000000000 0x1B38376CD73048C8
+    ∷ ok (allocate (request (nm (0xC5 ∷ 0xD5 ∷ 0xC4 ∷ [])) (attr 10) 2 767 253 0 0 noDate)) 0xFD0102FF00FD0000000000000000000000000000000000 0xEC1BC250D22622A
+    ∷ ok (allocate (request (nm (0xC2 ∷ [])) (attr 11) 0 0 252 1 0 noDate)) 0xFC01000300FC0000000000000000000000000000000000 0x16CCDE30F9A5BC88
+    ∷ ok (release (nm (0xC5 ∷ 0xD5 ∷ 0xC4 ∷ [])) 0xFB01) 0x100000000000000000000000000000000000000000000 0x1CD53B54414F3FD8
+    ∷ ok (extend (nm (0xC2 ∷ []))) 0x10103FB00010000000000000000000000000000000000 0x50CF4950BE57B5E
+    ∷ ok (extend (nm (0xC2 ∷ []))) 0x10101FE00010000000000000000000000000000000000 0xE1BF45567591CEF
+    ∷ ok (extend (nm (0xC2 ∷ []))) 0x10101FF00010000000000000000000000000000000000 0x30D39522A03CBEC
+    ∷ ok lspace 0x100000001000100000002000000000000000000000000 0x30D39522A03CBEC
     ∷ hurt ((667, 0x01) ∷ (668, 0x01) ∷ (670, 0x04) ∷ []) lspace 3
     ∷ hurt ((667, 0x01) ∷ (668, 0x01) ∷ (670, 0x04) ∷ []) (extend (nm (0xC2 ∷ []))) 3
     ∷ hurt ((391, 0x01) ∷ (392, 0x03) ∷ (394, 0x00) ∷ []) lspace 3
     ∷ hurt ((391, 0x01) ∷ (392, 0x03) ∷ (394, 0x00) ∷ []) (obtain (nm (0xC1 ∷ []))) 3
     ∷ hurt ((706, 0xFF) ∷ (707, 0xFF) ∷ (708, 0x02) ∷ (709, 0xFE) ∷ []) lspace 3
-    ∷ hurt ((706, 0xFF) ∷ (707, 0xFF) ∷ (708, 0x02) ∷ (709, 0xFE) ∷ []) (scratch (nm (0xC2 ∷ []))) 3
+    ∷ hurt ((706, 0xFF) ∷ (707, 0xFF) ∷ (708, 0x02) ∷ (709, 0xFE) ∷ []) (scratch (nm (0xC2 ∷ [])) (date 4 0x0080365F) 0) 3
     ∷ hurt ((146, 0x01) ∷ (147, 0x02) ∷ (148, 0x01) ∷ []) lspace 3
-    ∷ hurt ((146, 0x01) ∷ (147, 0x02) ∷ (148, 0x01) ∷ []) (allocate (request (nm (0xC3 ∷ [])) (attr 7) 0 0 1 0 0)) 3
+    ∷ hurt ((146, 0x01) ∷ (147, 0x02) ∷ (148, 0x01) ∷ []) (allocate (request (nm (0xC3 ∷ [])) (attr 7) 0 0 1 0 0 noDate)) 3
     ∷ hurt ((147, 0x00) ∷ (148, 0xFF) ∷ []) lspace 3
     ∷ hurt ((147, 0x00) ∷ (148, 0xFF) ∷ []) (extend (nm (0xC1 ∷ []))) 3
     ∷ hurt ((149, 0xFF) ∷ (150, 0xFF) ∷ (153, 0x02) ∷ []) lspace 3
-    ∷ hurt ((149, 0xFF) ∷ (150, 0xFF) ∷ (153, 0x02) ∷ []) (scratch (nm (0xC1 ∷ []))) 3
+    ∷ hurt ((149, 0xFF) ∷ (150, 0xFF) ∷ (153, 0x02) ∷ []) (scratch (nm (0xC1 ∷ [])) (date 4 0x0080365F) 0) 3
     ∷ hurt ((695, 0x01) ∷ (696, 0x01) ∷ (698, 0x03) ∷ []) lspace 3
     ∷ hurt ((695, 0x01) ∷ (696, 0x01) ∷ (698, 0x03) ∷ []) (preview (extend (nm (0xC2 ∷ [])))) 3
     ∷ hurt ((696, 0x40) ∷ (698, 0x42) ∷ []) lspace 3
     ∷ hurt ((696, 0x40) ∷ (698, 0x42) ∷ []) (obtain (nm (0xC2 ∷ []))) 3
     ∷ hurt ((46, 0x40) ∷ (48, 0x42) ∷ []) lspace 3
-    ∷ hurt ((46, 0x40) ∷ (48, 0x42) ∷ []) (scratch (nm (0xC5 ∷ 0xD5 ∷ 0xC4 ∷ []))) 3
+    ∷ hurt ((46, 0x40) ∷ (48, 0x42) ∷ []) (scratch (nm (0xC5 ∷ 0xD5 ∷ 0xC4 ∷ [])) (date 4 0x0080365F) 0) 3
     ∷ hurt ((107, 0x01) ∷ (108, 0x01) ∷ (110, 0x02) ∷ []) lspace 3
     ∷ hurt ((107, 0x01) ∷ (108, 0x01) ∷ (110, 0x02) ∷ []) (rename (nm (0xC1 ∷ [])) (nm (0xC3 ∷ []))) 3
-    ∷ ok (scratch (nm (0xC2 ∷ []))) 0xFF00000000000000000000000000000000000000000000 0x5DD3CD6E9EEE578
+    ∷ ok (scratch (nm (0xC2 ∷ [])) (date 4 0x0080365F) 0) 0xFF00000000000000000000000000000000000000000000 0x116B45BAD23C987
     ∷ []
 
 pub case39 : T (right [] sequence39)
-unfolding held gaps free used unused format0s choose extentPart format4 format5 format1 format3 records encode readGeometry readExtents readLabel readRecords read goodName limits goodLabel valid taken goodLength settle grant tracksKept rule goodLengths perform initialise printable listing
+unfolding held gaps free used unused format0s choose extentPart format4 format5 format1 format3 records encode readGeometry readExtents readLabel readRecords read goodName limits goodLabel valid taken goodLength settle grant tracksKept toStored toPacked expiryFrom withExpiry rule goodLengths perform initialise convertDate printable listing
 case39 = tt
+
+-- Dates from packed to stored and back; those that are none, and every length
+
+abbrev pub sequence40 : List Row
+sequence40 =
+    told (dateToStored (date 4 0x0000001F)) 0x1000000000000000000000000000000000000000000
+    ∷ told (dateToPacked (date 3 0x000001)) 0x1F0000000000000000000000000000000000000000
+    ∷ told (dateToStored (date 4 0x0004366F)) 0x4016E000000000000000000000000000000000000000000
+    ∷ told (dateToPacked (date 3 0x04016E)) 0x4366F0000000000000000000000000000000000000000
+    ∷ told (dateToStored (date 4 0x0080365F)) 0x50016D000000000000000000000000000000000000000000
+    ∷ told (dateToPacked (date 3 0x50016D)) 0x80365F0000000000000000000000000000000000000000
+    ∷ told (dateToStored (date 4 0x0100366F)) 0x64016E000000000000000000000000000000000000000000
+    ∷ told (dateToPacked (date 3 0x64016E)) 0x100366F0000000000000000000000000000000000000000
+    ∷ told (dateToStored (date 4 0x0199256F)) 0xC70100000000000000000000000000000000000000000000
+    ∷ told (dateToPacked (date 3 0xC70100)) 0x199256F0000000000000000000000000000000000000000
+    ∷ untold (dateToStored (date 4 0x0000366F)) 14
+    ∷ untold (dateToPacked (date 3 0x00016E)) 14
+    ∷ untold (dateToStored (date 4 0x0099366F)) 14
+    ∷ untold (dateToPacked (date 3 0x63016E)) 14
+    ∷ untold (dateToStored (date 4 0x0100000F)) 14
+    ∷ untold (dateToPacked (date 3 0x640000)) 14
+    ∷ untold (dateToStored (date 4 0x0100367F)) 14
+    ∷ untold (dateToPacked (date 3 0x64016F)) 14
+    ∷ untold (dateToStored (date 4 0x1080365F)) 14
+    ∷ untold (dateToStored (date 4 0x0200365F)) 14
+    ∷ untold (dateToStored (date 4 0x00A0365F)) 14
+    ∷ untold (dateToStored (date 4 0x000A365F)) 14
+    ∷ untold (dateToStored (date 4 0x0080A65F)) 14
+    ∷ untold (dateToStored (date 4 0x00800F5F)) 14
+    ∷ untold (dateToStored (date 4 0x008036AF)) 14
+    ∷ untold (dateToStored (date 4 0x0080365C)) 14
+    ∷ untold (dateToStored (date 4 0x0080365E)) 14
+    ∷ untold (dateToStored noDate) 14
+    ∷ untold (dateToStored (date 4 0x0080999F)) 14
+    ∷ untold (dateToPacked (date 3 0xC80001)) 14
+    ∷ untold (dateToPacked (date 3 0x000000)) 14
+    ∷ untold (dateToPacked (date 3 0xFFFFFF)) 14
+    ∷ untold (dateToPacked (date 3 0x506D01)) 14
+    ∷ untold (dateToStored (date 0 0x0)) 2
+    ∷ untold (dateToPacked (date 1 0x00)) 2
+    ∷ untold (dateToStored (date 3 0x008036)) 2
+    ∷ untold (dateToPacked (date 4 0x0080365F)) 2
+    ∷ untold (dateToStored (date 5 0x0080365F00)) 2
+    ∷ untold (dateToPacked (date 6 0x0080365F0080)) 2
+    ∷ convertSized 0 23 (dateToStored (date 4 0x0080365F)) 2
+    ∷ convertSized 0 23 (dateToPacked (date 3 0x500001)) 2
+    ∷ convertSized 420 25 (dateToStored (date 4 0x0080365F)) 2
+    ∷ convertSized 420 25 (dateToPacked (date 3 0x500001)) 2
+    ∷ convertSized 1 24 (dateToStored (date 4 0x0080365F)) 0
+    ∷ convertSized 1 24 (dateToPacked (date 3 0x500001)) 0
+    ∷ convertSized 419 24 (dateToStored (date 4 0x0080365F)) 0
+    ∷ convertSized 419 24 (dateToPacked (date 3 0x500001)) 0
+    ∷ []
+
+pub case40 : T (right [] sequence40)
+unfolding held gaps free used unused format0s choose extentPart format4 format5 format1 format3 records encode readGeometry readExtents readLabel readRecords read goodName limits goodLabel valid taken goodLength settle grant tracksKept toStored toPacked expiryFrom withExpiry rule goodLengths perform initialise convertDate printable listing
+case40 = tt
+
+-- Sets kept until a day: what allocate stores, and when scratch takes them
+
+abbrev pub sequence41 : List Row
+sequence41 =
+    begin 3 4 3 1 2 0 0x1F1A842900D9CDC9
+    ∷ ok (preview (allocate (request (nm (0xC1 ∷ [])) (attr 7) 0 0 1 0 0 (date 4 0x0126255F)))) 0x101000300010000000000000000000000000000000000 0x1F1A842900D9CDC9
+    ∷ ok (allocate (request (nm (0xC1 ∷ [])) (attr 7) 0 0 1 0 0 (date 4 0x0126255F))) 0x101000300010000000000000000000000000000000000 0x20B1BA9EE0D2E64
+    ∷ ok (allocate (request (nm (0xC2 ∷ [])) (attr 3) 0 0 1 0 0 noDate)) 0x101000400010000000000000000000000000000000000 0x14C081177E6A7E0
+    ∷ okLabels (obtain (nm (0xC1 ∷ []))) 0x0 0x14C081177E6A7E0 0x7D9BCB90C5B7751
+    ∷ okLabels (obtain (nm (0xC2 ∷ []))) 0x0 0x14C081177E6A7E0 0x1CCEB7CCEBBF68B8
+    ∷ no (allocate (request (nm []) (attr 7) 0 0 1 0 0 (date 3 0x012625))) 2
+    ∷ no (allocate (request (nm []) (attr 7) 0 0 1 0 0 (date 4 0x0126255C))) 4
+    ∷ no (allocate (request (nm (0xC1 ∷ [])) (attr 7) 9 0 1 0 0 (date 4 0x0126255C))) 14
+    ∷ no (allocate (request (nm (0xC1 ∷ [])) (attr 7) 0 0 1 0 0 (date 4 0x0000366F))) 14
+    ∷ no (allocate (request (nm (0xC1 ∷ [])) (attr 7) 9 0 1 0 0 noDate)) 7
+    ∷ no (allocate (request (nm (0xC1 ∷ [])) (attr 7) 0 0 1 0 0 (date 4 0x0100366F))) 6
+    ∷ no (preview (allocate (request (nm (0xC1 ∷ [])) (attr 7) 0 0 1 0 0 (date 0 0x0)))) 2
+    ∷ no (preview (allocate (request (nm (0xC3 ∷ [])) (attr 7) 9 0 1 0 0 (date 4 0x0126255C)))) 14
+    ∷ no (scratch (nm []) (date 3 0x80365F) 1) 2
+    ∷ no (scratch (nm []) noDate 1) 4
+    ∷ no (scratch (nm (0xC3 ∷ [])) noDate 1) 14
+    ∷ no (scratch (nm (0xC1 ∷ [])) (date 4 0x0100000F) 0) 14
+    ∷ no (scratch (nm (0xC3 ∷ [])) (date 4 0x0080365F) 0) 5
+    ∷ no (preview (scratch (nm (0xC2 ∷ [])) (date 7 0x00000000000000) 0)) 2
+    ∷ no (preview (scratch (nm (0xC3 ∷ [])) (date 4 0xFFFFFFFF) 0)) 14
+    ∷ no (preview (scratch (nm (0xC1 ∷ [])) (date 4 0x0126254F) 0)) 13
+    ∷ no (scratch (nm (0xC1 ∷ [])) (date 4 0x0126254F) 0) 13
+    ∷ no (scratch (nm (0xC1 ∷ [])) (date 4 0x0125365F) 0) 13
+    ∷ ok (preview (scratch (nm (0xC1 ∷ [])) (date 4 0x0125365F) 1)) 0x100000000000000000000000000000000000000000000 0x14C081177E6A7E0
+    ∷ ok (preview (scratch (nm (0xC1 ∷ [])) (date 4 0x0126255F) 0)) 0x100000000000000000000000000000000000000000000 0x14C081177E6A7E0
+    ∷ ok (scratch (nm (0xC1 ∷ [])) (date 4 0x0126255F) 0) 0x100000000000000000000000000000000000000000000 0x3732467A0807543
+    ∷ ok (allocate (request (nm (0xC1 ∷ [])) (attr 7) 0 0 1 0 0 (date 4 0x0126256F))) 0x101000300010000000000000000000000000000000000 0xA634B0D7032B999
+    ∷ no (scratch (nm (0xC1 ∷ [])) (date 4 0x0126255F) 0) 13
+    ∷ ok (scratch (nm (0xC1 ∷ [])) (date 4 0x0126255F) 1) 0x100000000000000000000000000000000000000000000 0x3732467A0807543
+    ∷ ok (scratch (nm (0xC2 ∷ [])) (date 4 0x0080365F) 0) 0x100000000000000000000000000000000000000000000 0x1F1A842900D9CDC9
+    ∷ []
+
+pub case41 : T (right [] sequence41)
+unfolding held gaps free used unused format0s choose extentPart format4 format5 format1 format3 records encode readGeometry readExtents readLabel readRecords read goodName limits goodLabel valid taken goodLength settle grant tracksKept toStored toPacked expiryFrom withExpiry rule goodLengths perform initialise convertDate printable listing
+case41 = tt
+
+-- Expired dates, overrides, and bytes of earlier days that are no date
+
+abbrev pub sequence42 : List Row
+sequence42 =
+    begin 2 3 3 1 1 0 0xF5C8B1D88B2FE2A
+    ∷ ok (allocate (request (nm (0xC1 ∷ [])) (attr 7) 0 0 1 0 0 (date 4 0x0099365F))) 0x101000200010000000000000000000000000000000000 0x38F802A65BDA0F
+    ∷ ok (scratch (nm (0xC1 ∷ [])) (date 4 0x0100001F) 0) 0x100000000000000000000000000000000000000000000 0xF5C8B1D88B2FE2A
+    ∷ ok (allocate (request (nm (0xC1 ∷ [])) (attr 7) 0 0 1 0 0 (date 4 0x0126256F))) 0x101000200010000000000000000000000000000000000 0x12A3CB8D38CF4E5B
+    ∷ ok (scratch (nm (0xC1 ∷ [])) (date 4 0x0126257F) 4294967295) 0x100000000000000000000000000000000000000000000 0xF5C8B1D88B2FE2A
+    ∷ ok (allocate (request (nm (0xC1 ∷ [])) (attr 7) 0 0 1 0 0 (date 4 0x0100366F))) 0x101000200010000000000000000000000000000000000 0x9E93C87BB0F6AB1
+    ∷ ok (scratch (nm (0xC1 ∷ [])) (date 4 0x0099365F) 2147483648) 0x100000000000000000000000000000000000000000000 0xF5C8B1D88B2FE2A
+    ∷ ok (allocate (request (nm (0xC1 ∷ [])) (attr 7) 0 0 1 0 0 noDate)) 0x101000200010000000000000000000000000000000000 0x114C0225E666D92F
+    ∷ ok (scratch (nm (0xC1 ∷ [])) (date 4 0x0000001F) 0) 0x100000000000000000000000000000000000000000000 0xF5C8B1D88B2FE2A
+    ∷ ok (allocate (request (nm (0xC1 ∷ [])) (attr 7) 0 0 1 0 0 (date 4 0x0126001F))) 0x101000200010000000000000000000000000000000000 0x15F46DB214DCCD1
+    ∷ put ((336, 0xFF) ∷ (337, 0xFF) ∷ (338, 0xFF) ∷ [])
+    ∷ no (scratch (nm (0xC1 ∷ [])) noDate 1) 14
+    ∷ no (scratch (nm (0xC1 ∷ [])) (date 4 0x0199365F) 0) 13
+    ∷ ok (scratch (nm (0xC1 ∷ [])) (date 4 0x0199365F) 2) 0x100000000000000000000000000000000000000000000 0xF5C8B1D88B2FE2A
+    ∷ ok (allocate (request (nm (0xC1 ∷ [])) (attr 7) 0 0 1 0 0 (date 4 0x0126001F))) 0x101000200010000000000000000000000000000000000 0x15F46DB214DCCD1
+    ∷ put ((336, 0x63) ∷ (337, 0x01) ∷ (338, 0x6E) ∷ [])
+    ∷ no (scratch (nm (0xC1 ∷ [])) (date 4 0x0099365F) 0) 13
+    ∷ put ((336, 0x50) ∷ (337, 0x00) ∷ (338, 0x00) ∷ [])
+    ∷ ok (scratch (nm (0xC1 ∷ [])) (date 4 0x0080001F) 0) 0x100000000000000000000000000000000000000000000 0xF5C8B1D88B2FE2A
+    ∷ []
+
+pub case42 : T (right [] sequence42)
+unfolding held gaps free used unused format0s choose extentPart format4 format5 format1 format3 records encode readGeometry readExtents readLabel readRecords read goodName limits goodLabel valid taken goodLength settle grant tracksKept toStored toPacked expiryFrom withExpiry rule goodLengths perform initialise convertDate printable listing
+case42 = tt

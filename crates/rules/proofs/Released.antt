@@ -30,11 +30,11 @@ After P (refuse n) = Unit {0}
 After P (accept r w) = P r w
 After P (tell r) = ⊥
 
-after-unless : (P : Reply → Volume → Type 0) (b : Bool) (n : ℕ) (o : Outcome) → (T b → After P o) → After P (unless b n o)
+pub after-unless : (P : Reply → Volume → Type 0) (b : Bool) (n : ℕ) (o : Outcome) → (T b → After P o) → After P (unless b n o)
 after-unless P true n o k = k tt
 after-unless P false n o k = tt
 
-after-given : {A : Type 0} (P : Reply → Volume → Type 0) (o : Option A) (n : ℕ) (k : A → Outcome) → ((a : A) → o ≡ some a → After P (k a)) → After P (given o n k)
+pub after-given : {A : Type 0} (P : Reply → Volume → Type 0) (o : Option A) (n : ℕ) (k : A → Outcome) → ((a : A) → o ≡ some a → After P (k a)) → After P (given o n k)
 after-given P none n k p = tt
 after-given P (some a) n k p = p a refl
 

@@ -1,8 +1,8 @@
-// The twelve calls for hosts in C (include/vtoc.h). A slice is a pointer and a length; the result is 0 or the number of the
+// The fourteen calls for hosts in C (include/vtoc.h). A slice is a pointer and a length; the result is 0 or the number of the
 // refusal. No call asks anything of its arguments. What each ensures is one equation of rules/specs/Contracts.antt: the
-// result and every lent byte afterwards are those that `initialise`, or `perform` with the call, gives for the lent bytes
+// result and every lent byte afterwards are those that `initialise`, `convertDate`, or `perform` with the call, gives for the lent bytes
 // and numbers before. It leaves nothing free. Where the result is not 0, these definitions leave every lent byte as it was.
-ghost use Rattle.rules.specs.Contracts.{Allocates, Extends, Initialises, Inquires, Obtains, PreviewsAllocate, PreviewsExtend, PreviewsRelease, PreviewsScratch, Releases, Renames, Scratches};
+ghost use Rattle.rules.specs.Contracts.{Allocates, DateToPacked, DateToStored, Extends, Initialises, Inquires, Obtains, PreviewsAllocate, PreviewsExtend, PreviewsRelease, PreviewsScratch, Releases, Renames, Scratches};
 
 // Initialises a volume of c cylinders with h tracks each, and a VTOC of v tracks from track s on with d records a track. The
 // result is that of `initialise`: 1 geometry, 2 length. The table is then `encode (fresh g)`, a volume with no data set, and
@@ -22,9 +22,9 @@ pub extern "C" fn vtoc_initialise(
     call_initialise::initialise(table, c, h, d, s, v, answer)
 }
 
-// Allocates tracks to a new data set, by an option: 0 none, 1 CONTIG, 2 MXIG, 3 ALX. The refusals, in the order of `perform` and
-// `rule`: 2 length, 3 VTOC unsound, 4 name, 7 amount (an unknown option, or one on an absolute request, too), 6 duplicate, 9 no
-// space, 11 VTOC full. The pieces are those of `grant`, the table that of the volume which `added` leaves, the answer
+// Allocates tracks to a new data set, by an option: 0 none, 1 CONTIG, 2 MXIG, 3 ALX, and with an expiry date: four zero bytes for none.
+// The refusals, in the order of `perform` and `rule`: 2 length, 3 VTOC unsound, 4 name, 14 date, 7 amount (an unknown option, or one on
+// an absolute request, too), 6 duplicate, 9 no space, 11 VTOC full. The date replaces three attributes, by `dated`. The pieces are those of `grant`, the table that of the volume which `added` leaves, the answer
 // `answer (granted pieces)`.
 #[no_mangle]
 pub extern "C" fn vtoc_allocate(
@@ -36,9 +36,10 @@ pub extern "C" fn vtoc_allocate(
     amount: u32,
     secondary: u32,
     option: u32,
+    expiry: &[u8],
     answer: &mut [u8],
 ) -> u32
-    ensures { λ r. ⌜ Allocates (now (table .entry)) (now (name .entry)) (now (attributes .entry)) kind start amount secondary option (now (answer .entry)) r (now (table .exit)) (now (answer .exit)) ⌝ }
+    ensures { λ r. ⌜ Allocates (now (table .entry)) (now (name .entry)) (now (attributes .entry)) kind start amount secondary option (now (expiry .entry)) (now (answer .entry)) r (now (table .exit)) (now (answer .exit)) ⌝ }
 {
     call_allocate::allocate(
         table,
@@ -49,6 +50,7 @@ pub extern "C" fn vtoc_allocate(
         amount,
         secondary,
         option,
+        expiry,
         answer,
     )
 }
@@ -72,13 +74,20 @@ pub extern "C" fn vtoc_release(table: &mut [u8], name: &[u8], ttr: u32, answer: 
     call_release::release(table, name, ttr, answer)
 }
 
-// Scratches a data set. The refusals, in the order of `perform` and `rule`: 2, 3, 4, 5 not found. The table is that of the
-// volume that `removed` leaves, the answer `answer (givenBack n)`, n being all its tracks.
+// Scratches a data set that has expired by today, or any with an override, which is any number but 0. The refusals, in the order of
+// `perform` and `rule`: 2, 3, 4, 14 date, 5 not found, 13 unexpired. The table is that of the volume that `removed` leaves, the answer
+// `answer (givenBack n)`, n being all its tracks.
 #[no_mangle]
-pub extern "C" fn vtoc_scratch(table: &mut [u8], name: &[u8], answer: &mut [u8]) -> u32
-    ensures { λ r. ⌜ Scratches (now (table .entry)) (now (name .entry)) (now (answer .entry)) r (now (table .exit)) (now (answer .exit)) ⌝ }
+pub extern "C" fn vtoc_scratch(
+    table: &mut [u8],
+    name: &[u8],
+    today: &[u8],
+    overriding: u32,
+    answer: &mut [u8],
+) -> u32
+    ensures { λ r. ⌜ Scratches (now (table .entry)) (now (name .entry)) (now (today .entry)) overriding (now (answer .entry)) r (now (table .exit)) (now (answer .exit)) ⌝ }
 {
-    call_scratch::scratch(table, name, answer)
+    call_scratch::scratch(table, name, today, overriding, answer)
 }
 
 // Renames a data set. The refusals, in the order of `perform` and `rule`: 2, 3, 4 (either name), 5 not found (the old one),
@@ -128,9 +137,10 @@ pub extern "C" fn vtoc_preview_allocate(
     amount: u32,
     secondary: u32,
     option: u32,
+    expiry: &[u8],
     answer: &mut [u8],
 ) -> u32
-    ensures { λ r. ⌜ PreviewsAllocate (now (table .entry)) (now (name .entry)) (now (attributes .entry)) kind start amount secondary option (now (answer .entry)) r (now (answer .exit)) ⌝ }
+    ensures { λ r. ⌜ PreviewsAllocate (now (table .entry)) (now (name .entry)) (now (attributes .entry)) kind start amount secondary option (now (expiry .entry)) (now (answer .entry)) r (now (answer .exit)) ⌝ }
 {
     call_allocate::preview(
         table,
@@ -141,6 +151,7 @@ pub extern "C" fn vtoc_preview_allocate(
         amount,
         secondary,
         option,
+        expiry,
         answer,
     )
 }
@@ -168,8 +179,32 @@ pub extern "C" fn vtoc_preview_release(
 
 // What `vtoc_scratch` would give back.
 #[no_mangle]
-pub extern "C" fn vtoc_preview_scratch(table: &[u8], name: &[u8], answer: &mut [u8]) -> u32
-    ensures { λ r. ⌜ PreviewsScratch (now (table .entry)) (now (name .entry)) (now (answer .entry)) r (now (answer .exit)) ⌝ }
+pub extern "C" fn vtoc_preview_scratch(
+    table: &[u8],
+    name: &[u8],
+    today: &[u8],
+    overriding: u32,
+    answer: &mut [u8],
+) -> u32
+    ensures { λ r. ⌜ PreviewsScratch (now (table .entry)) (now (name .entry)) (now (today .entry)) overriding (now (answer .entry)) r (now (answer .exit)) ⌝ }
 {
-    call_scratch::preview(table, name, answer)
+    call_scratch::preview(table, name, today, overriding, answer)
+}
+
+// ---- dates, which have no table. The refusals: 2 length, 14 date. The answer is `answer (dateBytes ..)`: the other form, then zeros
+
+// Converts a packed date, four bytes, to the three bytes of a label.
+#[no_mangle]
+pub extern "C" fn vtoc_date_to_stored(packed: &[u8], answer: &mut [u8]) -> u32
+    ensures { λ r. ⌜ DateToStored (now (packed .entry)) (now (answer .entry)) r (now (answer .exit)) ⌝ }
+{
+    call_dates::date_to_stored(packed, answer)
+}
+
+// Converts the three bytes of a label to a packed date.
+#[no_mangle]
+pub extern "C" fn vtoc_date_to_packed(stored: &[u8], answer: &mut [u8]) -> u32
+    ensures { λ r. ⌜ DateToPacked (now (stored .entry)) (now (answer .entry)) r (now (answer .exit)) ⌝ }
+{
+    call_dates::date_to_packed(stored, answer)
 }

@@ -22,6 +22,9 @@ pub fn sequence(name: &str, title: &str, desk: &Desk) -> String {
 }
 
 fn print_row(row: &Row) -> String {
+    if let Some(text) = print_conversion(row) {
+        return text;
+    }
     match row {
         Row::Made { call: Call::Initialise { c, h, d, s, v }, outcome, after, .. } => {
             let digest = if outcome.result == 0 { digest(after) } else { 0 };
@@ -56,6 +59,27 @@ fn print_row(row: &Row) -> String {
             format!("parts {format_1} {format_3} {:#X}", digest(parts))
         }
     }
+}
+
+/// A row of a call that converts a date: it has no table and so rows of its own.
+fn print_conversion(row: &Row) -> Option<String> {
+    let (Row::Made { call, .. } | Row::Sized { call, .. } | Row::Hurt { call, .. }) = row else {
+        return None;
+    };
+    if !matches!(call, Call::DateToStored { .. } | Call::DateToPacked { .. }) {
+        return None;
+    }
+    let call = print_call(call);
+    Some(match row {
+        Row::Made { outcome, .. } if outcome.result == 0 => {
+            format!("told {call} {}", numeral(&outcome.answer))
+        }
+        Row::Made { outcome, .. } => format!("untold {call} {}", outcome.result),
+        Row::Sized { table, answer, result, .. } => {
+            format!("convertSized {table} {answer} {call} {result}")
+        }
+        _ => unreachable!("no table to damage"),
+    })
 }
 
 fn print_call(call: &Call) -> String {
