@@ -41,7 +41,7 @@ struct Every<'a, M> {
 
 impl<M: Manager> Every<'_, M> {
     /// Converts a packed date, by both; its stored form.
-    fn to_stored(&mut self, date: [u8; 4]) -> Result<Option<[u8; 3]>, String> {
+    fn stored_form(&mut self, date: [u8; 4]) -> Result<Option<[u8; 3]>, String> {
         let (lent, mut answer, mut wanted) = (black_box(date), UNTOUCHED, UNTOUCHED);
         let result = self.manager.date_to_stored(&lent, &mut answer);
         let expected = Reference.date_to_stored(&date, &mut wanted);
@@ -53,7 +53,7 @@ impl<M: Manager> Every<'_, M> {
     }
 
     /// The same the other way.
-    fn to_packed(&mut self, date: [u8; 3]) -> Result<Option<[u8; 4]>, String> {
+    fn packed_form(&mut self, date: [u8; 3]) -> Result<Option<[u8; 4]>, String> {
         let (lent, mut answer, mut wanted) = (black_box(date), UNTOUCHED, UNTOUCHED);
         let result = self.manager.date_to_packed(&lent, &mut answer);
         let expected = Reference.date_to_packed(&date, &mut wanted);
@@ -68,9 +68,9 @@ impl<M: Manager> Every<'_, M> {
     fn stored_forms(&mut self) -> Result<(), String> {
         for number in 0..1_u32 << 24 {
             let [_, date @ ..] = number.to_be_bytes();
-            if let Some(other) = self.to_packed(date)? {
+            if let Some(other) = self.packed_form(date)? {
                 self.counts.dates += 1;
-                if self.to_stored(other)? != Some(date) {
+                if self.stored_form(other)? != Some(date) {
                     return Err(format!("stored {date:02X?} does not come back"));
                 }
             }
@@ -82,9 +82,9 @@ impl<M: Manager> Every<'_, M> {
     fn packed_forms(&mut self) -> Result<(), String> {
         for number in 0..3_u32 << 24 {
             let date = number.to_be_bytes();
-            if let Some(other) = self.to_stored(date)? {
+            if let Some(other) = self.stored_form(date)? {
                 self.counts.dates += 1;
-                if self.to_packed(other)? != Some(date) {
+                if self.packed_form(other)? != Some(date) {
                     return Err(format!("packed {date:02X?} does not come back"));
                 }
             }
@@ -101,7 +101,7 @@ impl<M: Manager> Every<'_, M> {
                 for half in wrong_half_bytes(at) {
                     let wrong = with_half_byte(date.clone(), at, half);
                     let four = wrong.try_into().expect("four bytes");
-                    if self.to_stored(four)?.is_some() {
+                    if self.stored_form(four)?.is_some() {
                         return Err(format!("{four:02X?} is taken for a date"));
                     }
                 }
