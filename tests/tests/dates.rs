@@ -189,7 +189,7 @@ fn order_of_any_bytes() {
 fn every_date_beside_itself() {
     let counts = compare(&Reference).expect("like itself");
     let Counts { stored, packed, dates, scratches, unexpired } = counts;
-    assert_eq!((stored, packed - 11 * 365 * 74), ((1 << 24) + DATES, (3 << 24) + DATES));
+    assert_eq!((stored, packed - 10 * 365 * 74), ((1 << 24) + DATES, (3 << 24) + DATES));
     assert_eq!((dates, scratches), (2 * DATES, 3 * 256 * 200 + 6 * 366 * 18));
     assert!(unexpired > 80_000, "{unexpired}");
 }
