@@ -10,6 +10,7 @@ pub mod call;
 pub mod cases;
 pub mod coverage;
 pub mod desk;
+pub mod every_date;
 #[cfg(feature = "stand-in")]
 pub mod exported;
 pub mod faulty;

@@ -3,6 +3,7 @@
 use vtoc_tests::beside::{both, Rooms};
 use vtoc_tests::call::{Call, Manager, Reference};
 use vtoc_tests::faulty::{Fault, Faulty, FAULTS};
+use vtoc_tests::generate::date_rows;
 use vtoc_tests::generate::grids;
 use vtoc_tests::generate::session::Session;
 
@@ -84,6 +85,8 @@ fn grids_are_not_all_refused() {
         grids::elsewhere(),
         grids::geometries(),
         grids::previews(),
+        date_rows::forms(),
+        date_rows::scratches(),
     ];
     for rows in grids {
         let mut accepted = 0;

@@ -1,5 +1,6 @@
-//! The benchmark of the twelve calls: the library beside the reference, both in one run.
+//! The benchmark of the fourteen calls: the library beside the reference, both in one run.
 
+pub mod dates;
 pub mod growth;
 pub mod page;
 pub mod row;

@@ -2,6 +2,7 @@
 
 use std::fs::read_to_string;
 
+use super::dates;
 use super::row::{time_in_rounds, Effort, Row};
 use super::volume::{Timed, Volume};
 
@@ -16,22 +17,26 @@ pub fn processor() -> String {
     line.map_or("an unknown processor", |line| line.trim_start_matches([' ', '\t', ':'])).into()
 }
 
-/// The rows of a volume.
+/// The rows of a volume, or those that have none.
 struct Section<'a> {
     title: &'static str,
     calls: Vec<(String, Row<'a>)>,
-    floor: Row<'a>,
+    floor: Option<Row<'a>>,
 }
 
 impl<'a> Section<'a> {
     fn new(volume: &'a Volume) -> Section<'a> {
         let row = |timed: Timed<'a>| (timed.what, Row::call(timed.table, timed.call, timed.wanted));
         let calls = volume.calls().into_iter().map(row).collect();
-        Section { title: volume.title, calls, floor: Row::floor(&volume.table) }
+        Section { title: volume.title, calls, floor: Some(Row::floor(&volume.table)) }
+    }
+
+    fn without_volume() -> Section<'a> {
+        Section { title: "no volume", calls: dates::rows(), floor: None }
     }
 
     fn rows(&mut self) -> impl Iterator<Item = &mut Row<'a>> {
-        self.calls.iter_mut().map(|(_, row)| row).chain([&mut self.floor])
+        self.calls.iter_mut().map(|(_, row)| row).chain(&mut self.floor)
     }
 
     fn ratios(&self) -> Vec<f64> {
@@ -40,7 +45,8 @@ impl<'a> Section<'a> {
 
     fn print(&self) {
         for (what, row) in &self.calls {
-            let (columns, floor) = (row.times_and_ratio(), self.floor.times());
+            let floor = self.floor.as_ref().map_or("– | –".into(), Row::times);
+            let columns = row.times_and_ratio();
             println!("| {} | {what} | {columns} | {floor} |", self.title);
         }
     }
@@ -49,6 +55,7 @@ impl<'a> Section<'a> {
 /// The table of all calls on all volumes, and the figures.
 pub fn print_calls(volumes: &[Volume], effort: Effort) {
     let mut sections: Vec<_> = volumes.iter().map(Section::new).collect();
+    sections.push(Section::without_volume());
     time_in_rounds(sections.iter_mut().flat_map(Section::rows), effort);
     println!("\n| Volume | Call | Library | Unrelated | Ratio | Pass | C check |\n|---|---|---:|---:|---:|---:|---:|");
     sections.iter().for_each(Section::print);

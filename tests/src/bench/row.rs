@@ -12,6 +12,8 @@ enum Work {
     Call(Call, u32),
     /// The plain pass and the C check.
     Floor,
+    /// The conversions of many dates, one after another: one takes less than can be timed.
+    Dates(Vec<Call>),
 }
 
 /// Microseconds of both, the best so far.
@@ -25,6 +27,12 @@ impl Row<'_> {
     pub fn call(table: &[u8], call: Call, wanted: u32) -> Row<'_> {
         compare(&call, table);
         Row { table, work: Work::Call(call, wanted), best: [f64::MAX; 2] }
+    }
+
+    /// Of these conversions, which look at no table.
+    pub fn dates(calls: Vec<Call>) -> Row<'static> {
+        calls.iter().for_each(|call| compare(call, &[]));
+        Row { table: &[0; 140], work: Work::Dates(calls), best: [f64::MAX; 2] }
     }
 
     pub fn floor(table: &[u8]) -> Row<'_> {
@@ -46,6 +54,12 @@ impl Row<'_> {
                     black_box(floor::pass(table));
                 },
                 |table| assert_eq!(black_box(floor::check(table)), 0),
+            ),
+            Work::Dates(calls) => time_both_on_copies(
+                self.table,
+                batches,
+                |_| calls.iter().for_each(|call| convert(&Library, call)),
+                |_| calls.iter().for_each(|call| convert(&Reference, call)),
             ),
         };
         self.best = [0, 1].map(|side| self.best[side].min(times[side]));
@@ -79,6 +93,13 @@ fn make(manager: &impl Manager, call: &Call, table: &mut [u8], wanted: u32) {
     let (mut answer, mut labels) = ([0; 24], [0; 280]);
     let result = call.run_on(manager, table, &mut answer, &mut labels);
     assert_eq!(black_box(result), wanted);
+}
+
+/// Converts a date, with no buffer but that of the answer.
+fn convert(manager: &impl Manager, call: &Call) {
+    let mut answer = [0; 24];
+    let result = call.run_on(manager, &mut [], &mut answer, &mut []);
+    assert_eq!(black_box((result, answer)).0, 0);
 }
 
 /// How often a page times its rows.

@@ -1,11 +1,13 @@
 //! The volumes of the benchmark, and the calls that are timed on each.
 
-use crate::call::{Buffers, Call, Reference, ALX, CONTIG, MXIG, NO_OPTION};
+use crate::call::{Buffers, Call, Reference, ALX, CONTIG, MXIG, NO_DATE, NO_OPTION, TODAY};
 use crate::desk::attributes;
+use crate::generate::aim::scratch_of;
 use crate::generate::glance::{glance, Glance, SetGlance};
 use crate::generate::rng::Rng;
 use crate::irregular;
 use crate::reference::layout::UNIT_CYLINDERS;
+use crate::short::expiring;
 use crate::volumes::{
     many_extents, many_names, medium, name, place, set_name, small, survey_three_counters,
     survey_two_counters,
@@ -126,7 +128,8 @@ impl Volume {
     /// The same by an option.
     fn allocation_by(option: u32, kind: u32, amount: u32) -> Call {
         let (name, attributes) = (name("BENCH.FRESH").to_vec(), attributes(3));
-        Call::Allocate { name, attributes, kind, start: 0, amount, secondary: 1, option }
+        let (start, secondary, expiry) = (0, 1, NO_DATE.to_vec());
+        Call::Allocate { name, attributes, kind, start, amount, secondary, option, expiry }
     }
 
     /// The calls to time; after each of `PREVIEWED` its preview, with the same arguments.
@@ -151,6 +154,7 @@ impl Volume {
         let calls = [
             Some(accepted("initialise", Call::Initialise { c, h, d, s, v })),
             Some(accepted("allocate, tracks", Volume::allocation(0, 1))),
+            Some(accepted("allocate, expiry", expiring(Volume::allocation(0, 1), &TODAY))),
             Some(accepted("allocate, cylinders", Volume::allocation(1, 1))),
             many("allocate, five pieces", Volume::allocation(0, five_pieces(&glance))),
             Some(Timed {
@@ -172,7 +176,7 @@ impl Volume {
                 call: call.clone(),
                 wanted: 0,
             }),
-            Some(accepted("scratch", Call::Scratch { name: present() })),
+            Some(accepted("scratch", scratch_of(present()))),
             Some(accepted(
                 "rename",
                 Call::Rename { old: present(), new: name("BENCH.FRESH").to_vec() },

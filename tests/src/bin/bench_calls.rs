@@ -5,28 +5,34 @@
 
 use std::fs::write;
 
+use vtoc_tests::bench::dates::conversions;
 use vtoc_tests::bench::growth::{print_by_names, print_by_size};
 use vtoc_tests::bench::page::{print_calls, processor, HEAD};
 use vtoc_tests::bench::row::Effort;
 use vtoc_tests::bench::volume::{print_volumes, volumes};
-use vtoc_tests::call::CALL_NAMES;
+use vtoc_tests::call::{Call, CALL_NAMES};
 use vtoc_tests::replay::record;
 
-/// DIR/N.table and DIR/N.call for each row, and DIR/rows: N, the call's name, volume and title.
+/// DIR/N.table and DIR/N.call for each row, and DIR/rows: N, the call's name, volume and title. Of the
+/// conversions of dates the first one, with a table that they do not look at.
 fn store(directory: &str) {
-    let mut rows = String::new();
-    let mut number = 0;
+    let (mut rows, mut number) = (String::new(), 0);
+    let mut add = |table: &[u8], call: &Call, volume: &str, what: &str| {
+        let path = format!("{directory}/{number}");
+        let record = record(call, table.len(), 24, 280).expect("lengths as they must be");
+        write(format!("{path}.table"), table).expect("the directory is there");
+        write(format!("{path}.call"), record).expect("the directory is there");
+        let name = CALL_NAMES[call.index()];
+        rows += &format!("{number}\t{name}\t{volume}\t{what}\n");
+        number += 1;
+    };
     for volume in volumes(false) {
         for timed in volume.calls() {
-            let path = format!("{directory}/{number}");
-            let record =
-                record(&timed.call, timed.table.len(), 24, 280).expect("lengths as they must be");
-            write(format!("{path}.table"), timed.table).expect("the directory is there");
-            write(format!("{path}.call"), record).expect("the directory is there");
-            let name = CALL_NAMES[timed.call.index()];
-            rows += &format!("{number}\t{name}\t{}\t{}\n", volume.title, timed.what);
-            number += 1;
+            add(timed.table, &timed.call, volume.title, &timed.what);
         }
+    }
+    for (what, calls) in conversions() {
+        add(&[0; 140], &calls[0], "no volume", what);
     }
     write(format!("{directory}/rows"), rows).expect("the directory is there");
 }

@@ -12,9 +12,11 @@ use vtoc_tests::call::{Buffers, Call, Manager, Reference};
 use vtoc_tests::cases::sequences;
 use vtoc_tests::coverage::Coverage;
 use vtoc_tests::desk::Row;
+use vtoc_tests::every_date::{self, Counts};
 use vtoc_tests::faulty::{Faulty, FAULTS};
 use vtoc_tests::generate::around;
 use vtoc_tests::generate::damage::{damage, DAMAGES};
+use vtoc_tests::generate::date_rows;
 use vtoc_tests::generate::grids;
 use vtoc_tests::generate::last_track;
 use vtoc_tests::generate::rng::Rng;
@@ -160,12 +162,18 @@ impl<'a, M: Manager> Beside<'a, M> {
             ("amounts that wrap", around::amounts()),
             ("the last track", last_track::rows()),
         ];
-        for (place, rows) in grids {
-            for (call, buffers) in rows {
-                self.call(&call, &buffers, Origin::Probe, place)?;
-            }
-        }
-        Ok(())
+        grids.into_iter().try_for_each(|(place, rows)| self.rows(place, rows))?;
+        self.dates()
+    }
+
+    fn rows(&mut self, place: &str, rows: Vec<grids::Row>) -> Result<(), String> {
+        let mut rows = rows.iter();
+        rows.try_for_each(|(call, lent)| self.call(call, lent, Origin::Probe, place).map(drop))
+    }
+
+    fn dates(&mut self) -> Result<(), String> {
+        self.rows("forms of dates", date_rows::forms())?;
+        self.rows("expiry dates", date_rows::scratches())
     }
 
     /// Large and worn volumes with each kind of damage, a call aimed at the whole one and its preview.
@@ -214,7 +222,7 @@ impl<'a, M: Manager> Beside<'a, M> {
     /// A volume's life: most calls stay, the table that the library left is the next one's. Many have
     /// their preview before them.
     fn life(&mut self, session: Session, calls: usize, place: &str) -> Result<(), String> {
-        let mut session = session.with_previews();
+        let mut session = session.with_previews().with_dates();
         for _ in 0..calls {
             let trial = session.next_trial();
             let Trial { call, buffers, origin } = &trial;
@@ -288,6 +296,15 @@ fn notices(fault: vtoc_tests::faulty::Fault) -> bool {
     let full = Session::of_shape(1, Shape::Brink);
     let sessions = [Session::new(1), Session::elsewhere(1), full];
     sessions.into_iter().any(|session| beside.life(session, 300, "planted").is_err())
+        || beside.dates().is_err()
+}
+
+/// Every form of a date, through the library and the reference alone.
+fn every_date(library: &impl Manager) -> Result<(), String> {
+    let Counts { stored, packed, dates, scratches, unexpired } = every_date::compare(library)?;
+    println!("dates: {stored} stored and {packed} packed forms, {dates} of them dates, alike");
+    println!("dates: {scratches} scratches, {unexpired} of them refused 13, alike");
+    Ok(())
 }
 
 struct Arguments {
@@ -321,6 +338,12 @@ fn report<M: Manager>(
     if let Err(difference) = outcome {
         println!("DIFFERENCE: {difference}");
         return ExitCode::FAILURE;
+    }
+    if !is_idle {
+        if let Err(difference) = every_date(library) {
+            println!("DIFFERENCE: {difference}");
+            return ExitCode::FAILURE;
+        }
     }
     let few = beside.coverage.too_few(calls);
     if !few.is_empty() {

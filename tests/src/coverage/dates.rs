@@ -111,7 +111,7 @@ fn of_call(call: &Call, result: u32, before: &[u8], after: &[u8]) -> Facts {
 
 /// An allocate or its preview, by its arguments.
 fn allocated(result: u32, before: &[u8], call: &Call) -> Facts {
-    let Call::Allocate { name, attributes, kind, expiry: date, .. } = call else {
+    let Call::Allocate { name, attributes, kind, amount, expiry: date, .. } = call else {
         return vec![];
     };
     let is_bad = date.len() == 4 && expiry(date).is_none();
@@ -120,7 +120,7 @@ fn allocated(result: u32, before: &[u8], call: &Call) -> Facts {
         (result == 0 && *date != NO_DATE, "with a date".into()),
         (result == 2 && date.len() != 4 && attributes.len() == 52, "2 for the date".into()),
         (result == 14 && wrong(date) == [7], "14, sign not F".into()),
-        (result == 14 && *kind > 2, "14 before 7".into()),
+        (result == 14 && (*kind > 2 || *amount == 0), "14 before 7".into()),
         (result == 14 && is_there, "14 before 6".into()),
         (result == 4 && is_bad, "4 before 14".into()),
     ]

@@ -7,7 +7,7 @@ use crate::audit::dates::{of_packed, of_stored, packed, stored};
 use crate::call::{Call, NO_DATE};
 
 /// Years and days at which something changes.
-pub const YEARS: [u32; 11] = [1900, 1900, 1901, 1904, 1980, 1999, 2000, 2001, 2026, 2096, 2099];
+pub const YEARS: [u32; 10] = [1900, 1901, 1904, 1980, 1999, 2000, 2001, 2026, 2096, 2099];
 pub const DAYS: [u32; 10] = [1, 2, 99, 100, 255, 256, 257, 364, 365, 366];
 
 /// Overrides; each but the first is one.

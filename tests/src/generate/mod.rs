@@ -1,9 +1,10 @@
 //! Random and hostile calls and damaged tables, all from one seed.
 
-mod aim;
+pub mod aim;
 pub mod around;
 mod brink;
 pub mod damage;
+pub mod date_rows;
 pub mod dates;
 pub mod elsewhere;
 pub mod glance;
