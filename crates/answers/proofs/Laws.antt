@@ -1,15 +1,17 @@
 -- The answer bytes grow from the front, zeros after them. Assumes nothing.
 use mathlib.Core.Path.{_≡_, refl, sym, ap, ap₂, _∙_}
 use mathlib.Core.List.{List, [], _∷_, _++_, append-assoc, append-nil, map}
-use Prim.Native.Nat.{ℕ, _+_, _*_, _/_, _%_, _≤_, _<_}
+use Prim.Native.Nat.{ℕ, zero, suc, _+_, _*_, _/_, _%_, _≤_, _<_}
 use native.Mathlib.Nat.{mul-suc, mul-zero}
 use native.Mathlib.Numerals.{add-one}
 use native.Mathlib.Omega.{arith}
-use lib.ListN.{getD, length, length-append, length-take, take}
+use lib.ListN.{drop, getD, length, length-append, length-take, take}
 use lib.Seq.{take-suc}
 use Rattle.model.specs.Basics.{be2, fill, flat, zeros}
 use Rattle.model.specs.Model.{Run, total}
-use Rattle.rules.specs.Calls.{answer, givenBack, granted, numbers}
+use Rattle.model.proofs.Lists.{copied}
+use Rattle.rules.specs.Calls.{answer, dateBytes, givenBack, granted, numbers}
+use Rattle.rules.proofs.Bytes.{length-fill}
 use Rattle.choose_pieces.specs.Grant.{row}
 use Rattle.dscb_write.specs.Put.{putAt}
 use Rattle.dscb_write.proofs.Filling.{put-fill}
@@ -87,3 +89,22 @@ pieces-all t k gs i u w ps l e h =
     let q : i ≡ k = omega arith in
     let r : flat pieceBytes (take i gs) ≡ flat (λ p. be2 (p .start) ++ be2 (p .count)) ps = ap (λ (x : ℕ). flat pieceBytes (take x gs)) q ∙ ap (flat pieceBytes) h ∙ flat-rows ps in
     rw (r, ← e, ← l)
+
+-- ---- some bytes first
+
+zeros-fill : (n : ℕ) → zeros n ≡ fill n []
+zeros-fill zero = refl
+zeros-fill (suc n) = ap (λ (l : List ℕ). 0 ∷ l) (zeros-fill n)
+
+over-zeros : (n : ℕ) (bs : List ℕ) → length bs ≤ n → take (length bs) bs ++ drop (length bs) (zeros n) ≡ fill n bs
+over-zeros n [] h = zeros-fill n
+over-zeros zero (b ∷ bs) h = absurd (omega arith)
+over-zeros (suc n) (b ∷ bs) h = ap (λ (l : List ℕ). b ∷ l) (over-zeros n bs (omega arith))
+
+-- copied to 24 zeros, and these to o
+pub first-is : (bs all o o′ : List ℕ) → length bs ≤ 24 → all ≡ take (length bs) bs ++ drop (length bs) (zeros 24) → length o ≡ 24
+    → o′ ≡ take (length all) all ++ drop (length all) o → o′ ≡ answer (dateBytes bs)
+first-is bs all o o′ h e l q =
+    let f : all ≡ fill 24 bs = e ∙ over-zeros 24 bs h in
+    let n : length all ≡ 24 = ap length f ∙ length-fill 24 bs in
+    q ∙ copied all o (l ∙ sym n) ∙ f
