@@ -293,10 +293,9 @@ fn calls_of_any_table() -> Vec<Call> {
 fn notices(fault: vtoc_tests::faulty::Fault) -> bool {
     let library = Faulty { manager: &Library, fault };
     let mut beside = Beside::new(&library, Sides::Planted);
-    let full = Session::of_shape(1, Shape::Brink);
-    let sessions = [Session::new(1), Session::elsewhere(1), full];
-    sessions.into_iter().any(|session| beside.life(session, 300, "planted").is_err())
-        || beside.dates().is_err()
+    let special = [Session::elsewhere(1), Session::of_shape(1, Shape::Brink)];
+    let mut sessions = (1..=6).map(Session::new).chain(special);
+    sessions.any(|session| beside.life(session, 300, "planted").is_err()) || beside.dates().is_err()
 }
 
 /// Every form of a date, through the library and the reference alone.
