@@ -5,6 +5,7 @@ use mathlib.Core.Option.{Option, none, some}
 use mathlib.Core.List.{List, []}
 use Prim.Native.Nat.{ℕ, _*_, _+_, _≤_, _<_}
 use native.Mathlib.Omega.{arith}
+use borrow.Author.Tests.{eq-eqb, ne-eqb}
 use lib.Dec.{T, eqb}
 use lib.ListN.{length}
 use Rattle.open_table.specs.declared.Opening.{Opening}
@@ -29,6 +30,22 @@ use Rattle.open_table.proofs.Calls.{AsksSet, AsksTable, answer-long, asks, done
 use Rattle.open_table.proofs.Lookup.{there, there-inside}
 use Rattle.open_table.proofs.Numbers.{known, known-maps}
 use Rattle.call_scratch.specs.Expired.{Lengths, MayGo, OpensExpired}
+
+-- ---- the date of a record
+
+pub overridden : (n : ℕ) → (n ≡ 0 → ⊥) → (t : List ℕ) (k : ℕ) (today : List ℕ) → false ≡ (later (part 56 3 (slotBytes t k)) today && eqb n 0)
+overridden n h t k today = none (later (part 56 3 (slotBytes t k)) today)
+  where
+    none : (b : Bool) → false ≡ (b && eqb n 0)
+    none true = sym (ne-eqb n 0 h)
+    none false = refl
+
+pub date-later : (n : ℕ) → n ≡ 0 → (rec slot today : List ℕ) (r : Bool) → rec ≡ slot → r ≡ later (part 56 3 rec) today → r ≡ (later (part 56 3 slot) today && eqb n 0)
+date-later n z rec slot today r q e = e ∙ ap (λ (x : List ℕ). later (part 56 3 x) today) q ∙ last (later (part 56 3 slot) today)
+  where
+    last : (b : Bool) → b ≡ (b && eqb n 0)
+    last true = sym (eq-eqb n 0 z)
+    last false = refl
 
 module _ (t name today : List ℕ) (override : ℕ) (ok : Bool) where
   -- behind the name: today's date, and then the data set
@@ -157,7 +174,7 @@ module _ (t name today : List ℕ) (override : ℕ) (ok : Bool) where
         done (preview-set (on-set (y .stored) (y .date) a l)) (y .opened) (y .none) (y .known .it) n b′
         (q ∙ sym (ap (λ (u : Outcome). written b (onCopy v u)) goes-on))
 
-  -- a preview is refused with what refuses the call
-  pub preview-refused : (a : List ℕ) (n : ℕ) → result n (lent t a []) ≡ perform (lent t a []) (scratch name today override)
-      → result n (lent t a []) ≡ perform (lent t a []) (preview (scratch name today override))
-  preview-refused a n e = ap (withTable t) e ∙ sym (as-on-copy (lent t a []) (scratch name today override))
+-- a preview is refused with what refuses the call
+pub preview-refused : (t name today : List ℕ) (override : ℕ) (a : List ℕ) (n : ℕ) → result n (lent t a []) ≡ perform (lent t a []) (scratch name today override)
+    → result n (lent t a []) ≡ perform (lent t a []) (preview (scratch name today override))
+preview-refused t name today override a n e = ap (withTable t) e ∙ sym (as-on-copy (lent t a []) (scratch name today override))

@@ -212,6 +212,14 @@ expiry-put s at ls la =
     three : (s : List ℕ) → length s ≡ 3 → getD s 0 0 ∷ getD s 1 0 ∷ getD s 2 0 ∷ [] ≡ s
     three s l = by-three (λ s. getD s 0 0 ∷ getD s 1 0 ∷ getD s 2 0 ∷ [] ≡ s) (λ a b c. refl) s l
 
+-- ---- what is told: a date, or none
+
+pub told-none : {o : Option (List ℕ)} (ok : Bool) (bs : List ℕ) → o ≡ cond ok (some bs) none → ok ≡ false → o ≡ none
+told-none ok bs e k = e ∙ ap (λ (b : Bool). cond b (some bs) none) k
+
+pub told-some : {o : Option (List ℕ)} (ok : Bool) (bs : List ℕ) → o ≡ cond ok (some bs) none → ok ≡ true → o ≡ some bs
+told-some ok bs e k = e ∙ ap (λ (b : Bool). cond b (some bs) none) k
+
 -- ---- which of two is later
 
 module _ (s t : List ℕ) where

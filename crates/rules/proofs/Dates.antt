@@ -202,10 +202,13 @@ none-is-no-date = (refl, refl)
 
 -- ---- the expiry date among the attributes
 
-stored-three : (p s : List ℕ) → toStored p ≡ some s → length s ≡ 3
+pub stored-three : (p s : List ℕ) → toStored p ≡ some s → length s ≡ 3
 stored-three p s e = ap length (sym (each-converts p s .storedRight e .3))
 
-expiry-three : (e s : List ℕ) → expiryFrom e ≡ some s → length s ≡ 3
+pub packed-four : (p s : List ℕ) → toPacked s ≡ some p → length p ≡ 4
+packed-four p s e = ap length (sym (each-converts p s .packedRight e .2))
+
+pub expiry-three : (e s : List ℕ) → expiryFrom e ≡ some s → length s ≡ 3
 unfolding expiryFrom
 expiry-three e s q =
     by (same e (zeros 4))

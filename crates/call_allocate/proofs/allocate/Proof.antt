@@ -14,7 +14,7 @@ allocate-in-requires : tie.Need-allocate-in-requires
 allocate-in-requires c κs =
     let at-if1 = c .before .before .before in
     let at-is-small = at-if1 .before in
-    let top = at-is-small .before .before .before .before .before .before in
+    let top = at-is-small .before .before .before .before .before .before .before in
     roomy-small (top .args .table .now) _ (at-is-small .is-small .ensures (at-if1 .if1 .taken)) refl
 
 same-length : tie.Need-same-length
@@ -31,7 +31,7 @@ slice-aggregate-allocate-in-2 c = search needs
 
 allocate-in-requires-2 : tie.Need-allocate-in-requires-2
 allocate-in-requires-2 c κs =
-    let top = c .before .before .before .before .before .before .before .before .before .before in
+    let top = c .before .before .before .before .before .before .before .before .before .before .before in
     roomy-large (top .args .table .now) _ refl
 
 same-length-3 : tie.Need-same-length-3

@@ -14,7 +14,7 @@ preview-in-requires : tie.Need-preview-in-requires
 preview-in-requires c κs =
     let at-if1 = c .before .before in
     let at-is-small = at-if1 .before in
-    let top = at-is-small .before .before .before .before .before in
+    let top = at-is-small .before .before .before .before .before .before in
     roomy-small (top .args .table .now) _ (at-is-small .is-small .ensures (at-if1 .if1 .taken)) refl
 
 same-length : tie.Need-same-length
@@ -28,7 +28,7 @@ slice-aggregate-preview-in-2 c = search needs
 
 preview-in-requires-2 : tie.Need-preview-in-requires-2
 preview-in-requires-2 c κs =
-    let top = c .before .before .before .before .before .before .before .before in
+    let top = c .before .before .before .before .before .before .before .before .before in
     roomy-large (top .args .table .now) _ refl
 
 same-length-2 : tie.Need-same-length-2

@@ -14,7 +14,7 @@ scratch-in-requires : tie.Need-scratch-in-requires
 scratch-in-requires c κs =
     let at-if1 = c .before .before .before in
     let at-is-small = at-if1 .before in
-    let top = at-is-small .before .before .before .before .before in
+    let top = at-is-small .before .before .before .before .before .before in
     roomy-small (top .args .table .now) _ (at-is-small .is-small .ensures (at-if1 .if1 .taken)) refl
 
 same-length : tie.Need-same-length
@@ -31,7 +31,7 @@ slice-aggregate-scratch-in-2 c = search needs
 
 scratch-in-requires-2 : tie.Need-scratch-in-requires-2
 scratch-in-requires-2 c κs =
-    let top = c .before .before .before .before .before .before .before .before .before in
+    let top = c .before .before .before .before .before .before .before .before .before .before in
     roomy-large (top .args .table .now) _ refl
 
 same-length-3 : tie.Need-same-length-3

@@ -1,3 +1,5 @@
+use mathlib.Core.Path.{sym, ap₂, _∙_}
+use Rattle.call_scratch.proofs.Call.{date-later, overridden}
 use native.Mathlib.Omega.{arith}
 use borrow.Author.Needs.{needs}
 use Rattle.call_scratch.proofs.unexpired.Statement.{statement}
@@ -7,37 +9,37 @@ use Rattle.call_scratch.proofs.unexpired.Lts as lts
 use Rattle.dates.proofs.is_later.Reads as is-later-reads
 use Rattle.dscb.proofs.record_at.Reads as record-at-reads
 
--- src/lib.rt:24:9
 returns : tie.Need-returns
-returns c = ?
+returns c =
+    let at-if1 = c in
+    let top = at-if1 .before .before .before in
+    overridden (top .args .overriding) (at-if1 .if1 .taken) (top .args .table .now) (top .args .k) (top .args .today .now)
 
--- src/lib.rt:26:9
 record-at-requires : tie.Need-record-at-requires
 record-at-requires c κs = search needs
 
--- src/lib.rt:27:36
 add-is-later : tie.Need-add-is-later
 add-is-later c = search needs
 
--- src/lib.rt:27:21
 sub-is-later : tie.Need-sub-is-later
 sub-is-later c = search needs
 
--- src/lib.rt:27:21
 part-is-later-start : tie.Need-part-is-later-start
 part-is-later-start c = search needs
 
--- src/lib.rt:27:21
 part-is-later-end : tie.Need-part-is-later-end
 part-is-later-end c = search needs
 
--- src/lib.rt:27:5
 is-later-requires : tie.Need-is-later-requires
 is-later-requires c κs = search needs
 
--- src/lib.rt:19:1
 returns-2 : tie.Need-returns-2
-returns-2 c = ?
+returns-2 c =
+    let at-is-later = c in
+    let at-record-at = at-is-later .before .before in
+    let at-if1 = at-record-at .before in
+    let top = at-if1 .before .before .before in
+    date-later (top .args .overriding) (at-if1 .if1 .left) _ _ (top .args .today .now) _ (at-record-at .record-at .ensures .0) (at-is-later .is-later .ensures)
 
 pub unexpired-spec : {M : Type 1} → statement M
 unexpired-spec =
