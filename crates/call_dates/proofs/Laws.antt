@@ -7,7 +7,7 @@ use Prim.Native.Nat.{ℕ}
 use borrow.Author.Tests.{eq-eqb, ne-eqb}
 use lib.Dec.{eqb}
 use lib.ListN.{length}
-use Rattle.rules.specs.Calls.{DateCall, Outcome, answer, dateBytes, dateOutcome, given, refuse, tell, unless}
+use Rattle.rules.specs.Calls.{DateCall, Outcome, answer, dateBytes, dateOutcome, given, tell, unless}
 use Rattle.rules.specs.Contracts.{ConvertsDate}
 use Rattle.rules.specs.Entries.{convertDate, dateLengths, lent, result, written}
 

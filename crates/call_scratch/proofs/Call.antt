@@ -1,21 +1,20 @@
 -- Scratch and its preview as a whole: their refusals in their order. Assumes nothing.
-use mathlib.Core.Path.{_≡_, refl, sym, ap, _∙_, subst}
-use mathlib.Core.Bool.{Bool, true, false, cond, not, _&&_}
+use mathlib.Core.Path.{_≡_, refl, sym, ap, _∙_}
+use mathlib.Core.Bool.{Bool, true, false, not, _&&_}
 use mathlib.Core.Option.{Option, none, some}
 use mathlib.Core.List.{List, []}
 use Prim.Native.Nat.{ℕ, _*_, _+_, _≤_, _<_}
 use native.Mathlib.Omega.{arith}
 use borrow.Author.Tests.{eq-eqb, ne-eqb}
-use lib.Dec.{T, eqb}
+use lib.Dec.{eqb}
 use lib.ListN.{length}
 use Rattle.open_table.specs.declared.Opening.{Opening}
 use Rattle.open_table.specs.declared.SetOpening.{SetOpening}
 use Rattle.model.specs.Basics.{part}
-use Rattle.model.specs.Model.{Geometry, Label, Volume, slots}
-use Rattle.rules.specs.Calls.{Outcome, given, onCopy, preview, refuse, removeSet, rule, scratch, scratchOn, scratchSet, unless}
+use Rattle.model.specs.Model.{Label, Volume, slots}
+use Rattle.rules.specs.Calls.{Outcome, given, onCopy, preview, removeSet, rule, scratch, scratchOn, scratchSet, unless}
 use Rattle.rules.specs.Dates.{expiryOf, later, toStored, unexpired}
-use Rattle.rules.specs.Entries.{Lent, Result, lent, perform, result, written}
-use Rattle.rules.specs.Predicates.{Limits}
+use Rattle.rules.specs.Entries.{Lent, lent, perform, result, written}
 use Rattle.rules.specs.Previews.{withTable}
 use Rattle.rules.specs.Reading.{read}
 use Rattle.rules.specs.Table.{goodName}
@@ -25,8 +24,8 @@ use Rattle.dscb.specs.Forms.{geometryOf}
 use Rattle.dscb.specs.Records.{slotBytes}
 use Rattle.names.specs.Find.{findSlot, inSlot, notFound}
 use Rattle.check_table.specs.Check.{Roomy}
-use Rattle.open_table.specs.Opening.{FoundAt, KnownAt, KnownMaps, Mapped, Opened}
-use Rattle.open_table.proofs.Calls.{AsksSet, AsksTable, answer-long, asks, done, found-at, not-found, passed, preview-set, record-inside, refused, slot-inside}
+use Rattle.open_table.specs.Opening.{FoundAt, Mapped, Opened}
+use Rattle.open_table.proofs.Calls.{AsksSet, AsksTable, answer-long, asks, done, not-found, passed, preview-set, refused}
 use Rattle.open_table.proofs.Lookup.{there, there-inside}
 use Rattle.open_table.proofs.Numbers.{known, known-maps}
 use Rattle.call_scratch.specs.Expired.{Lengths, MayGo, OpensExpired}

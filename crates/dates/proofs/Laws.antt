@@ -1,18 +1,18 @@
 -- Dates: the definitions, as the code goes. Laws take a result with what it ensures. Assumes nothing.
 use mathlib.Core.Path.{_≡_, refl, sym, ap, ap₂, _∙_}
-use mathlib.Core.Bool.{Bool, true, false, not, cond, _&&_, _||_}
+use mathlib.Core.Bool.{Bool, true, false, cond, _&&_}
 use mathlib.Core.Option.{Option, none, some}
 use mathlib.Core.List.{List, [], _∷_, _++_}
 use Prim.Native.Nat.{ℕ, zero, suc, _+_, _-_, _*_, _/_, _%_, _≤_, _<_}
 use native.Mathlib.Omega.{arith}
 use borrow.Author.Tests.{eq-eqb, eqb-false, eqb-true, le-leb, le-ltb, lt-leb, lt-ltb, ne-eqb}
-use lib.Dec.{T, eqb, leb, ltb}
+use lib.Dec.{eqb, leb, ltb}
 use lib.ListN.{drop, getD, length, length-drop, set, take}
 use lib.Seq.{take-all}
-use Rattle.model.specs.Basics.{bit, get2, mapOption, part, same, within, zeros}
+use Rattle.model.specs.Basics.{get2, mapOption, same, zeros}
 use Rattle.model.proofs.Lists.{by, is-true, same-refl, same→eq, true-is}
-use Rattle.rules.specs.Dates.{Date, date, dateIn, daysIn, expiryFrom, fromPacked, fromStored, goodDate, later, leap, packedForm, storedForm, toPacked, toStored, withExpiry}
-use Rattle.rules.proofs.Dates.{Good, good}
+use Rattle.rules.specs.Dates.{Date, date, dateIn, daysIn, expiryFrom, fromPacked, fromStored, goodDate, later, packedForm, storedForm, toPacked, toStored, withExpiry}
+use Rattle.rules.proofs.Dates.{good}
 use Rattle.dates.specs.Digits.{dayIn, yearIn}
 
 -- ---- the calendar

@@ -1,9 +1,9 @@
 -- Bytes put into a record: one part after the other, and into one field of several. Assumes nothing.
 use Prim.Native.Nat.{ℕ, zero, suc, _+_, _≤_, _<_, _-_}
-use mathlib.Core.Path.{_≡_, _∙_, refl, sym, ap, ap₂}
-use mathlib.Core.List.{List, [], _∷_, _++_, append-nil}
+use mathlib.Core.Path.{_≡_, _∙_, refl, sym, ap}
+use mathlib.Core.List.{List, [], _∷_, _++_}
 use native.Mathlib.Omega.{arith}
-use lib.ListN.{drop, drop-of-length-le, getD, length-set, length, set, length-take, replicate, take, length-replicate, replicate-append-replicate}
+use lib.ListN.{getD, length-set, length, set, length-take, replicate, take, length-replicate, replicate-append-replicate}
 use lib.Seq.{set-append-left, take-suc}
 use native.Mathlib.Numerals.{add-one}
 use Rattle.rules.specs.Layout.{whole}

@@ -4,12 +4,12 @@ use mathlib.Core.Option.{Option, none, some}
 use mathlib.Core.List.{List, [], _∷_}
 use Prim.Native.Nat.{ℕ}
 use lib.ListN.{replicate}
-use lib.Dec.{T}
+use lib.Dec.{T, eqb}
 use Rattle.model.specs.Basics.{all, same, zeros}
 use Rattle.model.specs.Choice.{choose}
 use Rattle.model.specs.Model.{format0s, free, gaps, held, run, unused, used}
 use Rattle.rules.specs.Calls.{Call, allocate, givenBack, grant, granted, nothing, preview, request, rule, scratch}
-use Rattle.rules.specs.Dates.{expiryFrom, toPacked, toStored, withExpiry}
+use Rattle.rules.specs.Dates.{date, dayNumber, expiryFrom, toPacked, toStored, withExpiry}
 use Rattle.rules.specs.Entries.{goodLengths, initialise, perform}
 use Rattle.rules.specs.Layout.{encode, extentPart, format1, format3, format4, format5, records}
 use Rattle.rules.specs.Reading.{read, readExtents, readGeometry, readLabel, readRecords}
@@ -53,7 +53,7 @@ noPacked =
     ∷ (0x01 ∷ 0x00 ∷ 0x36 ∷ 0x7F ∷ [])
     ∷ (0x00 ∷ 0x79 ∷ 0x00 ∷ 0x0F ∷ [])
     ∷ (0x00 ∷ 0x00 ∷ 0x00 ∷ 0x00 ∷ [])
-    -- a first digit, C 2, a half byte that is no digit though ten of it make a year, sign C
+    -- first digit 1; C 2; half bytes that are no digits, though they would tell a year or a day; sign C
     ∷ (0x10 ∷ 0x79 ∷ 0x00 ∷ 0x1F ∷ [])
     ∷ (0x02 ∷ 0x00 ∷ 0x00 ∷ 0x1F ∷ [])
     ∷ (0x00 ∷ 0x7A ∷ 0x00 ∷ 0x1F ∷ [])
@@ -83,6 +83,13 @@ formsHold =
 pub forms : T formsHold
 unfolding toStored toPacked
 forms = tt
+
+-- "leap years .. (1900 isn't one)": 49 of them from 1900 to 2099
+abbrev pub calendarHolds : Bool
+calendarHolds = eqb (dayNumber (date 1901 1)) 366 && eqb (dayNumber (date 2000 1)) 36525 && eqb (dayNumber (date 2099 365)) 73049
+
+pub calendar : T calendarHolds
+calendar = tt
 
 -- ---- on Volume A
 

@@ -1,5 +1,5 @@
 -- From the calls' equations, on lent bytes, to the buffers whole. Assumes nothing.
-use mathlib.Core.Path.{_≡_, sym, ap, ap₂, _∙_}
+use mathlib.Core.Path.{_≡_, refl, sym, ap, ap₂, _∙_}
 use mathlib.Core.List.{List, [], _++_}
 use Prim.Native.Nat.{ℕ, _+_, _≤_}
 use native.Mathlib.Omega.{arith}
@@ -9,12 +9,13 @@ use mathlib.Core.Bool.{true}
 use Rattle.model.proofs.Lists.{and-l, and-r, by, true-is}
 use lib.ListN.{length, take, drop, getD, take-append-drop}
 use lib.Seq.{length-take-le}
-use Rattle.rules.specs.Calls.{Call, allocate, extend, lspace, obtain, preview, release, rename, request, scratch}
-use Rattle.rules.specs.Contracts.{geometry}
-use Rattle.rules.specs.Entries.{Lent, Result, initialise, lent, perform, result}
-use Rattle.replay_record.specs.Asked.{answerLent, bytesOf, get4, labelsLent, nameAsked, otherOf, overAt, tableLent}
+use Rattle.rules.specs.Calls.{Call, DateCall, allocate, dateToPacked, dateToStored, extend, lspace, obtain, preview, release, rename, request, scratch}
+use Rattle.rules.specs.Contracts.{ConvertsDate, geometry}
+use Rattle.rules.specs.Entries.{Lent, Result, convertDate, initialise, lent, perform, result}
+use Rattle.rules.proofs.DateCalls.{beside-any-table}
+use Rattle.replay_record.specs.Asked.{answerLent, bytesOf, dateAsked, get4, labelsLent, nameAsked, otherOf, overAt, tableLent}
 use Rattle.replay_record.specs.Line.{digest, lineOf}
-use Rattle.replay_step.specs.Play.{Does, Loads, bothLent, called, playDone, freshAnswer, freshLabels, initialised, isPreview, laterOp, lentOf, lineFor, loaded, obtained, operated, played, previewOp, requestOf, wholeTable}
+use Rattle.replay_step.specs.Play.{Does, Loads, Tells, bothLent, called, playDone, freshAnswer, freshLabels, initialised, isDate, isPreview, laterOp, lentOf, lineFor, loaded, obtained, operated, played, previewOp, readingOp, requestOf, scratchOf, told, wholeTable}
 
 -- whatever call was made with the first n bytes of the table and k of the answer
 put-back : {r : ℕ} {t′ a′ : List ℕ} {p : Result} (asked t a l : List ℕ) (n k : ℕ) → n ≡ tableLent asked → k ≡ answerLent asked
@@ -36,6 +37,16 @@ pub reads-call : {c : Call} {r : ℕ} {a′ : List ℕ} (c′ : Call) (asked t a
     → result r (lent (take n t) a′ []) ≡ perform (lent (take n t) (take k a) []) c → Does (λ b. called asked b c′) t a r t (a′ ++ drop k a)
 reads-call {c} {r} {a′} c′ asked t a n k d e f h = λ l.
     ap (λ (u : List ℕ). result r (lent u (a′ ++ drop k a) l)) (sym (take-append-drop n t)) ∙ does-call c′ asked t a n k d e f h l
+
+-- a date is converted beside whatever table there is
+pub tells-date : {c : DateCall} {r : ℕ} {a′ : List ℕ} (c′ : DateCall) (asked a : List ℕ) (k : ℕ) → c ≡ c′ → k ≡ answerLent asked
+    → ConvertsDate c [] (take k a) [] r [] a′ [] → Tells asked c′ a r (a′ ++ drop k a)
+unfolding told
+tells-date {c} {r} {a′} c′ asked a k d f h = λ t l.
+    ap (λ (u : List ℕ). result r (lent u (a′ ++ drop k a) l)) (sym (take-append-drop (tableLent asked) t))
+    ∙ put-back asked t a l (tableLent asked) k refl f
+    (beside-any-table c (take k a) r a′ h (take (tableLent asked) t) []
+    ∙ ap₂ (λ (x : DateCall) (j : ℕ). convertDate x (lent (take (tableLent asked) t) (take j a) [])) d f)
 
 pub obtains : {r : ℕ} {a′ l′ : List ℕ} (name asked t a l : List ℕ) (n k m : ℕ) → n ≡ tableLent asked → k ≡ answerLent asked → m ≡ labelsLent asked
     → name ≡ nameAsked asked → result r (lent (take n t) a′ l′) ≡ perform (lent (take n t) (take k a) (take m l)) (obtain name)
@@ -68,6 +79,9 @@ beyond k n h e = omega (arith, e)
 not-both : (n : ℕ) → n ≤ 133 → 134 ≤ n → ⊥
 not-both n a b = absurd (omega arith)
 
+not-twelve : (n : ℕ) → n ≤ 11 → 12 ≤ n → ⊥
+not-twelve n a b = absurd (omega arith)
+
 module _ (r : List ℕ) (b : Lent) {x : Result} (op : ℕ) where
   pub op-1 : op ≡ 1 → x ≡ initialised r b → x ≡ operated op r b
   unfolding operated
@@ -85,7 +99,7 @@ module _ (r : List ℕ) (b : Lent) {x : Result} (op : ℕ) where
   unfolding operated
   op-4 e h = rw e h
 
-  pub op-5 : op ≡ 5 → x ≡ called r b (scratch (nameAsked r)) → x ≡ laterOp op r b
+  pub op-5 : op ≡ 5 → x ≡ called r b (scratchOf r) → x ≡ laterOp op r b
   unfolding laterOp
   op-5 e h = rw e h
 
@@ -109,9 +123,26 @@ module _ (r : List ℕ) (b : Lent) {x : Result} (op : ℕ) where
   unfolding operated
   op-later e₁ e₂ e₃ e₄ h = rw (ne-eqb op 1 e₁, ne-eqb op 2 e₂, ne-eqb op 3 e₃, ne-eqb op 4 e₄) h
 
-  pub op-preview : (op ≡ 5 → ⊥) → (op ≡ 6 → ⊥) → (op ≡ 7 → ⊥) → (op ≡ 8 → ⊥) → (op ≡ 9 → ⊥) → x ≡ previewOp op r b → x ≡ laterOp op r b
+  pub op-reading : (op ≡ 5 → ⊥) → (op ≡ 6 → ⊥) → (op ≡ 7 → ⊥) → (op ≡ 8 → ⊥) → (op ≡ 9 → ⊥) → x ≡ readingOp op r b → x ≡ laterOp op r b
   unfolding laterOp
-  op-preview e₁ e₂ e₃ e₄ e₅ h = rw (ne-eqb op 5 e₁, ne-eqb op 6 e₂, ne-eqb op 7 e₃, ne-eqb op 8 e₄, ne-eqb op 9 e₅) h
+  op-reading e₁ e₂ e₃ e₄ e₅ h = rw (ne-eqb op 5 e₁, ne-eqb op 6 e₂, ne-eqb op 7 e₃, ne-eqb op 8 e₄, ne-eqb op 9 e₅) h
+
+  pub op-10 : op ≡ 10 → x ≡ told r b (dateToStored (dateAsked r)) → x ≡ readingOp op r b
+  unfolding readingOp
+  op-10 e h = rw e h
+
+  pub op-11 : op ≡ 11 → x ≡ told r b (dateToPacked (dateAsked r)) → x ≡ readingOp op r b
+  unfolding readingOp
+  op-11 e h = rw e h
+
+  pub op-preview : (op ≡ 10 → ⊥) → (op ≡ 11 → ⊥) → x ≡ previewOp op r b → x ≡ readingOp op r b
+  unfolding readingOp
+  op-preview e₁ e₂ h = by (isDate op) (λ k. absurd (none k)) (λ k. rw k h)
+    where
+      none : isDate op ≡ true → ⊥
+      none k =
+          not-twelve op (leb→le op 11 (and-r (leb 10 op) (leb op 11) (true-is k)))
+          (beyond 11 op (beyond 10 op (leb→le 10 op (and-l (leb 10 op) (leb op 11) (true-is k))) e₁) e₂)
 
   pub op-130 : op ≡ 130 → x ≡ called r b (preview (allocate (requestOf r))) → x ≡ previewOp op r b
   unfolding previewOp
@@ -125,7 +156,7 @@ module _ (r : List ℕ) (b : Lent) {x : Result} (op : ℕ) where
   unfolding previewOp
   op-132 e h = rw e h
 
-  pub op-133 : op ≡ 133 → x ≡ called r b (preview (scratch (nameAsked r))) → x ≡ previewOp op r b
+  pub op-133 : op ≡ 133 → x ≡ called r b (preview (scratchOf r)) → x ≡ previewOp op r b
   unfolding previewOp
   op-133 e h = rw e h
 
@@ -162,10 +193,13 @@ step-done {line} {t′} {a′} {l′} {r} asked t a l e f h k =
 pub lent-long : (n m : ℕ) (t : List ℕ) → length t ≡ m → n ≤ m → n ≡ length (take n t)
 lent-long n m t h k = sym (length-take-le n t (omega arith))
 
-pub same-request : {n n′ at at′ : List ℕ} {k k′ s s′ a a′ v v′ o o′ : ℕ} → n ≡ n′ → at ≡ at′ → k ≡ k′ → s ≡ s′ → a ≡ a′ → v ≡ v′ → o ≡ o′
-    → allocate (request n at k s a v o) ≡ allocate (request n′ at′ k′ s′ a′ v′ o′)
-same-request {n} {n′} {at} {at′} {k} {k′} {s} {s′} {a} {a′} {v} {v′} {o} {o′} e₁ e₂ e₃ e₄ e₅ e₆ e₇ =
-    ap₂ (λ (x y : List ℕ). allocate (request x y k s a v o)) e₁ e₂
-    ∙ ap₂ (λ (x y : ℕ). allocate (request n′ at′ x y a v o)) e₃ e₄
-    ∙ ap₂ (λ (x y : ℕ). allocate (request n′ at′ k′ s′ x y o)) e₅ e₆
-    ∙ ap (λ (x : ℕ). allocate (request n′ at′ k′ s′ a′ v′ x)) e₇
+pub same-request : {n n′ at at′ : List ℕ} {k k′ s s′ a a′ v v′ o o′ : ℕ} {d d′ : List ℕ} → n ≡ n′ → at ≡ at′ → k ≡ k′ → s ≡ s′ → a ≡ a′ → v ≡ v′ → o ≡ o′ → d ≡ d′
+    → allocate (request n at k s a v o d) ≡ allocate (request n′ at′ k′ s′ a′ v′ o′ d′)
+same-request {n} {n′} {at} {at′} {k} {k′} {s} {s′} {a} {a′} {v} {v′} {o} {o′} {d} {d′} e₁ e₂ e₃ e₄ e₅ e₆ e₇ e₈ =
+    ap₂ (λ (x y : List ℕ). allocate (request x y k s a v o d)) e₁ e₂
+    ∙ ap₂ (λ (x y : ℕ). allocate (request n′ at′ x y a v o d)) e₃ e₄
+    ∙ ap₂ (λ (x y : ℕ). allocate (request n′ at′ k′ s′ x y o d)) e₅ e₆
+    ∙ ap₂ (λ (x : ℕ) (y : List ℕ). allocate (request n′ at′ k′ s′ a′ v′ x y)) e₇ e₈
+
+pub same-scratch : {n n′ d d′ : List ℕ} {k k′ : ℕ} → n ≡ n′ → d ≡ d′ → k ≡ k′ → scratch n d k ≡ scratch n′ d′ k′
+same-scratch {n} {n′} {d} {d′} {k} {k′} e f g = ap₂ (λ (x y : List ℕ). scratch x y k) e f ∙ ap (scratch n′ d′) g

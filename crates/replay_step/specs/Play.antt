@@ -78,9 +78,15 @@ previewed op r =
 unfoldable pub previewOp : ℕ → List ℕ → Lent → Result
 previewOp op r b = cond (isPreview op) (called r b (preview (previewed op r))) (result 99 b)
 
+abbrev pub isDate : ℕ → Bool
+isDate op = within 10 11 op
+
+-- the date that is to be converted
+abbrev pub dateCall : ℕ → List ℕ → DateCall
+dateCall op r = cond (eqb op 10) (dateToStored (dateAsked r)) (dateToPacked (dateAsked r))
+
 unfoldable pub readingOp : ℕ → List ℕ → Lent → Result
-readingOp op r b =
-    cond (eqb op 10) (told r b (dateToStored (dateAsked r))) (cond (eqb op 11) (told r b (dateToPacked (dateAsked r))) (previewOp op r b))
+readingOp op r b = cond (isDate op) (told r b (dateCall op r)) (previewOp op r b)
 
 unfoldable pub laterOp : ℕ → List ℕ → Lent → Result
 laterOp op r b =

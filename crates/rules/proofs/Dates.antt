@@ -1,6 +1,6 @@
 -- What document 02 promises of dates, [5]; the statements are in specs/Dates. Assumes nothing.
 use mathlib.Core.Path.{_≡_, refl, sym, ap, ap₂, _∙_, subst}
-use mathlib.Core.Bool.{Bool, true, false, cond, _&&_, _||_}
+use mathlib.Core.Bool.{Bool, true, false, _&&_, _||_}
 use mathlib.Core.Option.{Option, none, some}
 use mathlib.Core.List.{List, [], _∷_, _++_, append-assoc, append-nil}
 use Prim.Native.Nat.{ℕ, zero, suc, _+_, _-_, _*_, _/_, _%_, _≤_, _<_}
@@ -10,8 +10,8 @@ use lib.Dec.{T, leb, ltb, eqb, leb→le}
 use lib.ListN.{drop, length, length-append, length-drop, length-take, take}
 use lib.Seq.{drop-append-seam, take-append-seam}
 use Rattle.model.specs.Basics.{be2, bit, mapOption, part, same, sumOf, upFrom, zeros}
-use Rattle.model.proofs.Lists.{and-l, and-r, by, by-option, is-true, same-refl, same→eq, some-is, true-is}
-use Rattle.rules.specs.Dates.{AnyToday, BesideDates, CalendarOrder, Date, EachConverts, EachStored, Inverse, NoneIsNoDate, SameDate, date, dateIn, dayNumber, daysIn, expiryFrom, expiryOf, fromPacked, fromStored, goodDate, halfBytesIn, later, leap, packedForm, storedForm, toPacked, toStored, withExpiry}
+use Rattle.model.proofs.Lists.{and-l, and-r, by, is-true, same-refl, same→eq, some-is, true-is}
+use Rattle.rules.specs.Dates.{AnyToday, BesideDates, CalendarOrder, Date, EachConverts, EachStored, Inverse, NoneIsNoDate, date, dateIn, dayNumber, daysIn, expiryFrom, fromPacked, fromStored, goodDate, later, leap, packedForm, storedForm, toPacked, toStored, withExpiry}
 use Rattle.rules.proofs.Bytes.{be2-back}
 
 -- ---- what a date is

@@ -1,31 +1,29 @@
 -- What document 02 promises of a data set with an expiry date, [5]; the statements are specs/Expiry. Assumes nothing.
-use mathlib.Core.Path.{_≡_, refl, sym, ap, ap₂, _∙_, subst}
+use mathlib.Core.Path.{_≡_, refl, sym, ap, _∙_, subst}
 use mathlib.Core.Bool.{Bool, true, false, not, _&&_}
 use mathlib.Core.Option.{Option, none, some}
 use mathlib.Core.List.{List}
 use Prim.Native.Nat.{ℕ}
 use native.Mathlib.Omega.{arith}
-use borrow.Author.Tests.{eqb-true}
-use lib.Dec.{T, eqb, eqb→eq, ltb}
+use lib.Dec.{T, eqb, eqb→eq}
 use lib.ListN.{length}
 use Rattle.model.specs.Basics.{find, mapOption, orElse, part, same, zeros}
 use Rattle.model.specs.Choice.{SpaceOption}
-use Rattle.model.specs.Model.{Extent, Geometry, Label, Volume, overs, runsOf, total}
+use Rattle.model.specs.Model.{Extent, Volume, overs, runsOf, total}
 use Rattle.model.proofs.Lists.{and-l, and-r, by, clash, is-false, is-true, part-part, same-refl, same→eq, some-is, true-is}
-use Rattle.rules.specs.Calls.{Amount, Outcome, Reply, Request, accept, allocate, allocateAmount, allocateBy, allocatePieces, allocateStored, amountOf, dated, given, givenBack, grant, granted, inRange, newSet, optionFor, refuse, removeSet, rule, scratch, scratchOn, scratchSet, settled, unless, withAttributes}
-use Rattle.rules.specs.Dates.{Date, SameDate, dayNumber, expiryFrom, expiryOf, goodDate, later, packedForm, storedForm, toStored, unexpired, withExpiry}
+use Rattle.rules.specs.Calls.{Amount, Reply, Request, accept, allocate, allocateAmount, allocateBy, allocatePieces, allocateStored, amountOf, given, givenBack, grant, granted, inRange, newSet, optionFor, refuse, removeSet, rule, scratch, settled, unless, withAttributes}
+use Rattle.rules.specs.Dates.{Date, expiryFrom, expiryOf, goodDate, later, packedForm, storedForm, toStored, withExpiry}
 use Rattle.rules.specs.Expiry.{Accepts, DateIsStored, HasDate, InRecord, KeptUntil, NeverKept}
 use Rattle.rules.specs.Full.{RefusedExactly}
 use Rattle.rules.specs.Layout.{fields1, format1}
 use Rattle.rules.specs.Predicates.{Unlike, Valid}
-use Rattle.rules.specs.Slots.{added, found, isNew, removed}
+use Rattle.rules.specs.Slots.{added, isNew, removed}
 use Rattle.rules.specs.Table.{goodName, named}
 use Rattle.rules.proofs.Dates.{any-today, calendar-order, each-converts, each-stored, expiry-long, none-is-no-date}
 use Rattle.rules.proofs.Fields.{field-at}
 use Rattle.rules.proofs.Grants.{put-added}
 use Rattle.rules.proofs.LabelBack.{lengths1, lens1}
 use Rattle.rules.proofs.Labels.{find-insert, unlike-any}
-use Rattle.rules.proofs.Placed.{Put}
 use Rattle.rules.proofs.Released.{After, after-given, after-unless}
 
 -- ---- in the record

@@ -9,7 +9,7 @@ use lib.Dec.{eqb, leb}
 use Rattle.model.specs.Choice.{noOption}
 use Rattle.model.specs.Model.{Geometry, Label, Volume, overs, runsOf, slots, total}
 use Rattle.model.proofs.Lists.{by, by-option, clash, true-is}
-use Rattle.rules.specs.Calls.{Call, DateCall, Outcome, Reply, accept, allocate, allocateAmount, allocateBy, allocatePieces, allocateStored, amountOf, dateToPacked, dateToStored, dated, extend, extendPieces, extendSet, given, givenBack, goodTtr, grant, granted, inRange, lspace, newSet, obtain, obtainSet, onCopy, optionFor, preview, refuse, release, releaseSet, removeSet, rename, renameSet, rule, scratch, scratchOn, scratchSet, tell, secondaryOf, settled, shorter, tracksKeptOf, unless}
+use Rattle.rules.specs.Calls.{Call, DateCall, Outcome, Reply, accept, allocate, allocateAmount, allocateBy, allocatePieces, allocateStored, amountOf, dateToPacked, dateToStored, dated, extend, extendPieces, extendSet, given, givenBack, goodTtr, grant, granted, inRange, lspace, newSet, obtain, obtainSet, onCopy, optionFor, preview, refuse, release, releaseSet, rename, renameSet, rule, scratch, scratchOn, scratchSet, tell, secondaryOf, settled, shorter, tracksKeptOf, unless}
 use Rattle.rules.specs.Dates.{toPacked, toStored, unexpired}
 use Rattle.rules.specs.Entries.{Lent, convertDate, dateLength, goodLengths, initialise, perform, written}
 use Rattle.rules.specs.Reading.{read}

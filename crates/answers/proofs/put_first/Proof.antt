@@ -1,11 +1,7 @@
 use Rattle.answers.proofs.Laws.{first-is}
-use native.Mathlib.Omega.{arith}
 use borrow.Author.Needs.{needs}
 use Rattle.answers.proofs.put_first.Statement.{statement}
 use Rattle.answers.proofs.put_first.Tie as tie
-use Rattle.answers.proofs.put_first.Reads as reads
-use Rattle.answers.proofs.put_first.Lts as lts
-use Rattle.bytes.proofs.copy.Reads as copy-reads
 
 slice-aggregate-copy : tie.Need-slice-aggregate-copy
 slice-aggregate-copy c = search needs

@@ -2,13 +2,9 @@ use mathlib.Core.Bool.{_&&_}
 use lib.Dec.{eqb}
 use mathlib.Core.Path.{sym, _∙_}
 use Rattle.open_table.proofs.Numbers.{none-more, one-more}
-use native.Mathlib.Omega.{arith}
 use borrow.Author.Needs.{needs}
 use Rattle.call_allocate.proofs.right_lengths.Statement.{statement}
 use Rattle.call_allocate.proofs.right_lengths.Tie as tie
-use Rattle.call_allocate.proofs.right_lengths.Reads as reads
-use Rattle.call_allocate.proofs.right_lengths.Lts as lts
-use Rattle.open_table.proofs.and_another.Reads as and-another-reads
 
 and-another-requires : tie.Need-and-another-requires
 and-another-requires c κs = search needs

@@ -9,10 +9,6 @@ use Rattle.call_dates.proofs.Laws.{answer-short, date-short, no-date, t
 use borrow.Author.Needs.{needs}
 use Rattle.call_dates.proofs.date_to_packed.Statement.{statement}
 use Rattle.call_dates.proofs.date_to_packed.Tie as tie
-use Rattle.call_dates.proofs.date_to_packed.Reads as reads
-use Rattle.call_dates.proofs.date_to_packed.Lts as lts
-use Rattle.answers.proofs.put_first.Reads as put-first-reads
-use Rattle.dates.proofs.to_packed.Reads as to-packed-reads
 
 returns : tie.Need-returns
 returns c =

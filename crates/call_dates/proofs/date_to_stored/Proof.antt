@@ -9,10 +9,6 @@ use Rattle.call_dates.proofs.Laws.{answer-short, date-short, no-date, t
 use borrow.Author.Needs.{needs}
 use Rattle.call_dates.proofs.date_to_stored.Statement.{statement}
 use Rattle.call_dates.proofs.date_to_stored.Tie as tie
-use Rattle.call_dates.proofs.date_to_stored.Reads as reads
-use Rattle.call_dates.proofs.date_to_stored.Lts as lts
-use Rattle.answers.proofs.put_first.Reads as put-first-reads
-use Rattle.dates.proofs.to_stored.Reads as to-stored-reads
 
 returns : tie.Need-returns
 returns c =

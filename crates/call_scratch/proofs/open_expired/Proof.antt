@@ -4,17 +4,9 @@ use Rattle.rules.proofs.Dates.{stored-three}
 use Rattle.dates.proofs.Laws.{told-none, told-some}
 use Rattle.open_table.proofs.Numbers.{known}
 use Rattle.call_scratch.proofs.Call.{absent, early, may-go, no-date, not-yet, record-fits}
-use native.Mathlib.Omega.{arith}
 use borrow.Author.Needs.{needs}
 use Rattle.call_scratch.proofs.open_expired.Statement.{statement}
 use Rattle.call_scratch.proofs.open_expired.Tie as tie
-use Rattle.call_scratch.proofs.open_expired.Reads as reads
-use Rattle.call_scratch.proofs.open_expired.Lts as lts
-use Rattle.call_scratch.proofs.refused.Reads as refused-reads
-use Rattle.call_scratch.proofs.unexpired.Reads as unexpired-reads
-use Rattle.dates.proofs.to_stored.Reads as to-stored-reads
-use Rattle.open_table.proofs.look_up.Reads as look-up-reads
-use Rattle.open_table.proofs.open_named.Reads as open-named-reads
 
 open-named-requires : tie.Need-open-named-requires
 open-named-requires c κs = search needs

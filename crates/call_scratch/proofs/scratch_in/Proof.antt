@@ -1,15 +1,8 @@
-use mathlib.Core.Path.{refl}
 use Rattle.free_space.proofs.Calls.{at}
 use Rattle.call_scratch.proofs.Call.{answer-fits, taken-out}
-use native.Mathlib.Omega.{arith}
 use borrow.Author.Needs.{needs}
 use Rattle.call_scratch.proofs.scratch_in.Statement.{statement}
 use Rattle.call_scratch.proofs.scratch_in.Tie as tie
-use Rattle.call_scratch.proofs.scratch_in.Reads as reads
-use Rattle.call_scratch.proofs.scratch_in.Lts as lts
-use Rattle.call_scratch.proofs.open_expired.Reads as open-expired-reads
-use Rattle.free_space.proofs.scratch_set.Reads as scratch-set-reads
-use Rattle.open_table.proofs.and_another.Reads as and-another-reads
 
 and-another-requires : tie.Need-and-another-requires
 and-another-requires c κs = search needs

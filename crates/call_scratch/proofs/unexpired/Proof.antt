@@ -1,13 +1,7 @@
-use mathlib.Core.Path.{sym, ap₂, _∙_}
 use Rattle.call_scratch.proofs.Call.{date-later, overridden}
-use native.Mathlib.Omega.{arith}
 use borrow.Author.Needs.{needs}
 use Rattle.call_scratch.proofs.unexpired.Statement.{statement}
 use Rattle.call_scratch.proofs.unexpired.Tie as tie
-use Rattle.call_scratch.proofs.unexpired.Reads as reads
-use Rattle.call_scratch.proofs.unexpired.Lts as lts
-use Rattle.dates.proofs.is_later.Reads as is-later-reads
-use Rattle.dscb.proofs.record_at.Reads as record-at-reads
 
 returns : tie.Need-returns
 returns c =

@@ -1,13 +1,8 @@
 use mathlib.Core.Path.{_∙_}
 use Rattle.dates.proofs.Laws.{expiry-none, expiry-some}
-use native.Mathlib.Omega.{arith}
 use borrow.Author.Needs.{needs}
 use Rattle.dates.proofs.expiry_from.Statement.{statement}
 use Rattle.dates.proofs.expiry_from.Tie as tie
-use Rattle.dates.proofs.expiry_from.Reads as reads
-use Rattle.dates.proofs.expiry_from.Lts as lts
-use Rattle.dates.proofs.to_stored.Reads as to-stored-reads
-use Rattle.rows.proofs.same.Reads as same-reads
 
 slice-aggregate-same : tie.Need-slice-aggregate-same
 slice-aggregate-same c = search needs

@@ -1,11 +1,7 @@
 use Rattle.dates.proofs.Laws.{by-last, too-early, too-late}
-use native.Mathlib.Omega.{arith}
 use borrow.Author.Needs.{needs}
 use Rattle.dates.proofs.is_date.Statement.{statement}
 use Rattle.dates.proofs.is_date.Tie as tie
-use Rattle.dates.proofs.is_date.Reads as reads
-use Rattle.dates.proofs.is_date.Lts as lts
-use Rattle.dates.proofs.last_day.Reads as last-day-reads
 
 returns : tie.Need-returns
 returns c =

@@ -1,11 +1,7 @@
 use Rattle.dates.proofs.Laws.{by-days, earlier-year, later-year}
-use native.Mathlib.Omega.{arith}
 use borrow.Author.Needs.{needs}
 use Rattle.dates.proofs.is_later.Statement.{statement}
 use Rattle.dates.proofs.is_later.Tie as tie
-use Rattle.dates.proofs.is_later.Reads as reads
-use Rattle.dates.proofs.is_later.Lts as lts
-use Rattle.rows.proofs.two.Reads as two-reads
 
 shared-slice-read-year : tie.Need-shared-slice-read-year
 shared-slice-read-year c = search needs

@@ -1,10 +1,7 @@
 use Rattle.dates.proofs.Laws.{a-fourth, not-fourth, the-first}
 use native.Mathlib.Omega.{arith}
-use borrow.Author.Needs.{needs}
 use Rattle.dates.proofs.last_day.Statement.{statement}
 use Rattle.dates.proofs.last_day.Tie as tie
-use Rattle.dates.proofs.last_day.Reads as reads
-use Rattle.dates.proofs.last_day.Lts as lts
 
 returns : tie.Need-returns
 returns c =

@@ -1,10 +1,7 @@
 use Rattle.dates.proofs.Laws.{packed-is}
-use native.Mathlib.Omega.{arith}
 use borrow.Author.Needs.{needs}
 use Rattle.dates.proofs.pack.Statement.{statement}
 use Rattle.dates.proofs.pack.Tie as tie
-use Rattle.dates.proofs.pack.Reads as reads
-use Rattle.dates.proofs.pack.Lts as lts
 
 cast-r : tie.Need-cast-r
 cast-r c = search needs

@@ -1,10 +1,7 @@
 use Rattle.dates.proofs.Laws.{stored-is}
-use native.Mathlib.Omega.{arith}
 use borrow.Author.Needs.{needs}
 use Rattle.dates.proofs.store.Statement.{statement}
 use Rattle.dates.proofs.store.Tie as tie
-use Rattle.dates.proofs.store.Reads as reads
-use Rattle.dates.proofs.store.Lts as lts
 
 cast-r : tie.Need-cast-r
 cast-r c = search needs

@@ -4,12 +4,6 @@ use native.Mathlib.Omega.{arith}
 use borrow.Author.Needs.{needs}
 use Rattle.dates.proofs.to_packed.Statement.{statement}
 use Rattle.dates.proofs.to_packed.Tie as tie
-use Rattle.dates.proofs.to_packed.Reads as reads
-use Rattle.dates.proofs.to_packed.Lts as lts
-use Rattle.dates.proofs.is_date.Reads as is-date-reads
-use Rattle.dates.proofs.not_packed.Reads as not-packed-reads
-use Rattle.dates.proofs.pack.Reads as pack-reads
-use Rattle.rows.proofs.wide.Reads as wide-reads
 
 not-packed-requires : tie.Need-not-packed-requires
 not-packed-requires c κs = search needs

@@ -4,15 +4,6 @@ use native.Mathlib.Omega.{arith}
 use borrow.Author.Needs.{needs}
 use Rattle.dates.proofs.to_stored.Statement.{statement}
 use Rattle.dates.proofs.to_stored.Tie as tie
-use Rattle.dates.proofs.to_stored.Reads as reads
-use Rattle.dates.proofs.to_stored.Lts as lts
-use Rattle.dates.proofs.day_in.Reads as day-in-reads
-use Rattle.dates.proofs.is_date.Reads as is-date-reads
-use Rattle.dates.proofs.not_stored.Reads as not-stored-reads
-use Rattle.dates.proofs.pack.Reads as pack-reads
-use Rattle.dates.proofs.store.Reads as store-reads
-use Rattle.dates.proofs.year_in.Reads as year-in-reads
-use Rattle.rows.proofs.same.Reads as same-reads
 
 not-stored-requires : tie.Need-not-stored-requires
 not-stored-requires c κs = search needs

@@ -5,13 +5,9 @@ use lib.ListN.{getD, set}
 use Rattle.model.specs.Basics.{zeros}
 use Rattle.model.proofs.Lists.{copied}
 use Rattle.dates.proofs.Laws.{expiry-put}
-use native.Mathlib.Omega.{arith}
 use borrow.Author.Needs.{needs}
 use Rattle.dates.proofs.with_expiry.Statement.{statement}
 use Rattle.dates.proofs.with_expiry.Tie as tie
-use Rattle.dates.proofs.with_expiry.Reads as reads
-use Rattle.dates.proofs.with_expiry.Lts as lts
-use Rattle.bytes.proofs.copy.Reads as copy-reads
 
 slice-aggregate-copy : tie.Need-slice-aggregate-copy
 slice-aggregate-copy c = search needs

@@ -40,12 +40,15 @@ four-requires-4 c κs = search needs
 four-requires-5 : tie.Need-four-requires-5
 four-requires-5 c κs = search needs
 
+date-of-requires : tie.Need-date-of-requires
+date-of-requires c κs = search needs
+
 slice-relend-prefix-vtoc-preview-allocate : tie.Need-slice-relend-prefix-vtoc-preview-allocate
 slice-relend-prefix-vtoc-preview-allocate c = search needs
 
 slice-aggregate-vtoc-preview-allocate-2 : tie.Need-slice-aggregate-vtoc-preview-allocate-2
 slice-aggregate-vtoc-preview-allocate-2 c =
-    let at-answer-lent = c .before .before .before .before .before .before .before .before .before in
+    let at-answer-lent = c .before .before .before .before .before .before .before .before .before .before in
     let top = at-answer-lent .before .before .before .before .before in
     lent-long _ 32 (top .args .answer .now) (top .pre .2) (at-answer-lent .answer-lent .ensures .1)
 
@@ -58,7 +61,8 @@ same-length c = search needs
 returns : tie.Need-returns
 returns c =
     let at-vtoc-preview-allocate = c .before .before in
-    let at-four5 = at-vtoc-preview-allocate .before .before in
+    let at-date-of = at-vtoc-preview-allocate .before .before in
+    let at-four5 = at-date-of .before in
     let at-four4 = at-four5 .before in
     let at-four3 = at-four4 .before in
     let at-four2 = at-four3 .before in
@@ -68,24 +72,9 @@ returns c =
     let at-answer-lent = at-name-of .before .before in
     let at-table-lent = at-answer-lent .before in
     let top = at-table-lent .before .before .before .before in
-    reads-call (preview (allocate (requestOf (top .args .asked .now)))) (top .args .asked .now) (top .args .table .now) (top .args .answer .now) _ _ (ap preview (same-request (at-name-of .name-of .ensures) (at-other-of .other-of .ensures) (at-four .four .ensures) (at-four2 .four2 .ensures) (at-four3 .four3 .ensures) (at-four4 .four4 .ensures) (at-four5 .four5 .ensures))) (at-table-lent .table-lent .ensures .0) (at-answer-lent .answer-lent .ensures .0) (at-vtoc-preview-allocate .vtoc-preview-allocate .ensures)
+    reads-call (preview (allocate (requestOf (top .args .asked .now)))) (top .args .asked .now) (top .args .table .now) (top .args .answer .now) _ _ (ap preview (same-request (at-name-of .name-of .ensures) (at-other-of .other-of .ensures) (at-four .four .ensures) (at-four2 .four2 .ensures) (at-four3 .four3 .ensures) (at-four4 .four4 .ensures) (at-four5 .four5 .ensures) (at-date-of .date-of .ensures))) (at-table-lent .table-lent .ensures .0) (at-answer-lent .answer-lent .ensures .0) (at-vtoc-preview-allocate .vtoc-preview-allocate .ensures)
 
 pub do-preview-allocate-spec : {M : Type 1} → statement M
 do-preview-allocate-spec =
     tie.close
-    (tie.spec
-    table-lent-requires
-    answer-lent-requires
-    slice-aggregate-vtoc-preview-allocate
-    name-of-requires
-    other-of-requires
-    four-requires
-    four-requires-2
-    four-requires-3
-    four-requires-4
-    four-requires-5
-    slice-relend-prefix-vtoc-preview-allocate
-    slice-aggregate-vtoc-preview-allocate-2
-    vtoc-preview-allocate-requires
-    same-length
-    returns)
+    (tie.spec table-lent-requires answer-lent-requires slice-aggregate-vtoc-preview-allocate name-of-requires other-of-requires four-requires four-requires-2 four-requires-3 four-requires-4 four-requires-5 date-of-requires slice-relend-prefix-vtoc-preview-allocate slice-aggregate-vtoc-preview-allocate-2 vtoc-preview-allocate-requires same-length returns)

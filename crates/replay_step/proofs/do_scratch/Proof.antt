@@ -1,8 +1,6 @@
-use Rattle.replay_step.proofs.Laws.{does-call, lent-long}
+use Rattle.replay_step.proofs.Laws.{does-call, lent-long, same-scratch}
 use native.Mathlib.Omega.{arith}
-use Rattle.rules.specs.Calls.{scratch}
-use Rattle.replay_record.specs.Asked.{nameAsked}
-use mathlib.Core.Path.{ap}
+use Rattle.replay_step.specs.Play.{scratchOf}
 use borrow.Author.Needs.{needs}
 use Rattle.replay_step.proofs.do_scratch.Statement.{statement}
 use Rattle.replay_step.proofs.do_scratch.Tie as tie
@@ -22,12 +20,18 @@ slice-aggregate-vtoc-scratch c = lent-long _ 65536 (c .before .before .before .b
 name-of-requires : tie.Need-name-of-requires
 name-of-requires c κs = search needs
 
+date-of-requires : tie.Need-date-of-requires
+date-of-requires c κs = search needs
+
+four-requires : tie.Need-four-requires
+four-requires c κs = search needs
+
 slice-relend-prefix-vtoc-scratch-2 : tie.Need-slice-relend-prefix-vtoc-scratch-2
 slice-relend-prefix-vtoc-scratch-2 c = search needs
 
 slice-aggregate-vtoc-scratch-2 : tie.Need-slice-aggregate-vtoc-scratch-2
 slice-aggregate-vtoc-scratch-2 c =
-    let at-answer-lent = c .before .before .before in
+    let at-answer-lent = c .before .before .before .before .before in
     let top = at-answer-lent .before .before .before .before .before in
     lent-long _ 32 (top .args .answer .now) (top .pre .2) (at-answer-lent .answer-lent .ensures .1)
 
@@ -43,24 +47,15 @@ same-length-2 c = search needs
 returns : tie.Need-returns
 returns c =
     let at-vtoc-scratch = c .before .before .before .before in
-    let at-name-of = at-vtoc-scratch .before .before in
+    let at-four = at-vtoc-scratch .before .before in
+    let at-date-of = at-four .before in
+    let at-name-of = at-date-of .before in
     let at-answer-lent = at-name-of .before .before in
     let at-table-lent = at-answer-lent .before in
     let top = at-table-lent .before .before .before .before in
-    does-call (scratch (nameAsked (top .args .asked .now))) (top .args .asked .now) (top .args .table .now) (top .args .answer .now) _ _ (ap scratch (at-name-of .name-of .ensures)) (at-table-lent .table-lent .ensures .0) (at-answer-lent .answer-lent .ensures .0) (at-vtoc-scratch .vtoc-scratch .ensures)
+    does-call (scratchOf (top .args .asked .now)) (top .args .asked .now) (top .args .table .now) (top .args .answer .now) _ _ (same-scratch (at-name-of .name-of .ensures) (at-date-of .date-of .ensures) (at-four .four .ensures)) (at-table-lent .table-lent .ensures .0) (at-answer-lent .answer-lent .ensures .0) (at-vtoc-scratch .vtoc-scratch .ensures)
 
 pub do-scratch-spec : {M : Type 1} → statement M
 do-scratch-spec =
     tie.close
-    (tie.spec
-    table-lent-requires
-    answer-lent-requires
-    slice-relend-prefix-vtoc-scratch
-    slice-aggregate-vtoc-scratch
-    name-of-requires
-    slice-relend-prefix-vtoc-scratch-2
-    slice-aggregate-vtoc-scratch-2
-    vtoc-scratch-requires
-    same-length
-    same-length-2
-    returns)
+    (tie.spec table-lent-requires answer-lent-requires slice-relend-prefix-vtoc-scratch slice-aggregate-vtoc-scratch name-of-requires date-of-requires four-requires slice-relend-prefix-vtoc-scratch-2 slice-aggregate-vtoc-scratch-2 vtoc-scratch-requires same-length same-length-2 returns)

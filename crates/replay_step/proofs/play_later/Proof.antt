@@ -1,5 +1,5 @@
 use Rattle.rules.specs.Entries.{lent}
-use Rattle.replay_step.proofs.Laws.{op-5, op-6, op-7, op-8, op-9, op-preview}
+use Rattle.replay_step.proofs.Laws.{op-5, op-6, op-7, op-8, op-9, op-reading}
 use borrow.Author.Needs.{needs}
 use Rattle.replay_step.proofs.play_later.Statement.{statement}
 use Rattle.replay_step.proofs.play_later.Tie as tie
@@ -87,8 +87,8 @@ returns-5 c =
     let top = at-if5 .before .before .before .before .before .before .before .before .before .before in
     op-9 (top .args .asked .now) (lent (top .args .table .now) (top .args .answer .now) (top .args .labels .now)) _ (at-if5 .if5 .taken) (at-do-put .do-put .ensures (top .args .answer .now) (top .args .labels .now))
 
-play-preview-requires : tie.Need-play-preview-requires
-play-preview-requires c κs = search needs
+play-reading-requires : tie.Need-play-reading-requires
+play-reading-requires c κs = search needs
 
 same-length-11 : tie.Need-same-length-11
 same-length-11 c = search needs
@@ -98,41 +98,16 @@ same-length-12 c = search needs
 
 returns-6 : tie.Need-returns-6
 returns-6 c =
-    let at-play-preview = c .before .before in
-    let at-if5 = at-play-preview .before .before .before in
+    let at-play-reading = c .before .before in
+    let at-if5 = at-play-reading .before .before .before in
     let at-if4 = at-if5 .before in
     let at-if3 = at-if4 .before in
     let at-if2 = at-if3 .before in
     let at-if1 = at-if2 .before in
     let top = at-if1 .before .before .before .before .before .before in
-    op-preview (top .args .asked .now) (lent (top .args .table .now) (top .args .answer .now) (top .args .labels .now)) _ (at-if1 .if1 .left) (at-if2 .if2 .left) (at-if3 .if3 .left) (at-if4 .if4 .left) (at-if5 .if5 .left) (at-play-preview .play-preview .ensures (top .args .labels .now))
+    op-reading (top .args .asked .now) (lent (top .args .table .now) (top .args .answer .now) (top .args .labels .now)) _ (at-if1 .if1 .left) (at-if2 .if2 .left) (at-if3 .if3 .left) (at-if4 .if4 .left) (at-if5 .if5 .left) (at-play-reading .play-reading .ensures (top .args .labels .now))
 
 pub play-later-spec : {M : Type 1} → statement M
 play-later-spec =
     tie.close
-    (tie.spec
-    shared-slice-read-op
-    do-scratch-requires
-    same-length
-    same-length-2
-    returns
-    do-rename-requires
-    same-length-3
-    same-length-4
-    returns-2
-    do-obtain-requires
-    same-length-5
-    same-length-6
-    same-length-7
-    returns-3
-    do-lspace-requires
-    same-length-8
-    same-length-9
-    returns-4
-    do-put-requires
-    same-length-10
-    returns-5
-    play-preview-requires
-    same-length-11
-    same-length-12
-    returns-6)
+    (tie.spec shared-slice-read-op do-scratch-requires same-length same-length-2 returns do-rename-requires same-length-3 same-length-4 returns-2 do-obtain-requires same-length-5 same-length-6 same-length-7 returns-3 do-lspace-requires same-length-8 same-length-9 returns-4 do-put-requires same-length-10 returns-5 play-reading-requires same-length-11 same-length-12 returns-6)
