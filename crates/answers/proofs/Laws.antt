@@ -11,7 +11,6 @@ use Rattle.model.specs.Basics.{be2, fill, flat, zeros}
 use Rattle.model.specs.Model.{Run, total}
 use Rattle.model.proofs.Lists.{copied}
 use Rattle.rules.specs.Calls.{answer, dateBytes, givenBack, granted, numbers}
-use Rattle.rules.proofs.Bytes.{length-fill}
 use Rattle.choose_pieces.specs.Grant.{row}
 use Rattle.dscb_write.specs.Put.{putAt}
 use Rattle.dscb_write.proofs.Filling.{put-fill}
@@ -101,10 +100,8 @@ over-zeros n [] h = zeros-fill n
 over-zeros zero (b ∷ bs) h = absurd (omega arith)
 over-zeros (suc n) (b ∷ bs) h = ap (λ (l : List ℕ). b ∷ l) (over-zeros n bs (omega arith))
 
--- copied to 24 zeros, and these to o
-pub first-is : (bs all o o′ : List ℕ) → length bs ≤ 24 → all ≡ take (length bs) bs ++ drop (length bs) (zeros 24) → length o ≡ 24
-    → o′ ≡ take (length all) all ++ drop (length all) o → o′ ≡ answer (dateBytes bs)
-first-is bs all o o′ h e l q =
-    let f : all ≡ fill 24 bs = e ∙ over-zeros 24 bs h in
-    let n : length all ≡ 24 = ap length f ∙ length-fill 24 bs in
-    q ∙ copied all o (l ∙ sym n) ∙ f
+-- o is 24 zeros first, and then has these bytes on them
+pub first-is : (bs o o′ o″ : List ℕ) → length bs ≤ 24 → length o ≡ 24 → o′ ≡ take 24 (zeros 24) ++ drop 24 o
+    → o″ ≡ take (length bs) bs ++ drop (length bs) o′ → o″ ≡ answer (dateBytes bs)
+first-is bs o o′ o″ h l e q =
+    q ∙ ap (λ (x : List ℕ). take (length bs) bs ++ drop (length bs) x) (e ∙ copied (zeros 24) o l) ∙ over-zeros 24 bs h

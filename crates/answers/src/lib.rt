@@ -45,9 +45,9 @@ pub fn put_first(out: &mut [u8], bs: &[u8])
     requires { ⌜ (length (now out) ≡ 24) × (length (now bs) ≤ 24) ⌝ }
     ensures { λ _. ⌜ now (out .exit) ≡ answer (dateBytes (now (bs .entry))) ⌝ }
 {
-    let mut all = [0u8; 24];
-    bytes::copy(bs, &mut all);
-    bytes::copy(&all, out);
+    let nothing = [0u8; 24];
+    bytes::copy(&nothing, out);
+    bytes::copy(bs, out);
 }
 
 // The answer of a call that gave n tracks back.

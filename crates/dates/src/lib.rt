@@ -3,10 +3,10 @@
 ghost use mathlib.Core.Path.{_≡_};
 ghost use mathlib.Core.Bool.{cond};
 ghost use mathlib.Core.Option.{none, some};
-ghost use Prim.Native.Nat.{_+_, _≤_, _<_};
+ghost use Prim.Native.Nat.{_+_, _*_, _/_, _%_, _<_};
 ghost use lib.ListN.{length};
-ghost use Rattle.rules.specs.Dates.{date, daysIn, expiryFrom, goodDate, later, packedForm, storedForm, toPacked, toStored, withExpiry};
-ghost use Rattle.dates.specs.Digits.{dayIn, yearIn};
+ghost use Rattle.rules.specs.Dates.{date, expiryFrom, goodDate, later, leap, packedForm, storedForm, toPacked, toStored, withExpiry};
+ghost use Rattle.dates.specs.Digits.{dayIn, digitsIn, twoDigits, yearIn};
 
 // A date as a format 1 holds it; where it is none, the bytes are zero.
 pub struct Stored {
@@ -22,18 +22,15 @@ pub struct Packed {
 
 // ---- the calendar
 
-// The last day of a year: of the years that end a century only 2000 is in reach as a leap year.
-fn last_day(year: u32) -> u32
+// Whether a year has 366 days: 1900 has not, 2000, the other year here that ends a century, has.
+fn is_leap(year: u32) -> bool
     requires { ⌜ year < 200 ⌝ }
-    ensures { λ r. ⌜ (r ≡ daysIn (1900 + year)) × (r ≤ 366) ⌝ }
+    ensures { λ r. ⌜ r ≡ leap (1900 + year) ⌝ }
 {
     if year % 4 != 0 {
-        return 365;
+        return false;
     }
-    if year == 0 {
-        return 365;
-    }
-    366
+    year != 0
 }
 
 // Whether there is such a day.
@@ -46,10 +43,46 @@ fn is_date(year: u32, day: u32) -> bool
     if day < 1 {
         return false;
     }
-    day <= last_day(year)
+    if day <= 365 {
+        return true;
+    }
+    if day != 366 {
+        return false;
+    }
+    is_leap(year)
 }
 
 // ---- the forms
+
+// Whether a byte is two decimal digits.
+fn is_two_digits(b: u8) -> bool
+    ensures { λ r. ⌜ r ≡ twoDigits b ⌝ }
+{
+    if b > 0x99 {
+        return false;
+    }
+    b % 16 <= 9
+}
+
+// Whether four bytes are the digits 0, 0 or 1, and five more, and sign F.
+fn are_digits(packed: &[u8]) -> bool
+    requires { ⌜ length (now packed) ≡ 4 ⌝ }
+    ensures { λ r. ⌜ r ≡ digitsIn (now (packed .entry)) ⌝ }
+{
+    if packed[0] > 1 {
+        return false;
+    }
+    if is_two_digits(packed[1]) {} else {
+        return false;
+    }
+    if is_two_digits(packed[2]) {} else {
+        return false;
+    }
+    if packed[3] > 0x9F {
+        return false;
+    }
+    packed[3] % 16 == 15
+}
 
 // The year that four bytes tell by their half bytes, whatever these are.
 fn year_in(packed: &[u8]) -> u32
@@ -71,6 +104,14 @@ fn day_in(packed: &[u8]) -> u32
     100 * (a / 16) + 10 * (a % 16) + b / 16
 }
 
+// Two decimal digits in a byte: ten counts sixteen there.
+fn two_digits(n: u32) -> u32
+    requires { ⌜ n < 100 ⌝ }
+    ensures { λ r. ⌜ (r ≡ n / 10 * 16 + n % 10) × (r < 256) ⌝ }
+{
+    n + 6 * (n / 10)
+}
+
 // A date in packed form.
 fn pack(year: u32, day: u32) -> [u8; 4]
     requires { ⌜ (year < 200) × (day < 400) ⌝ }
@@ -78,8 +119,8 @@ fn pack(year: u32, day: u32) -> [u8; 4]
 {
     let mut r = [0u8; 4];
     r[0] = (year / 100) as u8;
-    r[1] = (year / 10 % 10 * 16 + year % 10) as u8;
-    r[2] = (day / 100 * 16 + day / 10 % 10) as u8;
+    r[1] = two_digits(year % 100) as u8;
+    r[2] = two_digits(day / 10) as u8;
     r[3] = (day % 10 * 16 + 15) as u8;
     r
 }
@@ -107,20 +148,19 @@ fn not_stored() -> Stored
     }
 }
 
-// The stored form of a packed date. Its digits need no test of their own: the date that they tell is packed again and compared.
+// The stored form of a packed date.
 pub fn to_stored(packed: &[u8]) -> Stored
     ensures { λ r. ⌜ toStored (now (packed .entry)) ≡ cond (r .ok) (some (r .bytes)) none ⌝ }
 {
     if packed.len() != 4 {
         return not_stored();
     }
+    if are_digits(packed) {} else {
+        return not_stored();
+    }
     let year = year_in(packed);
     let day = day_in(packed);
     if is_date(year, day) {} else {
-        return not_stored();
-    }
-    let again = pack(year, day);
-    if rows::same(&again, packed) {} else {
         return not_stored();
     }
     let bytes = store(year, day);

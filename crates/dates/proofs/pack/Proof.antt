@@ -9,11 +9,8 @@ cast-r c = search needs
 array-write-r : tie.Need-array-write-r
 array-write-r c = search needs
 
-mul-r : tie.Need-mul-r
-mul-r c = search needs
-
-add-r : tie.Need-add-r
-add-r c = search needs
+two-digits-requires : tie.Need-two-digits-requires
+two-digits-requires c κs = search needs
 
 cast-r-2 : tie.Need-cast-r-2
 cast-r-2 c = search needs
@@ -21,11 +18,8 @@ cast-r-2 c = search needs
 array-write-r-2 : tie.Need-array-write-r-2
 array-write-r-2 c = search needs
 
-mul-r-2 : tie.Need-mul-r-2
-mul-r-2 c = search needs
-
-add-r-2 : tie.Need-add-r-2
-add-r-2 c = search needs
+two-digits-requires-2 : tie.Need-two-digits-requires-2
+two-digits-requires-2 c κs = search needs
 
 cast-r-3 : tie.Need-cast-r-3
 cast-r-3 c = search needs
@@ -33,11 +27,11 @@ cast-r-3 c = search needs
 array-write-r-3 : tie.Need-array-write-r-3
 array-write-r-3 c = search needs
 
-mul-r-3 : tie.Need-mul-r-3
-mul-r-3 c = search needs
+mul-r : tie.Need-mul-r
+mul-r c = search needs
 
-add-r-3 : tie.Need-add-r-3
-add-r-3 c = search needs
+add-r : tie.Need-add-r
+add-r c = search needs
 
 cast-r-4 : tie.Need-cast-r-4
 cast-r-4 c = search needs
@@ -47,8 +41,10 @@ array-write-r-4 c = search needs
 
 returns : tie.Need-returns
 returns c =
-    let top = c in
-    packed-is (top .args .year) (top .args .day)
+    let at-two-digits2 = c in
+    let at-two-digits = at-two-digits2 .before in
+    let top = at-two-digits .before in
+    packed-is (top .args .year) (top .args .day) (at-two-digits .two-digits .result) (at-two-digits2 .two-digits2 .result) (at-two-digits .two-digits .ensures .0) (at-two-digits2 .two-digits2 .ensures .0)
 
 pub pack-spec : {M : Type 1} → statement M
 pack-spec =
@@ -56,16 +52,14 @@ pack-spec =
     (tie.spec
     cast-r
     array-write-r
-    mul-r
-    add-r
+    two-digits-requires
     cast-r-2
     array-write-r-2
-    mul-r-2
-    add-r-2
+    two-digits-requires-2
     cast-r-3
     array-write-r-3
-    mul-r-3
-    add-r-3
+    mul-r
+    add-r
     cast-r-4
     array-write-r-4
     returns)
