@@ -93,13 +93,10 @@ fn rows_as_agreed() {
     assert_eq!(lines[18], format!("    ∷ hurt {patches} {preview} 3"));
     assert_eq!(lines[19], format!("    ∷ sized 1119 24 280 {preview} 2"));
     let zeros = "0".repeat(42);
-    assert_eq!(
-        lines[20],
-        format!("    ∷ ok (dateToStored (date 4 0x0000001F)) 0x1{zeros} {after:#X}")
-    );
-    assert_eq!(lines[21], "    ∷ no (dateToStored noDate) 14");
-    assert_eq!(lines[22], "    ∷ no (dateToPacked (date 0 0x0)) 2");
-    assert_eq!(lines[23], "    ∷ no (dateToPacked (date 3 0xFFFFFF)) 14");
+    assert_eq!(lines[20], format!("    ∷ told (dateToStored (date 4 0x0000001F)) 0x1{zeros}"));
+    assert_eq!(lines[21], "    ∷ untold (dateToStored noDate) 14");
+    assert_eq!(lines[22], "    ∷ untold (dateToPacked (date 0 0x0)) 2");
+    assert_eq!(lines[23], "    ∷ untold (dateToPacked (date 3 0xFFFFFF)) 14");
     let request = "(request (nm (0xC1 ∷ [])) (attr 7) 0 0 1 0 0 (date 5 0x0102030405))";
     assert_eq!(lines[24], format!("    ∷ no (allocate {request}) 2"));
     let today = "(date 4 0x0080365F) 4294967295";
