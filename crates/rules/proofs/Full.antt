@@ -13,7 +13,7 @@ use Rattle.model.specs.Basics.{bit, flat, sumOf}
 use Rattle.model.specs.Model.{Extent, Geometry, Label, Run, Volume, fivesFor, format0s, free, held, oneSlot, overs, runsOf, slots, slotsOf, tally, times, total, unused, used}
 use Rattle.model.proofs.Lists.{by, sum-take}
 use Rattle.model.specs.Predicates.{All}
-use Rattle.rules.specs.Calls.{Amount, Reply, Request, allocatePieces, extendPieces, goodTtr, granted, newSet, releaseSet, settled, shorter, tracksKeptOf}
+use Rattle.rules.specs.Calls.{Amount, Reply, Request, allocatePieces, extendPieces, goodTtr, granted, joined, longer, newSet, releaseSet, settled, shorter, tracksKeptOf}
 use Rattle.rules.specs.Full.{NoneExactly, RefusedExactly, fivesNeeded, format1s, format3s, freed, full, members, needed}
 use Rattle.rules.specs.Slots.{added, askedBy, asks, changed, found, insertLabel, kept3, keptFives, placed, removed, settle, settleWith, stillUsed, withExtents, without}
 use Rattle.rules.specs.Table.{fewExtents}
@@ -251,11 +251,11 @@ module _ (v : Volume) (h : Valid v) (n : List ℕ) (l : Label) (f : found v n �
   abbrev others : List Label
   others = without n (v .labels)
 
-  pub extend-11 : (es : List Extent) → leb (length (l .extents) + length es) 16 ≡ true
-      → RefusedExactly (extendPieces v n l es) 11 (full v others (some l) (some (withExtents (l .extents ++ es) (l .ttr) l)))
-  extend-11 es e =
-      rw e
-      (settled-exactly (granted (overs es)) (changed v n (withExtents (l .extents ++ es) (l .ttr) l)) _ (changed-full v h n l f (l .extents ++ es) (l .ttr)))
+  -- the extents after joining are counted
+  pub extend-11 : (ps : List Extent) → leb (length (joined (l .extents) ps)) 16 ≡ true
+      → RefusedExactly (extendPieces v n l ps) 11 (full v others (some l) (some (longer ps l)))
+  extend-11 ps e =
+      rw e (settled-exactly (granted (overs ps)) (changed v n (longer ps l)) _ (changed-full v h n l f (joined (l .extents) ps) (l .ttr)))
 
   pub release-11 : (ttr : ℕ) → goodTtr ttr (total (runsOf l)) ≡ true
       → RefusedExactly (releaseSet v n ttr l) 11 (full v others (some l) (some (shorter (tracksKeptOf (v .geometry) ttr l) ttr l)))

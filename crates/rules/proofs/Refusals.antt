@@ -9,12 +9,12 @@ use lib.Dec.{eqb, leb}
 use Rattle.model.specs.Choice.{noOption}
 use Rattle.model.specs.Model.{Geometry, Label, Volume, overs, runsOf, slots, total}
 use Rattle.model.proofs.Lists.{by, by-option, clash, true-is}
-use Rattle.rules.specs.Calls.{Call, DateCall, Outcome, Reply, accept, allocate, allocateAmount, allocateBy, allocatePieces, allocateStored, amountOf, dateToPacked, dateToStored, dated, extend, extendPieces, extendSet, given, givenBack, goodTtr, grant, granted, inRange, lspace, newSet, obtain, obtainSet, onCopy, optionFor, preview, refuse, release, releaseSet, rename, renameSet, rule, scratch, scratchOn, scratchSet, tell, secondaryOf, settled, shorter, tracksKeptOf, unless}
+use Rattle.rules.specs.Calls.{Call, DateCall, Outcome, Reply, accept, allocate, allocateAmount, allocateBy, allocatePieces, allocateStored, amountOf, dateToPacked, dateToStored, dated, extend, extendPieces, extendSet, given, givenBack, goodTtr, grant, granted, inRange, joined, longer, lspace, newSet, obtain, obtainSet, onCopy, optionFor, preview, refuse, release, releaseSet, rename, renameSet, rule, scratch, scratchOn, scratchSet, tell, secondaryOf, settled, shorter, tracksKeptOf, unless}
 use Rattle.rules.specs.Dates.{toPacked, toStored, unexpired}
 use Rattle.rules.specs.Entries.{Lent, convertDate, dateLength, goodLengths, initialise, perform, written}
 use Rattle.rules.specs.Reading.{read}
 use Rattle.rules.specs.Refusals.{OneOf, ZeroOr, refusals, refusalsOfDateCall, refusalsOfInitialise}
-use Rattle.rules.specs.Slots.{added, changed, found, isNew, removed, withExtents}
+use Rattle.rules.specs.Slots.{added, changed, found, isNew, removed}
 use Rattle.rules.specs.Table.{goodName, limits, taken}
 use Rattle.rules.proofs.ScratchFits.{scratch-fits}
 use Rattle.rules.proofs.Taken.{taken-is}
@@ -81,9 +81,9 @@ rule-listed v h (extend n) =
     (λ l e.
     listed-unless (leb 1 (l .secondary)) _ _ refl
     (listed-given (grant (v .geometry) (v .labels) noOption (secondaryOf l)) _ (extendPieces v n l) (λ _. refl)
-    (λ es e.
-    listed-unless (leb (length (l .extents) + length es) 16) _ _ refl
-    (listed-settled (granted (overs es)) (changed v n (withExtents (l .extents ++ es) (l .ttr) l)) (λ _. refl)))))
+    (λ ps e.
+    listed-unless (leb (length (joined (l .extents) ps)) 16) _ _ refl
+    (listed-settled (granted (overs ps)) (changed v n (longer ps l)) (λ _. refl)))))
 rule-listed v h (release n ttr) =
     listed-named v (release n ttr) n (releaseSet v n ttr) refl refl
     (λ l e.

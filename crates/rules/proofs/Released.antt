@@ -22,7 +22,7 @@ use Rattle.rules.proofs.Cut.{keep-cut, keep-same, keep-tracks, keep-typ
 use Rattle.rules.proofs.FoundSet.{found-good}
 use Rattle.rules.proofs.Grants.{put-released, release-count}
 use Rattle.rules.proofs.Labels.{find-insert, found-name, unlike-without}
-use Rattle.rules.proofs.Placed.{Put}
+use Rattle.rules.proofs.Placed.{Put, put-found}
 
 -- where a call is accepted, this holds of its reply and the volume after it
 abbrev pub After : (Reply → Volume → Type 0) → Outcome → Type 0
@@ -86,11 +86,7 @@ module _ (v : Volume) (h : Valid v) (n : List ℕ) (l : Label) (f : found v n �
 
   module _ (w : Volume) (p : Put v others l₀ w) where
     there : found w n ≡ some (p .label)
-    there =
-        let named-n : p .label .name ≡ n = p .name ∙ found-name n (v .labels) l f in
-        let unlike : Unlike (p .label .name) others = subst (λ (m : List ℕ). Unlike m others) (sym named-n) (unlike-without n (v .labels)) in
-        let here : named n (p .label) ≡ true = ap (λ (m : List ℕ). same m n) named-n ∙ is-true (same-refl n) in
-        ap (find (named n)) (p .labels) ∙ find-insert n (p .label) others unlike ∙ ap (λ (b : Bool). orElse b (p .label) (find (named n) others)) here
+    there = put-found v n l f l₀ refl w p
 
     put-leaves : (ok : T (goodTtr ttr (total (runsOf l)))) → Released (v .geometry .heads) n l ttr back w
     put-leaves ok =
