@@ -1,6 +1,6 @@
 //! Random and hostile calls over many volumes: what must hold whatever the calls are.
 
-use vtoc_tests::audit::{dates, picture};
+use vtoc_tests::audit::{dates, picture, Picture, Set};
 use vtoc_tests::call::{Call, Reference};
 use vtoc_tests::coverage::Coverage;
 use vtoc_tests::generate::damage::{damage, DAMAGES};
@@ -28,6 +28,7 @@ fn run(mut session: Session, calls: usize, coverage: &mut Coverage) {
         let (after, answer) = (&buffers.table, &buffers.answer);
         coverage.count(&trial.call, trial.origin, result, before, after, answer);
         judge_dates(&trial.call, result, before, answer, after);
+        judge_extend(&trial.call, result, before, answer, after);
         if result != 0 {
             assert_eq!(buffers, trial.buffers, "{result} {:?}", trial.call);
             assert_eq!(taken(before), picture(before).is_some());
@@ -52,6 +53,39 @@ fn run(mut session: Session, calls: usize, coverage: &mut Coverage) {
         session.keep(&trial, buffers.table);
         left = session.table().to_vec();
     }
+}
+
+/// What the audit says of an extend and of its preview: the refusal, the pieces and the extents after.
+fn judge_extend(call: &Call, result: u32, before: &[u8], answer: &[u8], after: &[u8]) {
+    let (extended, is_preview) = match call {
+        Call::Preview(of) => (&**of, true),
+        call => (call, false),
+    };
+    let Call::Extend { name } = extended else { return };
+    if [2, 3, 4].contains(&result) {
+        return;
+    }
+    let before = picture(before).expect("not refused with 3");
+    let expected = before.extend(name);
+    assert_eq!(result, expected.as_ref().err().copied().unwrap_or(0), "{call:?}");
+    let Ok(growth) = expected else { return };
+    assert_eq!(pieces(answer), growth.pieces);
+    let after = picture(after).expect("an accepted call leaves a sound table");
+    let others = |picture: &Picture| -> Vec<Set> {
+        picture.sets.iter().filter(|set| set.name != **name).cloned().collect()
+    };
+    assert_eq!(others(&after), others(&before));
+    let set = after.sets.iter().find(|set| set.name == **name).expect("still there");
+    let was = before.sets.iter().find(|set| set.name == **name).expect("found");
+    let extents = if is_preview { &was.extents } else { &growth.extents };
+    assert_eq!(&set.extents, extents, "{call:?}");
+}
+
+/// Start and count of the pieces in an answer.
+fn pieces(answer: &[u8]) -> Vec<(u32, u32)> {
+    let words = answer[3..23].chunks_exact(2).map(|w| u32::from(w[0]) << 8 | u32::from(w[1]));
+    let words: Vec<u32> = words.collect();
+    words.chunks_exact(2).take(answer[2].into()).map(|piece| (piece[0], piece[1])).collect()
 }
 
 /// Whether it is the conversion of a date, which looks at no table.

@@ -1,8 +1,10 @@
 //! A slow second opinion on tables, by another route than the reference's check: read what
 //! the labels say, write the whole table anew from that, and compare all bytes. Free
-//! extents are not read but follow from the data extents.
+//! extents are not read but follow from the data extents. And what an extend gives, worked out from
+//! such a picture (`extend`).
 
 pub mod dates;
+pub mod extend;
 mod render;
 
 use std::collections::BTreeSet;
@@ -50,6 +52,10 @@ impl Set {
 
     pub fn unit(&self) -> u8 {
         self.free_fields[UNIT]
+    }
+
+    pub fn secondary(&self) -> u32 {
+        number(&self.free_fields[UNIT + 1..UNIT + 4]) as u32
     }
 
     /// The set's tracks in order.
@@ -118,6 +124,18 @@ pub fn table_with([c, h, d, s, v]: [u32; 5], sets: Vec<Set>) -> Option<Vec<u8>> 
 
 fn number(bytes: &[u8]) -> u64 {
     bytes.iter().fold(0, |sum, &byte| sum * 256 + u64::from(byte))
+}
+
+/// Start and length of each run of neighbours in an ascending list.
+fn runs(list: impl Iterator<Item = u32>) -> Vec<(u32, u32)> {
+    let mut runs: Vec<(u32, u32)> = vec![];
+    for at in list {
+        match runs.last_mut() {
+            Some((start, length)) if *start + *length == at => *length += 1,
+            _ => runs.push((at, 1)),
+        }
+    }
+    runs
 }
 
 /// Whether 44 bytes are a name, told by its parts.
@@ -202,13 +220,7 @@ impl Picture {
             let whole = first % self.h == 0 && (last + 1) % self.h == 0;
             (kind == 0x01 || kind == 0x81 && whole).then_some(())?;
         }
-        let free = (0..self.c * self.h).filter(|&t| !used[t as usize]);
-        for track in free {
-            match self.free.last_mut() {
-                Some((start, length)) if *start + *length == track => *length += 1,
-                _ => self.free.push((track, 1)),
-            }
-        }
+        self.free = runs((0..self.c * self.h).filter(|&t| !used[t as usize]));
         Some(())
     }
 

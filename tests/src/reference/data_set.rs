@@ -97,6 +97,24 @@ impl DataSet {
         records[holder][at..at + 10].fill(0);
     }
 
+    /// Whether `piece` begins on the track after the last one of the set's list.
+    pub fn is_followed_by(&self, piece: Run) -> bool {
+        self.extents().last().is_some_and(|last| last.end() == piece.start)
+    }
+
+    /// Lengthens the last extent by `piece`, which follows it. Its type stays X'81' only if the
+    /// piece's is.
+    pub fn lengthen(&mut self, volume: &Volume, records: &mut [Record], kind: u8, piece: Run) {
+        let last = self.count - 1;
+        self.extents[last].length += piece.length;
+        let (holder, at) = self.place(last);
+        let bytes = &mut records[holder][at..at + 10];
+        if kind != WHOLE_CYLINDERS {
+            bytes[0] = ANY_TRACKS;
+        }
+        bytes[6..].copy_from_slice(&volume.geometry.cchh(piece.end() - 1));
+    }
+
     /// Appends `pieces`; a format 3 they need must have been attached.
     pub fn append(&mut self, volume: &Volume, records: &mut [Record], kind: u8, pieces: &[Run]) {
         for &piece in pieces {

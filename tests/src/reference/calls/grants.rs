@@ -83,6 +83,8 @@ impl Amount {
 struct Plan {
     amount: Amount,
     grant: Grant,
+    /// Whether the first piece lengthens the set's last extent.
+    joins: bool,
     needs_format_1: bool,
     needs_format_3: bool,
 }
@@ -101,7 +103,7 @@ impl Plan {
         }
         let grant = amount.choose(volume)?;
         let needs_format_3 = grant.pieces().len() > IN_FORMAT_1;
-        Ok((expiry, Plan { amount, grant, needs_format_1: true, needs_format_3 }))
+        Ok((expiry, Plan { amount, grant, joins: false, needs_format_1: true, needs_format_3 }))
     }
 
     /// With the set that grows.
@@ -122,12 +124,13 @@ impl Plan {
         };
         let grant = amount.choose(volume)?;
         let set = DataSet::read(volume, records, slot);
-        let extents = set.extents().len() + grant.pieces().len();
+        let joins = set.is_followed_by(grant.pieces()[0]);
+        let extents = set.extents().len() + grant.pieces().len() - usize::from(joins);
         if extents > MAX_EXTENTS {
             return Err(Refusal::Extents);
         }
         let needs_format_3 = extents > IN_FORMAT_1 && set.format_3.is_none();
-        Ok((set, Plan { amount, grant, needs_format_1: false, needs_format_3 }))
+        Ok((set, Plan { amount, grant, joins, needs_format_1: false, needs_format_3 }))
     }
 
     fn labels(&self) -> usize {
@@ -150,13 +153,18 @@ impl Plan {
     }
 
     /// Appends the pieces to a set, which gets a format 3 first where it needs one, and closes the
-    /// volume.
+    /// volume. The answer names every piece, one that is joined too.
     fn append(&self, volume: &mut Volume, records: &mut [Record], mut set: DataSet) -> Answer {
         if self.needs_format_3 {
             let slot = volume.take_slot();
             set.attach_format_3(volume, records, slot);
         }
-        set.append(volume, records, self.amount.extent_type(), self.grant.pieces());
+        let (kind, mut pieces) = (self.amount.extent_type(), self.grant.pieces());
+        if self.joins {
+            set.lengthen(volume, records, kind, pieces[0]);
+            pieces = &pieces[1..];
+        }
+        set.append(volume, records, kind, pieces);
         volume.close(records);
         granted(&self.grant)
     }
@@ -223,7 +231,8 @@ fn write_format_1(
     put24(record, SECONDARY, secondary);
 }
 
-/// Appends the secondary amount to a set. Refusals in order: 2, 3, 4, 5, 8, 9, 10, 11.
+/// Appends the secondary amount to a set; a first piece that goes on where the set ends lengthens its
+/// last extent. Refusals in order: 2, 3, 4, 5, 8, 9, 10, 11.
 pub fn extend(table: &mut [u8], name: &[u8], answer: &mut [u8]) -> u32 {
     answered(answer, || {
         let records = records_mut(table)?;
