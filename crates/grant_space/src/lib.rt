@@ -17,7 +17,7 @@ ghost use Rattle.model.specs.Model.{slots, tracks};
 ghost use Rattle.rules.specs.Predicates.{Limits};
 ghost use Rattle.dscb.specs.Forms.{geometryOf};
 ghost use Rattle.update.specs.Commit.{Leaves};
-ghost use Rattle.grant_space.specs.Granting.{GrantPlans, GrantWrites, Grants, grown};
+ghost use Rattle.grant_space.specs.Granting.{GrantPlans, GrantWrites, Grants, extentsThen, grown};
 ghost use Rattle.choose_pieces.specs.Options.{toOption};
 ghost use Rattle.request.specs.Request.{toAmount, typeOf};
 ghost use Rattle.grant_space.specs.Asking.{Asking, Chooses, Foresees};
@@ -25,21 +25,31 @@ ghost use Rattle.grant_space.specs.Longer.{AsksMore, ExtendForeseen, Ext
 ghost use Rattle.grant_space.specs.Deciding.{Decides, Seeks};
 
 // A data set that is granted pieces: the slots of its format 1 and its format 3, 0 for none, how many extents it has, how many
-// pieces it gets, and of which type.
+// pieces it gets, of which type, and whether the first of them joins the last extent.
 pub struct Holder {
     pub slot: usize,
     pub slot3: usize,
     pub extents: usize,
     pub count: usize,
     pub type_byte: u8,
+    pub joins: bool,
 }
 
-// Whether n extents and `count` more need no format 3.
-fn few(n: usize, count: usize) -> bool
-    requires { ⌜ n + count ≤ 16 ⌝ }
-    ensures { λ r. ⌜ r ≡ leb (n + count) 3 ⌝ }
+// How many extents it has with its pieces.
+fn extents_then(set: Holder) -> usize
+    requires { ⌜ (set .extents ≤ 16) × (set .count ≤ 5) × (1 ≤ set .count) ⌝ }
+    ensures { λ r. ⌜ r ≡ extentsThen set ⌝ }
 {
-    n + count <= 3
+    let behind = if set.joins { set.count - 1 } else { set.count };
+    set.extents + behind
+}
+
+// Whether it needs no format 3 then.
+fn few(set: Holder) -> bool
+    requires { ⌜ (set .extents ≤ 16) × (set .count ≤ 5) × (1 ≤ set .count) ⌝ }
+    ensures { λ r. ⌜ r ≡ leb (extentsThen set) 3 ⌝ }
+{
+    extents_then(set) <= 3
 }
 
 // Takes the pieces out of the map of tracks and plans the slots.
@@ -52,13 +62,13 @@ pub fn plan_grant(
     set: Holder,
     pieces: [[u16; 2]; 5],
 ) -> Plan
-    requires { ⌜ Limits (geometryOf g) × (length (now table) ≡ 140 * slots (geometryOf g)) × (tracks (geometryOf g) ≤ 64 * length (now «free_tracks»)) × (length (now «free_slots») ≡ 8) × (length (now chain) ≡ 468) × (set .count ≤ 5) × (set .extents + set .count ≤ 16) ⌝ }
+    requires { ⌜ Limits (geometryOf g) × (length (now table) ≡ 140 * slots (geometryOf g)) × (tracks (geometryOf g) ≤ 64 * length (now «free_tracks»)) × (length (now «free_slots») ≡ 8) × (length (now chain) ≡ 468) × (set .extents ≤ 16) × (1 ≤ set .count) × (set .count ≤ 5) × (extentsThen set ≤ 16) ⌝ }
     requires { ⌜ Grants (geometryOf g) (now table) (now «free_tracks») (now «free_slots») set (take (set .count) pieces) ⌝ }
     ensures { λ r. ⌜ GrantPlans (geometryOf g) (now (table .entry)) (now («free_tracks» .entry)) (now («free_tracks» .exit)) (now («free_slots» .entry)) (now («free_slots» .exit)) (now (chain .exit)) set (take (set .count) pieces) r ⌝ }
 {
     let lo = set_extents::lowest_piece(pieces, set.count, dscb::tracks(g) as u32);
     set_extents::take_pieces(free_tracks, pieces, set.count);
-    let small = few(set.extents, set.count);
+    let small = few(set);
     let asked = update::asked_for(set.slot, set.slot3, small);
     update::plan_slots(table, g, free_tracks, free_slots, chain, asked, lo as usize)
 }
@@ -75,15 +85,24 @@ pub fn write_grant(
     f1: &mut [u8; 140],
     f3: &mut [u8; 140],
 )
-    requires { ⌜ Limits (geometryOf g) × (length (now table) ≡ 140 * slots (geometryOf g)) × (tracks (geometryOf g) ≤ 64 * length (now «free_tracks»)) × (set .slot < slots (geometryOf g)) × (set .slot3 < slots (geometryOf g)) × (set .count ≤ 5) × (set .extents + set .count ≤ 16) × (length (now f1) ≡ 140) × (length (now f3) ≡ 140) ⌝ }
+    requires { ⌜ Limits (geometryOf g) × (length (now table) ≡ 140 * slots (geometryOf g)) × (tracks (geometryOf g) ≤ 64 * length (now «free_tracks»)) × (set .slot < slots (geometryOf g)) × (set .slot3 < slots (geometryOf g)) × (set .extents ≤ 16) × (1 ≤ set .count) × (set .count ≤ 5) × (extentsThen set ≤ 16) × (length (now f1) ≡ 140) × (length (now f3) ≡ 140) ⌝ }
     requires { ⌜ GrantWrites (geometryOf g) (now table) (now «free_tracks») (now chain) plan set (take (set .count) pieces) (now f1) (now f3) ⌝ }
     ensures { λ _. ⌜ ((d : GrantWrites (geometryOf g) (now (table .entry)) (now («free_tracks» .entry)) (now (chain .entry)) plan set (take (set .count) pieces) (now (f1 .entry)) (now (f3 .entry))) → Leaves (grown (d .grants)) (now (table .exit))) ⌝ }
 {
-    set_extents::add_pieces(f1, f3, g, set.extents, set.type_byte, pieces, set.count);
+    set_extents::put_pieces(
+        f1,
+        f3,
+        g,
+        set.extents,
+        set.joins,
+        set.type_byte,
+        pieces,
+        set.count,
+    );
     let home = Home {
         slot: set.slot,
         slot3: set.slot3,
-        few: few(set.extents, set.count),
+        few: few(set),
     };
     update::write_set(table, g, free_tracks, chain, plan, home, f1, f3);
 }
@@ -127,16 +146,17 @@ pub fn decide(
     if got.count == 0 {
         return refused(E_NO_SPACE, seeker);
     }
-    if seeker.extents + got.count > 16 {
-        return refused(E_EXTENTS, seeker);
-    }
     let set = Holder {
         slot: seeker.slot,
         slot3: seeker.slot3,
         extents: seeker.extents,
         count: got.count,
         type_byte: seeker.type_byte,
+        joins: seeker.joins,
     };
+    if extents_then(set) > 16 {
+        return refused(E_EXTENTS, set);
+    }
     let plan = plan_grant(table, g, free_tracks, free_slots, chain, set, pieces);
     if plan.fits {} else {
         return refused(E_VTOC_FULL, set);
@@ -149,9 +169,10 @@ pub fn decide(
     }
 }
 
-// A data set that seeks an amount: the slots of its format 1 and its format 3, 0 for none, and how many extents it has.
-fn seeker_of(slot: usize, slot3: usize, extents: usize, amount: Amount) -> Holder
-    ensures { λ r. ⌜ (r .slot ≡ slot) × (r .slot3 ≡ slot3) × (r .extents ≡ extents) × (r .«type_byte» ≡ typeOf (toAmount amount)) ⌝ }
+// A data set that seeks an amount: the slots of its format 1 and its format 3, 0 for none, how many extents it has, and whether the
+// first piece joins the last of them.
+fn seeker_of(slot: usize, slot3: usize, extents: usize, joins: bool, amount: Amount) -> Holder
+    ensures { λ r. ⌜ (r .slot ≡ slot) × (r .slot3 ≡ slot3) × (r .extents ≡ extents) × (r .joins ≡ joins) × (r .«type_byte» ≡ typeOf (toAmount amount)) ⌝ }
 {
     Holder {
         slot,
@@ -159,6 +180,7 @@ fn seeker_of(slot: usize, slot3: usize, extents: usize, amount: Amount) -> Holde
         extents,
         count: 0,
         type_byte: request::type_byte(amount),
+        joins,
     }
 }
 
@@ -181,7 +203,7 @@ pub fn place(
     let amount = request.amount;
     let option = request.option;
     let pieces = request::fulfil(table, free_tracks, g, option, amount);
-    let seeker = seeker_of(0, 0, 0, amount);
+    let seeker = seeker_of(0, 0, 0, false, amount);
     let mut chain = [0u16; 468];
     let decision = decide(
         table,
@@ -228,7 +250,7 @@ pub fn preview_place(
     let amount = request.amount;
     let option = request.option;
     let pieces = request::fulfil(table, free_tracks, g, option, amount);
-    let seeker = seeker_of(0, 0, 0, amount);
+    let seeker = seeker_of(0, 0, 0, false, amount);
     let mut chain = [0u16; 468];
     let decision = decide(
         table,
@@ -297,7 +319,8 @@ pub fn lengthen(
     let amount = more.amount;
     let option = more.option;
     let pieces = request::fulfil(table, free_tracks, g, option, amount);
-    let seeker = seeker_of(k, held.slot3, held.count, amount);
+    let joins = set_extents::joins_last(&f1, &f3, held.count, g, pieces);
+    let seeker = seeker_of(k, held.slot3, held.count, joins, amount);
     let mut chain = [0u16; 468];
     let decision = decide(
         table,
@@ -342,6 +365,7 @@ pub fn preview_longer(
 {
     let held = data_set::set_at(table, g, k);
     let f1 = held.f1;
+    let f3 = held.f3;
     let more = asked_more(&f1);
     if more.refusal != 0 {
         return more.refusal;
@@ -349,7 +373,8 @@ pub fn preview_longer(
     let amount = more.amount;
     let option = more.option;
     let pieces = request::fulfil(table, free_tracks, g, option, amount);
-    let seeker = seeker_of(k, held.slot3, held.count, amount);
+    let joins = set_extents::joins_last(&f1, &f3, held.count, g, pieces);
+    let seeker = seeker_of(k, held.slot3, held.count, joins, amount);
     let mut chain = [0u16; 468];
     let decision = decide(
         table,

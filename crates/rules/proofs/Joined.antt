@@ -3,7 +3,7 @@
 use mathlib.Core.Path.{_≡_, refl, sym, ap, ap₂, _∙_, subst}
 use mathlib.Core.Bool.{Bool, true, false, _&&_}
 use mathlib.Core.List.{List, [], _∷_, _++_, append-assoc, append-nil}
-use Prim.Native.Nat.{ℕ, zero, suc, _+_, _%_, _≤_, _<_}
+use Prim.Native.Nat.{ℕ, zero, suc, _+_, _-_, _%_, _≤_, _<_}
 use native.Mathlib.Nat.{add-mod, add-zero, lt-of-not-le, zero-add, zero-mod}
 use native.Mathlib.Decide.{decLe}
 use native.Mathlib.Omega.{arith}
@@ -14,10 +14,10 @@ use Rattle.model.specs.Basics.{bit, flat, sumOf, upFrom}
 use Rattle.model.specs.Model.{Extent, Geometry, Run, covers, overs, run, times, total}
 use Rattle.model.specs.Predicates.{All}
 use Rattle.model.specs.Tracks.{tracksOf}
-use Rattle.model.proofs.Lists.{All-append, All-left, All-right, and-l, and-r, by, clash, is-true, sum-append, true-is}
+use Rattle.model.proofs.Lists.{All-append, All-left, All-right, and-l, and-r, by, clash, is-true, length-upFrom, sum-append}
 use Rattle.model.proofs.Runs.{hit-above, hit-below, hit-in}
 use Rattle.rules.specs.Calls.{joined, lengthened, trackAfter}
-use Rattle.rules.specs.Joining.{OneFewer, SameTracks, touches}
+use Rattle.rules.specs.Joining.{AsBefore, CountAfterJoining, LastLengthened, LastOfList, SameTracks, TypeOfBoth, touches}
 use Rattle.rules.specs.Predicates.{GoodExtent}
 use Rattle.rules.specs.Table.{goodType}
 use Rattle.rules.proofs.Cut.{whole-extent}
@@ -58,10 +58,15 @@ touching-is (e ∷ []) p ps h =
     record { front = []; last = e; first = p; rest = ps; extentsAre = refl; piecesAre = refl; behind = eqb-true _ _ h; joinedIs = rw h }
 touching-is (e ∷ f ∷ es) p ps h = behind-one e (f ∷ es) (p ∷ ps) (touching-is (f ∷ es) p ps h) refl
 
-pub apart-is : (es : List Extent) (p : Extent) (ps : List Extent) → touches es (p .over .start) ≡ false → joined es (p ∷ ps) ≡ es ++ p ∷ ps
-apart-is [] p ps h = refl
-apart-is (e ∷ []) p ps h = rw h
-apart-is (e ∷ f ∷ es) p ps h = ap (λ (y : List Extent). e ∷ y) (apart-is (f ∷ es) p ps h)
+pub as-before : AsBefore
+as-before [] p ps h = refl
+as-before (e ∷ []) p ps h = rw h
+as-before (e ∷ f ∷ es) p ps h = ap (λ (y : List Extent). e ∷ y) (as-before (f ∷ es) p ps h)
+
+pub last-lengthened : LastLengthened
+last-lengthened [] e p ps q = rw (eq-eqb (p .over .start) (trackAfter e) q)
+last-lengthened (f ∷ []) e p ps q = ap (λ (y : List Extent). f ∷ y) (last-lengthened [] e p ps q)
+last-lengthened (f ∷ d ∷ es) e p ps q = ap (λ (y : List Extent). f ∷ y) (last-lengthened (d ∷ es) e p ps q)
 
 joined-none : (es : List Extent) → joined es [] ≡ es ++ []
 joined-none [] = refl
@@ -70,7 +75,7 @@ joined-none (e ∷ f ∷ es) = ap (λ (y : List Extent). e ∷ y) (joined-none (
 
 pub joined-cases : (es ps : List Extent) → Cases es ps
 joined-cases es [] = apart (joined-none es)
-joined-cases es (p ∷ ps) = by (touches es (p .over .start)) (λ h. touching (touching-is es p ps h)) (λ h. apart (apart-is es p ps h))
+joined-cases es (p ∷ ps) = by (touches es (p .over .start)) (λ h. touching (touching-is es p ps h)) (λ h. apart (as-before es p ps h))
 
 -- ---- what adds up
 
@@ -171,10 +176,44 @@ cases-tracks es ps (touching x) =
 pub same-tracks : SameTracks
 same-tracks es ps = cases-tracks es ps (joined-cases es ps)
 
+-- ---- the last track of the list
+
+last-eq : (xs : List ℕ) (x : ℕ) (ys : List ℕ) (y : ℕ) → xs ++ x ∷ [] ≡ ys ++ y ∷ [] → x ≡ y
+last-eq [] x [] y e = cc
+last-eq [] x (b ∷ ys) y e = absurd (let k = ap length e in let l = length-append ys (y ∷ []) in omega arith)
+last-eq (a ∷ xs) x [] y e = absurd (let k = ap length e in let l = length-append xs (x ∷ []) in omega arith)
+last-eq (a ∷ xs) x (b ∷ ys) y e = last-eq xs x ys y cc
+
+some-tracks : (e : Extent) (es : List Extent) → 1 ≤ e .over .count → 1 ≤ length (trackList (e ∷ es))
+some-tracks e es h =
+    let a = length-append (upFrom (e .over .start) (e .over .count)) (trackList es) in
+    let b = length-upFrom (e .over .start) (e .over .count) in
+    omega arith
+
+-- where more tracks follow, the last is theirs
+drop-front : (xs ys : List ℕ) → 1 ≤ length ys → (ts : List ℕ) (t : ℕ) → xs ++ ys ≡ ts ++ t ∷ [] → (rest : List ℕ) × (ys ≡ rest ++ t ∷ [])
+drop-front [] ys h ts t e = (ts, e)
+drop-front (x ∷ xs) ys h [] t e = absurd (let k = ap length e in let l = length-append xs ys in omega arith)
+drop-front (x ∷ xs) ys h (y ∷ ts) t e = drop-front xs ys h ts t cc
+
+pub last-of-list : LastOfList
+last-of-list [] a ts t e s = absurd (let k = ap length e in let l = length-append ts (t ∷ []) in omega arith)
+last-of-list (e ∷ []) a ts t q s =
+    let start = e .over .start in
+    let before = e .over .count - 1 in
+    let c : e .over .count ≡ before + 1 = omega (arith, a .0) in
+    let x : trackList (e ∷ []) ≡ upFrom start before ++ (start + before) ∷ []
+    = append-nil (upFrom start (e .over .count)) ∙ ap (upFrom start) c ∙ split-upFrom start before 1 in
+    let y : start + before ≡ t = last-eq (upFrom start before) (start + before) ts t (sym x ∙ q) in
+    ap (eqb s) (omega (arith, a .0))
+last-of-list (e ∷ f ∷ es) a ts t q s =
+    let x = drop-front (upFrom (e .over .start) (e .over .count)) (trackList (f ∷ es)) (some-tracks f es (a .1 .0)) ts t q in
+    last-of-list (f ∷ es) (a .1) (x .0) t (x .1) s
+
 -- ---- how many
 
-pub one-fewer : OneFewer
-one-fewer es p ps =
+pub count-after-joining : CountAfterJoining
+count-after-joining es p ps =
     by (touches es (p .over .start))
     (λ h.
     let x = touching-is es p ps h in
@@ -184,7 +223,7 @@ one-fewer es p ps =
     let d = ap length (x .joinedIs) in
     let e = length-append (x .front) (lengthened (x .last) (x .first) ∷ x .rest) in
     rw h (omega arith))
-    (λ h. let d = ap length (apart-is es p ps h) in let e = length-append es (p ∷ ps) in rw h (omega arith))
+    (λ h. let d = ap length (as-before es p ps h) in let e = length-append es (p ∷ ps) in rw h (omega arith))
 
 pub joined-least : (es ps : List Extent) → length es ≤ length (joined es ps)
 joined-least es ps = go (joined-cases es ps)
@@ -199,6 +238,12 @@ joined-least es ps = go (joined-cases es ps)
         omega arith
 
 -- ---- good extents stay good
+
+pub type-of-both : TypeOfBoth
+type-of-both e p =
+    by (eqb (p .typeByte) 0x81)
+    (λ u. (λ t. (sym (rw u) ∙ t, eqb-true _ _ u), λ a b. rw u a))
+    (λ u. (λ t. absurd (let k : 0x01 ≡ 0x81 = sym (rw u) ∙ t in omega arith), λ a b. clash (eq-eqb _ _ b) u))
 
 add-mod-0 : (h a b : ℕ) → a % h ≡ 0 → b % h ≡ 0 → (a + b) % h ≡ 0
 add-mod-0 h a b x y = add-mod a b h ∙ ap₂ (λ (m n : ℕ). (m + n) % h) x y ∙ zero-mod h

@@ -1,16 +1,19 @@
--- Document 02, [6]: what is promised of an extend, joined or not. The statements; proofs/Joining has their proofs. Assumes nothing.
+-- Document 02, [6]: what is promised of an extend, joined or not. The statements; proofs/Joined and proofs/Joining have their proofs.
+-- Assumes nothing.
 use mathlib.Core.Path.{_≡_}
-use Prim.Native.Nat.{ℕ, _+_}
+use Prim.Native.Nat.{ℕ, suc, _+_, _≤_}
 use mathlib.Core.Bool.{Bool, false}
 use mathlib.Core.Option.{some}
 use mathlib.Core.List.{List, [], _∷_, _++_}
-use lib.Dec.{eqb}
+use lib.Dec.{eqb, ltb}
 use lib.ListN.{length}
 use Rattle.model.specs.Basics.{bit, sumOf}
 use Rattle.model.specs.Choice.{noOption}
-use Rattle.model.specs.Model.{Extent, Label, Volume, overs, run}
+use Rattle.model.specs.Model.{Extent, Label, Run, Volume, overs, run, runsOf}
+use Rattle.model.specs.Predicates.{All}
 use Rattle.model.specs.Tracks.{tracksOf}
-use Rattle.rules.specs.Calls.{Reply, accept, extend, grant, granted, joined, rule, secondaryOf, trackAfter}
+use Rattle.rules.specs.Calls.{Reply, accept, extend, grant, granted, joined, lengthened, rule, secondaryOf, trackAfter}
+use Rattle.rules.specs.Full.{RefusedExactly}
 use Rattle.rules.specs.Predicates.{Valid}
 use Rattle.rules.specs.Slots.{found}
 
@@ -22,47 +25,75 @@ touches [] s = false
 touches (e ∷ []) s = eqb s (trackAfter e)
 touches (e ∷ f ∷ es) s = touches (f ∷ es) s
 
--- "The ledger appends the pieces as before"
+-- that is the last of its list
+abbrev pub LastOfList : Type 0
+LastOfList = (es : List Extent) → All (λ e. 1 ≤ e .over .count) es → (ts : List ℕ) (t : ℕ) → tracksOf (overs es) ≡ ts ++ t ∷ []
+    → (s : ℕ) → touches es s ≡ eqb s (suc t)
+
+-- where the first piece does not touch, the pieces follow the extents
+abbrev pub AsBefore : Type 0
+AsBefore = (es : List Extent) (p : Extent) (ps : List Extent) → touches es (p .over .start) ≡ false → joined es (p ∷ ps) ≡ es ++ p ∷ ps
+
+-- where it does, the last extent e is lengthened, and all others are as they were
+abbrev pub LastLengthened : Type 0
+LastLengthened = (es : List Extent) (e p : Extent) (ps : List Extent) → p .over .start ≡ trackAfter e
+    → joined (es ++ e ∷ []) (p ∷ ps) ≡ es ++ lengthened e p ∷ ps
+
+-- to type X'81' exactly where both have it
+abbrev pub TypeOfBoth : Type 0
+TypeOfBoth = (e p : Extent)
+    → (lengthened e p .typeByte ≡ 0x81 → (e .typeByte ≡ 0x81) × (p .typeByte ≡ 0x81))
+    × (e .typeByte ≡ 0x81 → p .typeByte ≡ 0x81 → lengthened e p .typeByte ≡ 0x81)
+
+-- the set's list is as without joining, so that "The ledger appends the pieces as before"
 abbrev pub SameTracks : Type 0
 SameTracks = (es ps : List Extent) → tracksOf (overs (joined es ps)) ≡ tracksOf (overs es) ++ tracksOf (overs ps)
 
 -- one extent fewer than without joining where the first piece touches, else as many: never more
-abbrev pub OneFewer : Type 0
-OneFewer = (es : List Extent) (p : Extent) (ps : List Extent)
+abbrev pub CountAfterJoining : Type 0
+CountAfterJoining = (es : List Extent) (p : Extent) (ps : List Extent)
     → length (joined es (p ∷ ps)) + bit (touches es (p .over .start)) ≡ length es + length (p ∷ ps)
 
 -- ---- calls
 
--- what an accepted extend of the set n leaves: l has the pieces of its secondary amount, and the reply names them
-pub record Lengthened (v : Volume) (n : List ℕ) (l : Label) (r : Reply) (w : Volume) : Type 0 where
+-- what an accepted extend leaves of the set n, which was l: it has the pieces of its secondary amount too, and the reply names them
+pub record Extended (v : Volume) (n : List ℕ) (l : Label) (r : Reply) (w : Volume) : Type 0 where
   pub pieces : List Extent
   pub chosen : grant (v .geometry) (v .labels) noOption (secondaryOf l) ≡ some pieces
   pub reply : r ≡ granted (overs pieces)
   pub label : Label
   pub there : found w n ≡ some label
   pub extents : label .extents ≡ joined (l .extents) pieces
-  pub unitIs : label .unit ≡ l .unit
-  pub ttrIs : label .ttr ≡ l .ttr
+  pub sameAttributes : label .attributes ≡ l .attributes
+  pub sameUnit : label .unit ≡ l .unit
+  pub sameSecondary : label .secondary ≡ l .secondary
+  pub sameTtr : label .ttr ≡ l .ttr
 
-abbrev pub EachLengthens : Type 0
-EachLengthens = (v : Volume) (n : List ℕ) (l : Label) (r : Reply) (w : Volume)
-    → Valid v → found v n ≡ some l → rule v (extend n) ≡ accept r w → Lengthened v n l r w
+abbrev pub EachExtends : Type 0
+EachExtends = (v : Volume) (n : List ℕ) (l : Label) (r : Reply) (w : Volume)
+    → Valid v → found v n ≡ some l → rule v (extend n) ≡ accept r w → Extended v n l r w
 
--- the set n has one extent, and track t is the one after it
-pub record OneExtent (v : Volume) (n : List ℕ) (t : ℕ) : Type 0 where
+-- where the pieces are p and ps, it is refused 10 exactly when the extents would be more than 16 without joining, or than 17 where p
+-- touches
+abbrev pub TenExactly : Type 0
+TenExactly = (v : Volume) (n : List ℕ) (l : Label) (p : Extent) (ps : List Extent)
+    → Valid v → found v n ≡ some l → 1 ≤ l .secondary → grant (v .geometry) (v .labels) noOption (secondaryOf l) ≡ some (p ∷ ps)
+    → RefusedExactly (rule v (extend n)) 10 (ltb (16 + bit (touches (l .extents) (p .over .start))) (length (l .extents) + length (p ∷ ps)))
+
+-- the set n has one extent, of these tracks
+pub record OneExtent (v : Volume) (n : List ℕ) (r : Run) : Type 0 where
   pub label : Label
   pub there : found v n ≡ some label
-  pub only : Extent
-  pub extents : label .extents ≡ only ∷ []
-  pub ends : trackAfter only ≡ t
+  pub tracks : runsOf label ≡ r ∷ []
 
--- from volume v to w the set n is extended again and again: by so many tracks from t on, by so many behind these, ..
-abbrev pub ExtendedBehind : (v : Volume) (n : List ℕ) (t : ℕ) → List ℕ → (w : Volume) → Type 0
-ExtendedBehind v n t [] w = v ≡ w
-ExtendedBehind v n t (c ∷ cs) w =
-    (u : Volume) × (rule v (extend n) ≡ accept (granted (run t c ∷ [])) u) × ExtendedBehind u n (t + c) cs w
+-- extends of the set n, one after the other, lead from v to w; each is granted one piece, the first of them from track t on, the next
+-- from the track after that piece on; the list has the numbers of their tracks
+abbrev pub ExtendedAfter : (v : Volume) (n : List ℕ) (t : ℕ) → List ℕ → (w : Volume) → Type 0
+ExtendedAfter v n t [] w = v ≡ w
+ExtendedAfter v n t (c ∷ cs) w =
+    (u : Volume) × (rule v (extend n) ≡ accept (granted (run t c ∷ [])) u) × ExtendedAfter u n (t + c) cs w
 
 -- it has one extent still
-abbrev pub KeepsOne : Type 0
-KeepsOne = (v : Volume) (n : List ℕ) (t : ℕ) (cs : List ℕ) (w : Volume)
-    → Valid v → OneExtent v n t → ExtendedBehind v n t cs w → OneExtent w n (t + sumOf (λ c. c) cs)
+abbrev pub KeepsOneExtent : Type 0
+KeepsOneExtent = (v : Volume) (n : List ℕ) (s c : ℕ) (cs : List ℕ) (w : Volume)
+    → Valid v → OneExtent v n (run s c) → ExtendedAfter v n (s + c) cs w → OneExtent w n (run s (c + sumOf (λ k. k) cs))

@@ -1,12 +1,15 @@
 // The extents of one data set, granted more or cut: in its records, and in the map of free tracks.
 ghost use mathlib.Core.Path.{_≡_};
 ghost use Prim.Native.Nat.{ℕ, _+_, _*_, _/_, _≤_, _<_, min};
-ghost use mathlib.Core.List.{List, [], map};
-ghost use lib.ListN.{length, take, getD};
+ghost use mathlib.Core.Bool.{cond, true};
+ghost use mathlib.Core.List.{List, [], _∷_, _++_, map};
+ghost use lib.ListN.{length, take, drop, getD};
+ghost use Rattle.model.specs.Basics.{bit};
 ghost use Rattle.model.specs.Model.{Geometry, Label, Run, extent, overs, run, total, tracks};
 ghost use Rattle.model.specs.Predicates.{All, StaysOf, keptFrom, room};
 ghost use Rattle.model.specs.Tracks.{tracksKept, tracksOf};
-ghost use Rattle.rules.specs.Calls.{cutType};
+ghost use Rattle.rules.specs.Calls.{longer};
+ghost use Rattle.rules.specs.Joining.{touches};
 ghost use Rattle.rules.specs.Layout.{extentPart};
 ghost use Rattle.rules.specs.Reading.{readExtent};
 ghost use Rattle.rules.specs.Predicates.{Limits};
@@ -127,6 +130,18 @@ fn extent_at<'a>(f1: &'a [u8], f3: &'a [u8], e: usize, h: u16) -> Tracks
     }
 }
 
+// The type of extent e if it `stays`, else X'01'.
+fn type_if<'a>(f1: &'a [u8], f3: &'a [u8], e: usize, stays: bool) -> u8
+    requires { ⌜ (length (now f1) ≡ 140) × (length (now f3) ≡ 140) × (e < 16) ⌝ }
+    ensures { λ r. ⌜ ((h : ℕ) → r ≡ cond stays (readExtent h (extentPart (now (f1 .entry)) (now (f3 .entry)) e) .typeByte) 0x01) ⌝ }
+{
+    if stays {
+        let x = dscb::extent_part(f1, f3, e);
+        return x[0];
+    }
+    0x01
+}
+
 // How many tracks a data set has, and the lowest of them.
 pub struct Spread {
     pub all: u32,
@@ -231,18 +246,6 @@ pub struct Kept {
     pub count: u32,
 }
 
-// The type of extent e of a data set with this unit, where it is cut: its own in a cylinder file, which is cut between cylinders.
-fn cut_type<'a>(f1: &'a [u8], f3: &'a [u8], e: usize, unit: u8) -> u8
-    requires { ⌜ (length (now f1) ≡ 140) × (length (now f3) ≡ 140) × (e < 16) ⌝ }
-    ensures { λ r. ⌜ ((h : ℕ) → r ≡ cutType unit (readExtent h (extentPart (now (f1 .entry)) (now (f3 .entry)) e))) ⌝ }
-{
-    if unit == 0xC0 {
-        let x = dscb::extent_part(f1, f3, e);
-        return x[0];
-    }
-    0x01
-}
-
 // Where the first `keep` tracks of a data set with this unit and n extents end.
 fn cut_at<'a>(f1: &'a [u8], f3: &'a [u8], n: usize, g: dscb::Geometry, unit: u8, keep: u32) -> Kept
     requires { ⌜ SetIn (geometryOf g) (now f1) (now f3) n ⌝ }
@@ -255,7 +258,7 @@ fn cut_at<'a>(f1: &'a [u8], f3: &'a [u8], n: usize, g: dscb::Geometry, unit: u8,
         if left < x.count {
             return Kept {
                 whole: e,
-                type_byte: cut_type(f1, f3, e, unit),
+                type_byte: type_if(f1, f3, e, unit == 0xC0),
                 start: x.start,
                 count: left,
             };
@@ -337,4 +340,79 @@ pub fn cut_records(f1: &mut [u8; 140], f3: &mut [u8; 140], g: dscb::Geometry, k:
         return;
     }
     add_extent(f1, f3, g, k.whole, k.type_byte, k.start, k.count);
+}
+
+// ---- joined, document 02, [6]
+
+// Whether the first piece begins on the track after the last one of a data set with n extents.
+pub fn joins_last<'a>(
+    f1: &'a [u8],
+    f3: &'a [u8],
+    n: usize,
+    g: dscb::Geometry,
+    pieces: [[u16; 2]; 5],
+) -> bool
+    requires { ⌜ SetIn (geometryOf g) (now f1) (now f3) n ⌝ }
+    ensures { λ r. ⌜ r ≡ touches (extentsIn (geometryOf g) (now (f1 .entry)) (now (f3 .entry)) n) (getD (getD pieces 0 []) 0 0) ⌝ }
+{
+    if n == 0 {
+        return false;
+    }
+    let last = extent_at(f1, f3, n - 1, g.heads);
+    let first = piece_at(pieces, 0);
+    first.start == last.start + last.count
+}
+
+// Lengthens the last extent in the records of a label with n extents by a piece of this type that begins behind it.
+fn lengthen_last(
+    f1: &mut [u8; 140],
+    f3: &mut [u8; 140],
+    g: dscb::Geometry,
+    n: usize,
+    type_byte: u8,
+    start: u32,
+    count: u32,
+)
+    requires { ⌜ SetIn (geometryOf g) (now f1) (now f3) n × (start + count ≤ 65535) × (touches (extentsIn (geometryOf g) (now f1) (now f3) n) start ≡ true) ⌝ }
+    ensures { λ _. ⌜ ((l : Label) → extentsIn (geometryOf g) (now (f1 .entry)) (now (f3 .entry)) n ≡ l .extents → InRecords (geometryOf g) l (now (f1 .entry)) (now (f3 .entry)) → InRecords (geometryOf g) (longer (extent «type_byte» (run start count) ∷ []) l) (now (f1 .exit)) (now (f3 .exit))) × (length (now (f1 .exit)) ≡ 140) × (length (now (f3 .exit)) ≡ 140) ⌝ }
+{
+    let last = extent_at(f1, f3, n - 1, g.heads);
+    let lengthened = Kept {
+        whole: n - 1,
+        type_byte: type_if(f1, f3, n - 1, type_byte == 0x81),
+        start: last.start,
+        count: start + count - last.start,
+    };
+    cut_records(f1, f3, g, lengthened);
+}
+
+// The pieces behind the first one.
+fn behind_first(pieces: [[u16; 2]; 5]) -> [[u16; 2]; 5]
+    ensures { λ r. ⌜ r ≡ drop 1 pieces ++ (0 ∷ 0 ∷ []) ∷ [] ⌝ }
+{
+    [pieces[1], pieces[2], pieces[3], pieces[4], [0, 0]]
+}
+
+// Puts the first `count` pieces into the records of a label with n extents: the first lengthens the last of these where it joins it,
+// the others follow.
+pub fn put_pieces(
+    f1: &mut [u8; 140],
+    f3: &mut [u8; 140],
+    g: dscb::Geometry,
+    n: usize,
+    joins: bool,
+    type_byte: u8,
+    pieces: [[u16; 2]; 5],
+    count: usize,
+)
+    requires { ⌜ SetIn (geometryOf g) (now f1) (now f3) n × (joins ≡ touches (extentsIn (geometryOf g) (now f1) (now f3) n) (getD (getD pieces 0 []) 0 0)) × (1 ≤ count) × (count ≤ 5) × (n + count ≤ 16 + bit joins) × All (PieceIn 65535) (take count pieces) ⌝ }
+    ensures { λ _. ⌜ ((l : Label) (ps : List Run) → extentsIn (geometryOf g) (now (f1 .entry)) (now (f3 .entry)) n ≡ l .extents → take count pieces ≡ map row ps → InRecords (geometryOf g) l (now (f1 .entry)) (now (f3 .entry)) → InRecords (geometryOf g) (longer (map (extent «type_byte») ps) l) (now (f1 .exit)) (now (f3 .exit))) × (length (now (f1 .exit)) ≡ 140) ⌝ }
+{
+    if joins {
+        let first = piece_at(pieces, 0);
+        lengthen_last(f1, f3, g, n, type_byte, first.start, first.count);
+        add_pieces(f1, f3, g, n, type_byte, behind_first(pieces), count - 1);
+        return;
+    }
+    add_pieces(f1, f3, g, n, type_byte, pieces, count);
 }
