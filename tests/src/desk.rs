@@ -217,6 +217,22 @@ impl Desk {
         }
     }
 
+    /// A set of so many one-track extents, the last of them at `first`, each before the one before it:
+    /// none begins where the set ends, so that none is joined. They lie where a free extent begins that
+    /// is the only one; PLACE holds the tracks until it is their turn, and is gone in the end.
+    #[track_caller]
+    pub fn downwards(&mut self, text: &str, first: u32, count: u32) {
+        self.absolute("PLACE", first, count - 1).accepted();
+        self.tracks(text, 1, 1).granted(&[(first + count - 1, 1)]);
+        for left in (0..count - 1).rev() {
+            match left {
+                0 => self.scratch("PLACE").gave_back(1),
+                _ => self.release("PLACE", left - 1, 1).gave_back(1),
+            }
+            self.extend(text).granted(&[(first + left, 1)]);
+        }
+    }
+
     #[track_caller]
     pub fn extend(&mut self, text: &str) -> Outcome {
         self.call(Call::Extend { name: name(text).to_vec() })

@@ -57,7 +57,7 @@ pub fn medium() -> Vec<u8> {
         seed: 12,
         geometry: [404, 19, 39, 3800, 5],
         placed: 20,
-        grown: 90,
+        grown: 96,
         extents: |rng| 1 + rng.below(16),
         tracks: 8,
         rise: 0,
@@ -126,7 +126,7 @@ pub fn many_format_5s() -> Vec<u8> {
 fn built(plan: &Plan) -> Vec<u8> {
     let [c, h, d, s, v] = plan.geometry;
     let (rng, table) = (Rng::new(plan.seed), fresh(c, h, d, s, v));
-    let mut pack = Pack { rng, table, names: HashSet::new() };
+    let mut pack = Pack { rng, table, names: HashSet::new(), grew_last: None };
     pack.place(plan.placed, plan.tracks);
     let (mut grown, mut least) = (0, 0);
     while grown < plan.grown {
@@ -155,10 +155,17 @@ struct Grower {
     begun: bool,
 }
 
+/// The extents of the set with this name.
+fn extents(table: &[u8], name: &Name) -> u8 {
+    let mut labels = table.chunks_exact(140);
+    labels.find(|label| label[44] == 0xF1 && label[..44] == *name).map_or(0, |label| label[59])
+}
+
 struct Pack {
     rng: Rng,
     table: Vec<u8>,
     names: HashSet<Name>,
+    grew_last: Option<Name>,
 }
 
 impl Pack {
@@ -229,17 +236,23 @@ impl Pack {
         Grower { name, kind, amount, wants, begun: false }
     }
 
-    /// One of the growers gets an extent; it leaves the list when it has all, or can have no more.
+    /// One of the growers gets an extent, or a longer one; it leaves the list when it has all, or can
+    /// have no more. It is not the one that grew last, if there is another: what touches is joined.
     fn grow_one(&mut self, growers: &mut Vec<Grower>) {
-        let at = self.rng.below(growers.len());
+        let mut at = self.rng.below(growers.len());
+        if self.grew_last == Some(growers[at].name) {
+            at = (at + 1) % growers.len();
+        }
         let grower = &mut growers[at];
+        self.grew_last = Some(grower.name);
+        let before = extents(&self.table, &grower.name);
         let result = if grower.begun {
             extend(&mut self.table, &grower.name, &mut [0; ANSWER])
         } else {
             self.allocate(&grower.name, grower.kind, 0, grower.amount)
         };
         grower.begun = true;
-        grower.wants -= 1;
+        grower.wants -= usize::from(extents(&self.table, &grower.name) > before);
         if result != 0 || grower.wants == 0 {
             growers.swap_remove(at);
         }

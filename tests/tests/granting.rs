@@ -93,32 +93,37 @@ fn absolute_in_every_place_of_a_hole() {
     assert_eq!(after(5, 1), [(3, 2), (6, 2)]);
 }
 
+/// Extents that do not touch are appended; joining.rs has those that do.
 #[test]
-fn extend_appends_and_joins_nothing() {
+fn extend_appends() {
     let mut desk = Desk::begin(10, 5, 6, 1, 1);
     desk.tracks("A", 3, 2).granted(&[(2, 3)]);
-    desk.extend("A").granted(&[(5, 2)]);
-    desk.extend("A").granted(&[(7, 2)]);
-    assert_eq!(extents(&desk, 2), [(1, 2, 4), (1, 5, 6), (1, 7, 8)]);
+    desk.tracks("B", 1, 1).granted(&[(5, 1)]);
+    for track in [6, 9] {
+        desk.extend("A").granted(&[(track, 2)]);
+        desk.extend("B").granted(&[(track + 2, 1)]);
+    }
+    assert_eq!(extents(&desk, 2), [(1, 2, 4), (1, 6, 7), (1, 9, 10)]);
     assert_eq!(picture(&desk.table).unwrap().sets[0].format_3, None);
-    desk.extend("A").granted(&[(9, 2)]);
-    assert_eq!(extents(&desk, 2), [(1, 2, 4), (1, 5, 6), (1, 7, 8), (1, 9, 10)]);
-    assert_eq!(picture(&desk.table).unwrap().sets[0].format_3, Some(3));
-    // The format 3's bytes: number 3 first, track 9 is CC 1 HH 4.
+    desk.extend("A").granted(&[(12, 2)]);
+    assert_eq!(extents(&desk, 2), [(1, 2, 4), (1, 6, 7), (1, 9, 10), (1, 12, 13)]);
+    assert_eq!(picture(&desk.table).unwrap().sets[0].format_3, Some(4));
+    // The format 3's bytes: number 3 first, track 12 is CC 2 HH 2.
     let mut format_3 = [0; 140];
     format_3[..4].fill(0x03);
     format_3[44] = 0xF3;
-    format_3[4..14].copy_from_slice(&[0x01, 3, 0, 1, 0, 4, 0, 2, 0, 0]);
-    assert_eq!(desk.slot(3), format_3);
-    // Slot 3 is record 4 of track 1.
-    assert_eq!(desk.slot(2)[135..140], [0, 0, 0, 1, 4]);
+    format_3[4..14].copy_from_slice(&[0x01, 3, 0, 2, 0, 2, 0, 2, 0, 3]);
+    assert_eq!(desk.slot(4), format_3);
+    // Slot 4 is record 5 of track 1.
+    assert_eq!(desk.slot(2)[135..140], [0, 0, 0, 1, 5]);
     for _ in 0..4 {
+        desk.extend("B").accepted();
         desk.extend("A").accepted();
     }
-    // Extent 7 follows byte 44.
-    assert_eq!(desk.slot(3)[45..55], [0x01, 7, 0, 3, 0, 2, 0, 3, 0, 3]);
+    // Extent 7 follows byte 44: tracks 24 and 25.
+    assert_eq!(desk.slot(4)[45..55], [0x01, 7, 0, 4, 0, 4, 0, 5, 0, 0]);
     let reply = desk.obtain("A");
-    assert_eq!(reply.labels, [desk.slot(2), desk.slot(3)].concat());
+    assert_eq!(reply.labels, [desk.slot(2), desk.slot(4)].concat());
 }
 
 #[test]
@@ -134,25 +139,26 @@ fn five_pieces_at_once_want_a_format_3() {
 
 #[test]
 fn release_inside_and_at_the_end_of_an_extent() {
-    let mut desk = Desk::begin(10, 5, 6, 1, 1);
+    // Walls at 15, 25, 35 and 45: no two extents touch.
+    let mut desk = Desk::begin(11, 5, 8, 1, 1);
     desk.cylinders("A", 2, 1).granted(&[(5, 10)]);
-    for _ in 0..4 {
-        desk.extend("A").accepted();
+    for i in 0..4 {
+        desk.absolute(&format!("W{i}"), 15 + 10 * i, 1).accepted();
+        desk.extend("A").granted(&[(20 + 10 * i, 5)]);
     }
     assert_eq!(extents(&desk, 2).len(), 5);
     // At the end of extent 3: kept whole, it keeps its type.
-    desk.clone().release("A", 24, 1).gave_back(5);
     let mut at_end = desk.clone();
     at_end.release("A", 24, 1).gave_back(5);
-    assert_eq!(extents(&at_end, 2)[3], (0x81, 25, 29));
-    assert_eq!(picture(&at_end.table).unwrap().sets[0].format_3, Some(3));
+    assert_eq!(extents(&at_end, 2)[3], (0x81, 40, 44));
+    assert_eq!(picture(&at_end.table).unwrap().sets[0].format_3, Some(6));
     // Inside extent 2, of which the cylinder is kept (document 02, [2]), and the format 3 goes.
     desk.release("A", 16, 9).gave_back(10);
-    assert_eq!(extents(&desk, 2), [(0x81, 5, 14), (0x81, 15, 19), (0x81, 20, 24)]);
-    assert_eq!(desk.slot(3), [0; 140]);
+    assert_eq!(extents(&desk, 2), [(0x81, 5, 14), (0x81, 20, 24), (0x81, 30, 34)]);
+    assert_eq!(desk.slot(6), [0; 140]);
     assert_eq!(desk.slot(2)[135..], [0; 5]);
     assert_eq!(desk.slot(2)[98..101], [0, 16, 9]);
-    assert_eq!(free(&desk), [(2, 3), (25, 25)]);
+    assert_eq!(free(&desk), [(2, 3), (16, 4), (26, 4), (36, 9), (46, 9)]);
     // A cylinder file that is cut keeps the type, too.
     desk.release("A", 4, 1).gave_back(15);
     assert_eq!(extents(&desk, 2), [(0x81, 5, 9)]);
@@ -163,7 +169,7 @@ fn release_inside_and_at_the_end_of_an_extent() {
     assert_eq!(desk.slot(2)[98..101], [0, 0, 0]);
     // The unit stays: cylinders.
     desk.extend("A").granted(&[(10, 5)]);
-    assert_eq!(extents(&desk, 2), [(0x81, 5, 9), (0x81, 10, 14)]);
+    assert_eq!(extents(&desk, 2), [(0x81, 5, 14)]);
 }
 
 #[test]

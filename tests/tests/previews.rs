@@ -80,30 +80,29 @@ fn by_option() {
 /// Every refusal of extend, in its order.
 #[test]
 fn of_extend() {
-    let mut desk = Desk::begin(40, 1, 4, 1, 1);
+    let mut desk = Desk::begin(40, 1, 5, 1, 1);
     desk.preview(&extend("A.")).refused(4);
     desk.preview(&extend("A")).refused(5);
     desk.tracks("N", 1, 0).granted(&[(2, 1)]);
     desk.preview(&extend("N")).refused(8);
     desk.scratch("N").accepted();
-    desk.tracks("A", 1, 1).granted(&[(2, 1)]);
-    for track in 3..18 {
-        desk.seen_and_made(extend("A")).granted(&[(track, 1)]);
-    }
-    // Sixteen extents.
+    // Sixteen extents, from 17 down to 2.
+    desk.downwards("A", 2, 16);
     desk.seen_and_made(extend("A")).refused(10);
     desk.release("A", 14, 1).gave_back(1);
-    desk.seen_and_made(extend("A")).granted(&[(17, 1)]);
+    desk.seen_and_made(extend("A")).granted(&[(2, 1)]);
+    // 17, 16 and 15 stay.
     desk.release("A", 2, 1).gave_back(13);
-    desk.tracks("B", 35, 0).granted(&[(5, 35)]);
+    desk.tracks("B", 22, 0).granted(&[(18, 22)]);
+    desk.tracks("C", 13, 0).granted(&[(2, 13)]);
     desk.seen_and_made(extend("A")).refused(9);
     // Three extents, and no slot for a format 3.
-    desk.release("B", 33, 1).gave_back(1);
+    desk.release("B", 20, 1).gave_back(1);
     assert_eq!(open_slots(&desk.table), 0);
     desk.seen_and_made(extend("A")).refused(11);
     // A slot comes free, and it is the format 3's.
-    desk.scratch("B").gave_back(34);
-    desk.seen_and_made(extend("A")).granted(&[(5, 1)]);
+    desk.scratch("B").gave_back(21);
+    desk.seen_and_made(extend("A")).granted(&[(18, 1)]);
 }
 
 /// H is 5. A cylinder file with 10–24: a preview of its release keeps whole cylinders as the release does.

@@ -103,41 +103,38 @@ fn extend_8_9_10_11() {
     desk.extend("A").refused(8);
     desk.scratch("A").accepted();
     // The fourth extent wants a format 3.
-    desk.tracks("A", 1, 1).accepted();
-    desk.extend("A").accepted();
-    desk.extend("A").accepted();
+    let mut desk = Desk::begin(20, 1, 4, 1, 1);
+    desk.downwards("A", 2, 3);
+    desk.absolute("B", 18, 1).accepted();
     desk.extend("A").refused(11);
     // Sixteen extents; 9 comes before 10, and is not avoided by taking less.
-    let mut desk = Desk::begin(40, 1, 4, 1, 1);
-    desk.tracks("A", 1, 1).accepted();
-    for _ in 1..16 {
-        desk.extend("A").accepted();
-    }
+    let mut desk = Desk::begin(40, 1, 5, 1, 1);
+    desk.downwards("A", 2, 16);
     desk.extend("A").refused(10);
-    desk.tracks("B", 22, 0).refused(11);
+    desk.tracks("B", 21, 0).granted(&[(18, 21)]);
+    desk.tracks("C", 1, 0).refused(11);
     desk.release("A", 14, 1).gave_back(1);
-    desk.extend("A").granted(&[(17, 1)]);
-    let mut desk = Desk::begin(18, 1, 4, 1, 1);
-    desk.tracks("A", 1, 1).accepted();
-    for _ in 1..16 {
-        desk.extend("A").accepted();
-    }
+    desk.extend("A").granted(&[(2, 1)]);
+    let mut desk = Desk::begin(18, 1, 5, 1, 1);
+    desk.downwards("A", 2, 16);
     desk.extend("A").refused(9);
 }
 
 #[test]
 fn extend_with_more_pieces_than_fit_is_10() {
-    // Fifteen extents, and two holes for an amount of 2.
-    let mut desk = Desk::begin(40, 1, 6, 1, 1);
+    // Fifteen extents, W after each, and two holes for an amount of 2.
+    let mut desk = Desk::begin(60, 1, 9, 1, 1);
     desk.tracks("A", 2, 2).accepted();
+    desk.tracks("W", 1, 1).accepted();
     for _ in 1..15 {
         desk.extend("A").accepted();
+        desk.extend("W").accepted();
     }
-    desk.absolute("B", 33, 1).accepted();
-    desk.absolute("C", 35, 5).accepted();
+    desk.absolute("B", 48, 1).accepted();
+    desk.absolute("C", 50, 10).accepted();
     desk.extend("A").refused(10);
     desk.scratch("B").accepted();
-    desk.extend("A").granted(&[(32, 2)]);
+    desk.extend("A").granted(&[(47, 2)]);
 }
 
 #[test]

@@ -82,22 +82,26 @@ fn extend_makes_format_3_then_format_5() {
 fn sixteen_extents_come_before_a_full_vtoc() {
     // A has 16 extents and the next cylinder would split the 26th hole.
     let build = |extents: u32, n: u32| {
-        let mut desk = Desk::begin(55, 2, n, 1, 1);
+        let mut desk = Desk::begin(72, 2, n, 1, 1);
         desk.absolute("HEAD", 2, 1).accepted();
         desk.cylinders("A", 1, 1).granted(&[(4, 2)]);
-        (1..extents).for_each(|_| desk.extend("A").accepted());
-        let end = 4 + 2 * extents;
+        desk.cylinders("B", 1, 1).granted(&[(6, 2)]);
+        for _ in 1..extents {
+            desk.extend("A").accepted();
+            desk.extend("B").accepted();
+        }
+        let end = 4 + 4 * extents;
         // A hole of a track, a cylinder and a track, and single ones to make 26.
         desk.absolute("W", end, 1).accepted();
         (0..24).for_each(|i| {
             desk.absolute(&format!("WALL{i}"), end + 5 + 2 * i, 1).accepted();
         });
-        desk.absolute("REST", end + 53, 110 - end - 53).accepted();
+        desk.absolute("REST", end + 53, 144 - end - 53).accepted();
         assert_eq!((seen(&desk).free.len(), seen(&desk).format_0s), (26, 0));
         desk
     };
-    build(16, 31).extend("A").refused(10);
-    build(15, 31).extend("A").refused(11);
+    build(16, 33).extend("A").refused(10);
+    build(15, 33).extend("A").refused(11);
 }
 
 #[test]
@@ -126,12 +130,11 @@ fn release_may_find_the_vtoc_full() {
     assert_eq!((seen(&desk).free.len(), seen(&desk).chain), (27, vec![1, 29]));
 }
 
-/// A with `extents` one-track extents from track 2 on (slots 2 and 3), a guard after it,
-/// and 26 holes; no format 0.
+/// A with `extents` one-track extents down to track 2, a guard after it, and 26 holes; no format 0. A is
+/// in slot 3, its format 3 in slot 2 where it has four extents, and in slot 4 where it has five.
 fn guarded(extents: u32) -> Desk {
     let mut desk = Desk::begin(53 + extents + 1, 1, 30, 1, 1);
-    desk.tracks("A", 1, 1).accepted();
-    (1..extents).for_each(|_| desk.extend("A").accepted());
+    desk.downwards("A", 2, extents);
     desk.absolute("GUARD", 2 + extents, 1).accepted();
     for i in 0..25 {
         desk.absolute(&format!("WALL{i}"), 4 + extents + 2 * i, 1).accepted();
@@ -144,12 +147,12 @@ fn guarded(extents: u32) -> Desk {
 fn release_puts_a_format_5_into_the_slot_of_its_format_3() {
     let mut desk = guarded(4);
     desk.release("A", 2, 1).gave_back(1);
-    assert_eq!((seen(&desk).free.len(), seen(&desk).chain), (27, vec![1, 3]));
+    assert_eq!((seen(&desk).free.len(), seen(&desk).chain), (27, vec![1, 2]));
     // Four extents left: the format 3 stays, and there is no room.
     let mut desk = guarded(5);
     desk.release("A", 3, 1).refused(11);
     desk.release("A", 2, 1).gave_back(2);
-    assert_eq!((seen(&desk).free.len(), seen(&desk).chain), (27, vec![1, 3]));
+    assert_eq!((seen(&desk).free.len(), seen(&desk).chain), (27, vec![1, 4]));
 }
 
 #[test]
@@ -158,6 +161,9 @@ fn scratch_puts_a_format_5_into_the_lowest_slot_it_frees() {
     desk.scratch("A").gave_back(4);
     assert_eq!((seen(&desk).free.len(), seen(&desk).chain), (27, vec![1, 2]));
     assert_eq!(seen(&desk).format_0s, 1);
+    let mut desk = guarded(5);
+    desk.scratch("A").gave_back(5);
+    assert_eq!((seen(&desk).free.len(), seen(&desk).chain), (27, vec![1, 3]));
 }
 
 #[test]

@@ -7,20 +7,17 @@ use crate::desk::Desk;
 pub fn sequences() -> Vec<Sequence> {
     vec![sequence("26 free extents and more, and a full VTOC", |desk| {
         worn(desk);
-        slot_3_by_turns(desk);
+        slot_4_by_turns(desk);
         all_at_once(desk);
     })]
 }
 
 /// H = 2, 31 records, none of them free, and 26 free extents: 8, 10, four of a track, a
 /// cylinder and a track (13–16, 19–22, 25–28, 31–34), and 36, 38, ..., 74. A has five
-/// extents at 2 to 6, its format 3 in slot 3; GUARD is at 7, W0 at 9.
+/// extents from 6 down to 2, its format 3 in slot 4; GUARD is at 7, W0 at 9.
 fn worn(desk: &mut Desk) {
     desk.initialise(38, 2, 31, 1, 1).without_numbers();
-    desk.tracks("A", 1, 1).granted(&[(2, 1)]);
-    for track in 3..7 {
-        desk.extend("A").granted(&[(track, 1)]);
-    }
+    desk.downwards("A", 2, 5);
     desk.absolute("GUARD", 7, 1).accepted();
     let wide = [(9, 1), (11, 2), (17, 2), (23, 2), (29, 2), (35, 1)];
     let walls = wide.into_iter().chain((0..20).map(|i| (37 + 2 * i, 1)));
@@ -29,8 +26,8 @@ fn worn(desk: &mut Desk) {
     }
 }
 
-/// Slot 3 is a format 3, a format 5, a format 1, a format 5, a format 3, and free.
-fn slot_3_by_turns(desk: &mut Desk) {
+/// Slot 4 is a format 3, a format 5, a format 1, a format 5, a format 3, and free.
+fn slot_4_by_turns(desk: &mut Desk) {
     // With four extents A keeps its format 3, and there is no room for a format 5.
     desk.release("A", 3, 1).refused(11);
     desk.release("A", 2, 1).gave_back(2);
@@ -39,16 +36,16 @@ fn slot_3_by_turns(desk: &mut Desk) {
     desk.tracks("X", 1, 0).granted(&[(8, 1)]);
     desk.tracks("Y", 1, 0).refused(11);
     desk.scratch("X").gave_back(1);
-    for link in [[0, 0, 0, 0, 0], [0, 0, 0, 1, 5], [0, 0, 0, 1, 32]] {
+    for link in [[0, 0, 0, 0, 0], [0, 0, 0, 1, 4], [0, 0, 0, 1, 32]] {
         assert_eq!(relink(desk, 1, link), 3);
     }
     // The second format 5 leads back to the first.
-    assert_eq!(relink(desk, 3, [0, 0, 0, 1, 2]), 3);
+    assert_eq!(relink(desk, 4, [0, 0, 0, 1, 2]), 3);
     desk.extend("A").granted(&[(8, 1)]);
     desk.scratch("GUARD").gave_back(1);
     desk.scratch("W0").gave_back(1);
-    // A's last track has free ones on both sides, 5–7 and 9–10; B makes the 27th extent.
-    desk.absolute("B", 6, 1).granted(&[(6, 1)]);
+    desk.absolute("B", 2, 1).granted(&[(2, 1)]);
+    // A's last track has free ones on both sides, 7 and 9–10, and there are 27 free extents.
     desk.release("A", 2, 1).gave_back(1);
 }
 
@@ -73,5 +70,5 @@ fn all_at_once(desk: &mut Desk) {
     // Of six candidates five: 30 free extents and a format 5 more; then 25, and it goes.
     desk.cylinders_by(ALX, "C", 1, 0).granted(&[(8, 2), (14, 2), (20, 2), (26, 2), (32, 2)]);
     desk.scratch("W25").gave_back(1);
-    desk.tracks_by(ALX, "D", 1, 0).granted(&[(72, 4), (5, 1), (7, 1), (10, 1), (13, 1)]);
+    desk.tracks_by(ALX, "D", 1, 0).granted(&[(72, 4), (3, 1), (7, 1), (10, 1), (13, 1)]);
 }

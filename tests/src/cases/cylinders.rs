@@ -1,7 +1,7 @@
 //! Cylinder files keep whole cylinders: document 02, [2].
 
 use super::{sequence, Sequence};
-use crate::audit::{table_with, Set};
+use crate::audit::{picture, table_with, Extent, Set};
 use crate::desk::Desk;
 use crate::reference::layout::ATTRIBUTES;
 use crate::volumes::name;
@@ -27,6 +27,18 @@ fn put(desk: &mut Desk, bytes: &[(usize, usize, u8)]) {
         changed[140 * slot + at] = byte;
     }
     desk.put(&changed);
+}
+
+/// Another system's table: the set in `slot` is in cylinders and has its tracks in these extents, which
+/// our own calls would have joined.
+fn put_extents(desk: &mut Desk, slot: usize, format_3: Option<usize>, extents: &[Extent]) {
+    let seen = picture(&desk.table).expect("not taken");
+    let mut sets = seen.sets;
+    let set = sets.iter_mut().find(|set| set.slot == slot).expect("a set");
+    (set.format_3, set.extents) = (format_3, extents.to_vec());
+    let mut table = table_with([seen.c, seen.h, seen.d, seen.s, seen.v], sets).expect("sound");
+    table[140 * slot + UNIT] = 0xC0;
+    desk.put(&table);
 }
 
 fn kept_by_the_list() -> Sequence {
@@ -66,7 +78,7 @@ fn there_and_back(desk: &mut Desk) {
     desk.scratch("V").gave_back(1);
     desk.extend("F").granted(&[(10, 1)]);
     desk.extend("F").granted(&[(14, 1)]);
-    put(desk, &[(F, UNIT, 0xC0)]);
+    put_extents(desk, F, Some(K), &[(1, 11, 12), (1, 13, 13), (1, 10, 10), (1, 14, 14)]);
     // 11, and on to 13, where the list goes back. The format 3 goes.
     desk.release("F", 0, 1).gave_back(2);
 }
@@ -77,7 +89,7 @@ fn one_track_each(desk: &mut Desk) {
     for track in 14..18 {
         desk.extend("K").granted(&[(track, 1)]);
     }
-    put(desk, &[(K, UNIT, 0xC0)]);
+    put_extents(desk, K, Some(X), &[10, 14, 15, 16, 17].map(|track| (1, track, track)));
     // 10, 14 and 15, and on to 17: five extents, and the format 3 stays.
     desk.release("K", 2, 1).gave_back(0);
     // 14 is in the cylinder of 10, and not the next.
@@ -90,7 +102,8 @@ fn on_to_the_third(desk: &mut Desk) {
     desk.tracks("G", 2, 3).granted(&[(14, 2)]);
     desk.extend("G").granted(&[(16, 3)]);
     desk.extend("G").granted(&[(19, 3)]);
-    put(desk, &[(G, UNIT, 0xC0), (A, UNIT, 0x80), (A, TYPE, 0x81), (X, TYPE, 0x81)]);
+    put(desk, &[(A, UNIT, 0x80), (A, TYPE, 0x81), (X, TYPE, 0x81)]);
+    put_extents(desk, G, None, &[(1, 14, 15), (1, 16, 18), (1, 19, 21)]);
     // 14–15, and on over 16–18 to 19: the last extent is cut.
     desk.release("G", 1, 1).gave_back(2);
     // 14 ends a cylinder.

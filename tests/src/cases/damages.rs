@@ -104,7 +104,10 @@ fn by_kind() -> Sequence {
         desk.absolute("GAP", 9, 1).accepted();
         desk.cylinders("CYL", 1, 1).accepted();
         desk.tracks("LONG", 2, 2).accepted();
-        (0..3).for_each(|_| desk.extend("LONG").accepted());
+        // In turns, or what touches is joined.
+        for text in ["LONG", "CYL", "LONG", "CYL", "LONG"] {
+            desk.extend(text).accepted();
+        }
         let calls = [
             Call::Lspace,
             Call::Extend { name: name("LONG").to_vec() },

@@ -74,11 +74,8 @@ fn extend_in_pieces() -> Sequence {
 
 fn sixteen_extents() -> Sequence {
     sequence("Sixteen extents and no more", |desk| {
-        desk.initialise(20, 1, 4, 1, 1).without_numbers();
-        desk.tracks("A", 1, 1).granted(&[(2, 1)]);
-        for track in 3..18 {
-            desk.extend("A").granted(&[(track, 1)]);
-        }
+        desk.initialise(20, 1, 5, 1, 1).without_numbers();
+        desk.downwards("A", 2, 16);
         desk.extend("A").refused(10);
         desk.obtain("A").without_numbers();
         desk.scratch("A").gave_back(16);
@@ -124,9 +121,10 @@ fn absolute() -> Sequence {
 
 fn release() -> Sequence {
     sequence("Release inside and at the end of an extent, with and without its format 3", |desk| {
-        desk.initialise(10, 5, 7, 1, 1).without_numbers();
+        desk.initialise(11, 5, 8, 1, 1).without_numbers();
         desk.cylinders("A", 2, 1).granted(&[(5, 10)]);
-        for cylinder in 3..7 {
+        for (i, cylinder) in [4, 6, 8, 10].into_iter().enumerate() {
+            desk.absolute(&format!("W{i}"), 5 * cylinder - 1, 1).accepted();
             desk.extend("A").granted(&[(5 * cylinder, 5)]);
         }
         desk.obtain("A").without_numbers();

@@ -69,20 +69,22 @@ fn given_back(desk: &mut Desk) {
 
 fn where_slots_decide() -> Sequence {
     sequence("Previews where slots decide; damaged tables, and every length", |desk| {
-        three_records(desk);
+        four_records(desk);
         lengths(desk);
         damages(desk);
         full(desk);
     })
 }
 
-/// One set of three extents, and the VTOC is full.
-fn three_records(desk: &mut Desk) {
-    desk.initialise(5, 4, 3, 1, 1).without_numbers();
+/// Two sets by turns, A of three extents, and the VTOC is full.
+fn four_records(desk: &mut Desk) {
+    desk.initialise(5, 4, 4, 1, 1).without_numbers();
     desk.tracks("A", 1, 1).granted(&[(2, 1)]);
+    desk.tracks("D", 1, 1).granted(&[(3, 1)]);
     desk.seen_and_made(tracks("B", 1, 0)).refused(11);
-    desk.extend("A").granted(&[(3, 1)]);
-    desk.extend("A").granted(&[(4, 1)]);
+    for (text, track) in [("A", 4), ("D", 5), ("A", 6), ("D", 7)] {
+        desk.extend(text).granted(&[(track, 1)]);
+    }
     desk.seen_and_made(extend("A")).refused(11);
 }
 

@@ -37,15 +37,16 @@ fn initialised(desk: &mut Desk) {
     hurt(desk, &too_long, tracks("A", 1, 0));
 }
 
-/// Free in the end: 512–766, one cylinder's worth. B has 3–254, 1,019, 510 and 511.
+/// Free in the end: 511–765, one cylinder's worth. B has 3–254, 1,019, 510 and 1,018.
 fn some_sets(desk: &mut Desk) {
     desk.cylinders("A", 1, 1).granted(&[(255, 255)]);
-    desk.absolute("END", 767, 253).granted(&[(767, 253)]);
+    desk.absolute("END", 766, 254).granted(&[(766, 254)]);
     desk.tracks("B", 252, 1).granted(&[(3, 252)]);
+    desk.release("END", 252, 1).gave_back(1);
+    desk.extend("B").granted(&[(1_019, 1)]);
+    desk.extend("B").granted(&[(510, 1)]);
     desk.release("END", 251, 1).gave_back(1);
-    for track in [1_019, 510, 511] {
-        desk.extend("B").granted(&[(track, 1)]);
-    }
+    desk.extend("B").granted(&[(1_018, 1)]);
     let reply = desk.lspace();
     assert_eq!([0, 2, 4, 6, 8, 10].map(|at| reply.word(at)), [1, 0, 1, 1, 0, 2]);
 }
@@ -70,9 +71,9 @@ fn wrapped(desk: &mut Desk) {
     // B's first track, 3: 257 × 255 + 4. A's last, 509: 259 × 255 + 0.
     hurt(desk, &[(extent(4, 0) + 2, &[1, 1, 0, 4])], extend("B"));
     hurt(desk, &[(extent(2, 0) + 6, &[1, 3, 0, 0])], obtain("A"));
-    // Extent 3, track 511: 65,535 × 255 + 766, with HH not below H.
+    // Extent 3, track 1,018: 65,535 × 255 + 1,273, with HH not below H.
     let format_3 = 5 * 140 + 4;
-    hurt(desk, &[(format_3 + 2, &[0xFF, 0xFF, 0x02, 0xFE])], scratch("B"));
+    hurt(desk, &[(format_3 + 2, &[0xFF, 0xFF, 0x04, 0xF9])], scratch("B"));
     // The free extent, 255 tracks: 258 × 255 + 1; 0 × 255 + 255, which is right but for the digits.
     let free = 140 + 4;
     hurt(desk, &[(free + 2, &[1, 2, 1])], tracks("C", 1, 0));

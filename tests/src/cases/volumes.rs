@@ -117,9 +117,9 @@ fn three_records() -> Sequence {
         desk.tracks("B", 1, 0).refused(11);
         desk.extend("A").granted(&[(3, 1)]);
         desk.extend("A").granted(&[(4, 1)]);
-        // A fourth extent wants a format 3.
-        desk.extend("A").refused(11);
-        desk.release("A", 1, 7).gave_back(1);
+        // One extent still: a format 3 would have no slot.
+        desk.extend("A").granted(&[(5, 1)]);
+        desk.release("A", 1, 7).gave_back(2);
         desk.extend("A").granted(&[(4, 1)]);
         desk.rename("A", "B").without_numbers();
         desk.scratch("B").gave_back(3);
