@@ -19,67 +19,72 @@ use Rattle.case_rows.specs.Check.{Row, attr, build, date, hurt, nm, no, noDate,
 abbrev pub sequence20 : List Row
 sequence20 =
     build 38 2 31 1 1
-    (allocate (request (nm (0xC1 ∷ [])) (attr 1) 0 0 1 1 0 noDate)
+    (allocate (request (nm (0xD7 ∷ 0xD3 ∷ 0xC1 ∷ 0xC3 ∷ 0xC5 ∷ [])) (attr 1) 2 2 4 0 0 noDate)
+    ∷ allocate (request (nm (0xC1 ∷ [])) (attr 2) 0 0 1 1 0 noDate)
+    ∷ release (nm (0xD7 ∷ 0xD3 ∷ 0xC1 ∷ 0xC3 ∷ 0xC5 ∷ [])) 0x201
     ∷ extend (nm (0xC1 ∷ []))
+    ∷ release (nm (0xD7 ∷ 0xD3 ∷ 0xC1 ∷ 0xC3 ∷ 0xC5 ∷ [])) 0x101
     ∷ extend (nm (0xC1 ∷ []))
+    ∷ release (nm (0xD7 ∷ 0xD3 ∷ 0xC1 ∷ 0xC3 ∷ 0xC5 ∷ [])) 0x1
     ∷ extend (nm (0xC1 ∷ []))
+    ∷ scratch (nm (0xD7 ∷ 0xD3 ∷ 0xC1 ∷ 0xC3 ∷ 0xC5 ∷ [])) (date 4 0x0080365F) 0
     ∷ extend (nm (0xC1 ∷ []))
-    ∷ allocate (request (nm (0xC7 ∷ 0xE4 ∷ 0xC1 ∷ 0xD9 ∷ 0xC4 ∷ [])) (attr 6) 2 7 1 0 0 noDate)
-    ∷ allocate (request (nm (0xE6 ∷ 0xF0 ∷ [])) (attr 7) 2 9 1 0 0 noDate)
-    ∷ allocate (request (nm (0xE6 ∷ 0xF1 ∷ [])) (attr 8) 2 11 2 0 0 noDate)
-    ∷ allocate (request (nm (0xE6 ∷ 0xF2 ∷ [])) (attr 9) 2 17 2 0 0 noDate)
-    ∷ allocate (request (nm (0xE6 ∷ 0xF3 ∷ [])) (attr 10) 2 23 2 0 0 noDate)
-    ∷ allocate (request (nm (0xE6 ∷ 0xF4 ∷ [])) (attr 11) 2 29 2 0 0 noDate)
-    ∷ allocate (request (nm (0xE6 ∷ 0xF5 ∷ [])) (attr 12) 2 35 1 0 0 noDate)
-    ∷ allocate (request (nm (0xE6 ∷ 0xF6 ∷ [])) (attr 13) 2 37 1 0 0 noDate)
-    ∷ allocate (request (nm (0xE6 ∷ 0xF7 ∷ [])) (attr 14) 2 39 1 0 0 noDate)
-    ∷ allocate (request (nm (0xE6 ∷ 0xF8 ∷ [])) (attr 15) 2 41 1 0 0 noDate)
-    ∷ allocate (request (nm (0xE6 ∷ 0xF9 ∷ [])) (attr 16) 2 43 1 0 0 noDate)
-    ∷ allocate (request (nm (0xE6 ∷ 0xF1 ∷ 0xF0 ∷ [])) (attr 17) 2 45 1 0 0 noDate)
-    ∷ allocate (request (nm (0xE6 ∷ 0xF1 ∷ 0xF1 ∷ [])) (attr 18) 2 47 1 0 0 noDate)
-    ∷ allocate (request (nm (0xE6 ∷ 0xF1 ∷ 0xF2 ∷ [])) (attr 19) 2 49 1 0 0 noDate)
-    ∷ allocate (request (nm (0xE6 ∷ 0xF1 ∷ 0xF3 ∷ [])) (attr 20) 2 51 1 0 0 noDate)
-    ∷ allocate (request (nm (0xE6 ∷ 0xF1 ∷ 0xF4 ∷ [])) (attr 21) 2 53 1 0 0 noDate)
-    ∷ allocate (request (nm (0xE6 ∷ 0xF1 ∷ 0xF5 ∷ [])) (attr 22) 2 55 1 0 0 noDate)
-    ∷ allocate (request (nm (0xE6 ∷ 0xF1 ∷ 0xF6 ∷ [])) (attr 23) 2 57 1 0 0 noDate)
-    ∷ allocate (request (nm (0xE6 ∷ 0xF1 ∷ 0xF7 ∷ [])) (attr 24) 2 59 1 0 0 noDate)
-    ∷ allocate (request (nm (0xE6 ∷ 0xF1 ∷ 0xF8 ∷ [])) (attr 25) 2 61 1 0 0 noDate)
-    ∷ allocate (request (nm (0xE6 ∷ 0xF1 ∷ 0xF9 ∷ [])) (attr 26) 2 63 1 0 0 noDate)
-    ∷ allocate (request (nm (0xE6 ∷ 0xF2 ∷ 0xF0 ∷ [])) (attr 27) 2 65 1 0 0 noDate)
-    ∷ allocate (request (nm (0xE6 ∷ 0xF2 ∷ 0xF1 ∷ [])) (attr 28) 2 67 1 0 0 noDate)
-    ∷ allocate (request (nm (0xE6 ∷ 0xF2 ∷ 0xF2 ∷ [])) (attr 29) 2 69 1 0 0 noDate)
-    ∷ allocate (request (nm (0xE6 ∷ 0xF2 ∷ 0xF3 ∷ [])) (attr 30) 2 71 1 0 0 noDate)
-    ∷ allocate (request (nm (0xE6 ∷ 0xF2 ∷ 0xF4 ∷ [])) (attr 31) 2 73 1 0 0 noDate)
-    ∷ allocate (request (nm (0xE6 ∷ 0xF2 ∷ 0xF5 ∷ [])) (attr 32) 2 75 1 0 0 noDate)
+    ∷ allocate (request (nm (0xC7 ∷ 0xE4 ∷ 0xC1 ∷ 0xD9 ∷ 0xC4 ∷ [])) (attr 11) 2 7 1 0 0 noDate)
+    ∷ allocate (request (nm (0xE6 ∷ 0xF0 ∷ [])) (attr 12) 2 9 1 0 0 noDate)
+    ∷ allocate (request (nm (0xE6 ∷ 0xF1 ∷ [])) (attr 13) 2 11 2 0 0 noDate)
+    ∷ allocate (request (nm (0xE6 ∷ 0xF2 ∷ [])) (attr 14) 2 17 2 0 0 noDate)
+    ∷ allocate (request (nm (0xE6 ∷ 0xF3 ∷ [])) (attr 15) 2 23 2 0 0 noDate)
+    ∷ allocate (request (nm (0xE6 ∷ 0xF4 ∷ [])) (attr 16) 2 29 2 0 0 noDate)
+    ∷ allocate (request (nm (0xE6 ∷ 0xF5 ∷ [])) (attr 17) 2 35 1 0 0 noDate)
+    ∷ allocate (request (nm (0xE6 ∷ 0xF6 ∷ [])) (attr 18) 2 37 1 0 0 noDate)
+    ∷ allocate (request (nm (0xE6 ∷ 0xF7 ∷ [])) (attr 19) 2 39 1 0 0 noDate)
+    ∷ allocate (request (nm (0xE6 ∷ 0xF8 ∷ [])) (attr 20) 2 41 1 0 0 noDate)
+    ∷ allocate (request (nm (0xE6 ∷ 0xF9 ∷ [])) (attr 21) 2 43 1 0 0 noDate)
+    ∷ allocate (request (nm (0xE6 ∷ 0xF1 ∷ 0xF0 ∷ [])) (attr 22) 2 45 1 0 0 noDate)
+    ∷ allocate (request (nm (0xE6 ∷ 0xF1 ∷ 0xF1 ∷ [])) (attr 23) 2 47 1 0 0 noDate)
+    ∷ allocate (request (nm (0xE6 ∷ 0xF1 ∷ 0xF2 ∷ [])) (attr 24) 2 49 1 0 0 noDate)
+    ∷ allocate (request (nm (0xE6 ∷ 0xF1 ∷ 0xF3 ∷ [])) (attr 25) 2 51 1 0 0 noDate)
+    ∷ allocate (request (nm (0xE6 ∷ 0xF1 ∷ 0xF4 ∷ [])) (attr 26) 2 53 1 0 0 noDate)
+    ∷ allocate (request (nm (0xE6 ∷ 0xF1 ∷ 0xF5 ∷ [])) (attr 27) 2 55 1 0 0 noDate)
+    ∷ allocate (request (nm (0xE6 ∷ 0xF1 ∷ 0xF6 ∷ [])) (attr 28) 2 57 1 0 0 noDate)
+    ∷ allocate (request (nm (0xE6 ∷ 0xF1 ∷ 0xF7 ∷ [])) (attr 29) 2 59 1 0 0 noDate)
+    ∷ allocate (request (nm (0xE6 ∷ 0xF1 ∷ 0xF8 ∷ [])) (attr 30) 2 61 1 0 0 noDate)
+    ∷ allocate (request (nm (0xE6 ∷ 0xF1 ∷ 0xF9 ∷ [])) (attr 31) 2 63 1 0 0 noDate)
+    ∷ allocate (request (nm (0xE6 ∷ 0xF2 ∷ 0xF0 ∷ [])) (attr 32) 2 65 1 0 0 noDate)
+    ∷ allocate (request (nm (0xE6 ∷ 0xF2 ∷ 0xF1 ∷ [])) (attr 33) 2 67 1 0 0 noDate)
+    ∷ allocate (request (nm (0xE6 ∷ 0xF2 ∷ 0xF2 ∷ [])) (attr 34) 2 69 1 0 0 noDate)
+    ∷ allocate (request (nm (0xE6 ∷ 0xF2 ∷ 0xF3 ∷ [])) (attr 35) 2 71 1 0 0 noDate)
+    ∷ allocate (request (nm (0xE6 ∷ 0xF2 ∷ 0xF4 ∷ [])) (attr 36) 2 73 1 0 0 noDate)
+    ∷ allocate (request (nm (0xE6 ∷ 0xF2 ∷ 0xF5 ∷ [])) (attr 37) 2 75 1 0 0 noDate)
     ∷ [])
-    0x1ECA36F6BCA34BBB
+    0x1A6659CB55AECD9F
     ∷ no (release (nm (0xC1 ∷ [])) 0x301) 11
-    ∷ ok (release (nm (0xC1 ∷ [])) 0x201) 0x200000000000000000000000000000000000000000000 0x1B90CE6DA61D4D88
-    ∷ ok lspace 0x90016001B000200000000000000000000000000000000 0x1B90CE6DA61D4D88
-    ∷ ok (allocate (request (nm (0xE7 ∷ [])) (attr 36) 0 0 1 0 0 noDate)) 0x101000800010000000000000000000000000000000000 0x14213EDF285FE758
-    ∷ no (allocate (request (nm (0xE8 ∷ [])) (attr 37) 0 0 1 0 0 noDate)) 11
-    ∷ ok (scratch (nm (0xE7 ∷ [])) (date 4 0x0080365F) 0) 0x100000000000000000000000000000000000000000000 0x1B90CE6DA61D4D88
+    ∷ ok (release (nm (0xC1 ∷ [])) 0x201) 0x200000000000000000000000000000000000000000000 0x1DCF0805E42BD373
+    ∷ ok lspace 0x90016001B000200000000000000000000000000000000 0x1DCF0805E42BD373
+    ∷ ok (allocate (request (nm (0xE7 ∷ [])) (attr 41) 0 0 1 0 0 noDate)) 0x101000800010000000000000000000000000000000000 0x1678AC9022BB7F45
+    ∷ no (allocate (request (nm (0xE8 ∷ [])) (attr 42) 0 0 1 0 0 noDate)) 11
+    ∷ ok (scratch (nm (0xE7 ∷ [])) (date 4 0x0080365F) 0) 0x100000000000000000000000000000000000000000000 0x1DCF0805E42BD373
     ∷ hurt ((278, 0x00) ∷ (279, 0x00) ∷ []) lspace 3
-    ∷ hurt ((279, 0x05) ∷ []) lspace 3
+    ∷ hurt ((279, 0x04) ∷ []) lspace 3
     ∷ hurt ((279, 0x20) ∷ []) lspace 3
-    ∷ hurt ((558, 0x01) ∷ (559, 0x02) ∷ []) lspace 3
-    ∷ ok (extend (nm (0xC1 ∷ []))) 0x101000800010000000000000000000000000000000000 0x196A2CE06294AE23
-    ∷ ok (scratch (nm (0xC7 ∷ 0xE4 ∷ 0xC1 ∷ 0xD9 ∷ 0xC4 ∷ [])) (date 4 0x0080365F) 0) 0x100000000000000000000000000000000000000000000 0xE103D6D46A3109E
-    ∷ ok (scratch (nm (0xE6 ∷ 0xF0 ∷ [])) (date 4 0x0080365F) 0) 0x100000000000000000000000000000000000000000000 0x84C33E0DEB852E
-    ∷ ok (allocate (request (nm (0xC2 ∷ [])) (attr 46) 2 6 1 0 0 noDate)) 0x101000600010000000000000000000000000000000000 0x16101FA9FAACB02C
-    ∷ ok (release (nm (0xC1 ∷ [])) 0x201) 0x100000000000000000000000000000000000000000000 0x1E23BBA09CF6F6E9
-    ∷ no (allocate (request (nm (0xC3 ∷ [])) (attr 48) 1 0 4 0 0 noDate)) 11
-    ∷ no (allocate (request (nm (0xC3 ∷ [])) (attr 49) 1 0 1 0 3 noDate)) 11
-    ∷ ok (scratch (nm (0xE6 ∷ 0xF2 ∷ 0xF4 ∷ [])) (date 4 0x0080365F) 0) 0x100000000000000000000000000000000000000000000 0x27261A60C977AB9
-    ∷ ok (allocate (request (nm (0xC3 ∷ [])) (attr 51) 1 0 4 0 0 noDate)) 0x80400080002000E000200140002001A00020000000000 0x146218E2E58EB4CF
-    ∷ ok (scratch (nm (0xC3 ∷ [])) (date 4 0x0080365F) 0) 0x800000000000000000000000000000000000000000000 0x27261A60C977AB9
-    ∷ ok (allocate (request (nm (0xC3 ∷ [])) (attr 53) 1 0 1 3 0 noDate)) 0x201000800020000000000000000000000000000000000 0x13244DA2E04B47D5
-    ∷ ok (extend (nm (0xC3 ∷ []))) 0x603000E000200140002001A0002000000000000000000 0xFA59C81AE8CE0B1
-    ∷ okLabels (obtain (nm (0xC3 ∷ []))) 0x0 0xFA59C81AE8CE0B1 0xBB8A5D05AF7EA87
-    ∷ ok (scratch (nm (0xC3 ∷ [])) (date 4 0x0080365F) 0) 0x800000000000000000000000000000000000000000000 0x27261A60C977AB9
-    ∷ ok (allocate (request (nm (0xC3 ∷ [])) (attr 57) 1 0 1 0 3 noDate)) 0xA0500080002000E000200140002001A00020020000200 0x10084A16E6412E1A
-    ∷ ok (scratch (nm (0xE6 ∷ 0xF2 ∷ 0xF5 ∷ [])) (date 4 0x0080365F) 0) 0x100000000000000000000000000000000000000000000 0x1C6F6B7AC5C0DFDD
-    ∷ ok (allocate (request (nm (0xC4 ∷ [])) (attr 59) 0 0 1 0 3 noDate)) 0x805004800040005000100070001000A0001000D000100 0x84FA2E8AFE46A69
+    ∷ hurt ((698, 0x01) ∷ (699, 0x02) ∷ []) lspace 3
+    ∷ ok (extend (nm (0xC1 ∷ []))) 0x101000800010000000000000000000000000000000000 0x37ED8DF4B364FE2
+    ∷ ok (scratch (nm (0xC7 ∷ 0xE4 ∷ 0xC1 ∷ 0xD9 ∷ 0xC4 ∷ [])) (date 4 0x0080365F) 0) 0x100000000000000000000000000000000000000000000 0x18DC4491613714DF
+    ∷ ok (scratch (nm (0xE6 ∷ 0xF0 ∷ [])) (date 4 0x0080365F) 0) 0x100000000000000000000000000000000000000000000 0x878FA38D09171A1
+    ∷ ok (allocate (request (nm (0xC2 ∷ [])) (attr 51) 2 2 1 0 0 noDate)) 0x101000200010000000000000000000000000000000000 0xE23ABC96851B785
+    ∷ ok (release (nm (0xC1 ∷ [])) 0x201) 0x100000000000000000000000000000000000000000000 0x11DABC496916B04A
+    ∷ no (allocate (request (nm (0xC3 ∷ [])) (attr 53) 1 0 4 0 0 noDate)) 11
+    ∷ no (allocate (request (nm (0xC3 ∷ [])) (attr 54) 1 0 1 0 3 noDate)) 11
+    ∷ ok (scratch (nm (0xE6 ∷ 0xF2 ∷ 0xF4 ∷ [])) (date 4 0x0080365F) 0) 0x100000000000000000000000000000000000000000000 0x1FFD6E9A75375410
+    ∷ ok (allocate (request (nm (0xC3 ∷ [])) (attr 56) 1 0 4 0 0 noDate)) 0x80400080002000E000200140002001A00020000000000 0x1D6F2F4D1FC8E9B3
+    ∷ ok (scratch (nm (0xC3 ∷ [])) (date 4 0x0080365F) 0) 0x800000000000000000000000000000000000000000000 0x1FFD6E9A75375410
+    ∷ ok (allocate (request (nm (0xC3 ∷ [])) (attr 58) 1 0 1 3 0 noDate)) 0x201000800020000000000000000000000000000000000 0x1C261CB06286C1EB
+    ∷ ok (extend (nm (0xC3 ∷ []))) 0x603000E000200140002001A0002000000000000000000 0x10E02F048EFC6216
+    ∷ okLabels (obtain (nm (0xC3 ∷ []))) 0x0 0x10E02F048EFC6216 0x203959AE24A7A84
+    ∷ ok (scratch (nm (0xC3 ∷ [])) (date 4 0x0080365F) 0) 0x800000000000000000000000000000000000000000000 0x1FFD6E9A75375410
+    ∷ ok (allocate (request (nm (0xC3 ∷ [])) (attr 62) 1 0 1 0 3 noDate)) 0xA0500080002000E000200140002001A00020020000200 0x15932D17F2386271
+    ∷ ok (scratch (nm (0xE6 ∷ 0xF2 ∷ 0xF5 ∷ [])) (date 4 0x0080365F) 0) 0x100000000000000000000000000000000000000000000 0x1013BFAF922EC121
+    ∷ ok (allocate (request (nm (0xC4 ∷ [])) (attr 64) 0 0 1 0 3 noDate)) 0x805004800040003000100070001000A0001000D000100 0x165E739A197494F
     ∷ []
 
 pub case20 : T (right [] sequence20)

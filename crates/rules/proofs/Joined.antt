@@ -79,7 +79,7 @@ joined-cases es (p ∷ ps) = by (touches es (p .over .start)) (λ h. touching (t
 
 -- ---- what adds up
 
-over-append : (xs ys : List Extent) → overs (xs ++ ys) ≡ overs xs ++ overs ys
+pub over-append : (xs ys : List Extent) → overs (xs ++ ys) ≡ overs xs ++ overs ys
 over-append [] ys = refl
 over-append (x ∷ xs) ys = ap (λ (z : List Run). x .over ∷ z) (over-append xs ys)
 

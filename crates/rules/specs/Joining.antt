@@ -1,8 +1,8 @@
--- Document 02, [6]: what is promised of an extend, joined or not. The statements; proofs/Joined and proofs/Joining have their proofs.
--- Assumes nothing.
+-- Document 02, [6]: what is promised of an extend, joined or not. The statements; proofs/Joined, Joining and JoinFits have their
+-- proofs. Assumes nothing.
 use mathlib.Core.Path.{_≡_}
 use Prim.Native.Nat.{ℕ, suc, _+_, _≤_}
-use mathlib.Core.Bool.{Bool, false}
+use mathlib.Core.Bool.{Bool, true, false}
 use mathlib.Core.Option.{some}
 use mathlib.Core.List.{List, [], _∷_, _++_}
 use lib.Dec.{eqb, ltb}
@@ -79,6 +79,13 @@ abbrev pub TenExactly : Type 0
 TenExactly = (v : Volume) (n : List ℕ) (l : Label) (p : Extent) (ps : List Extent)
     → Valid v → found v n ≡ some l → 1 ≤ l .secondary → grant (v .geometry) (v .labels) noOption (secondaryOf l) ≡ some (p ∷ ps)
     → RefusedExactly (rule v (extend n)) 10 (ltb (16 + bit (touches (l .extents) (p .over .start))) (length (l .extents) + length (p ∷ ps)))
+
+-- what the request is for: where one piece is granted and touches, the extend is accepted, however many extents the set has and however
+-- full the VTOC is
+abbrev pub OnlyPieceJoins : Type 0
+OnlyPieceJoins = (v : Volume) (n : List ℕ) (l : Label) (p : Extent)
+    → Valid v → found v n ≡ some l → 1 ≤ l .secondary → grant (v .geometry) (v .labels) noOption (secondaryOf l) ≡ some (p ∷ [])
+    → touches (l .extents) (p .over .start) ≡ true → (w : Volume) × (rule v (extend n) ≡ accept (granted (p .over ∷ [])) w)
 
 -- the set n has one extent, of these tracks
 pub record OneExtent (v : Volume) (n : List ℕ) (r : Run) : Type 0 where
