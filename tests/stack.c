@@ -84,14 +84,25 @@ static void *do_alx(void *unused)
     return unused;
 }
 
-static void extend(const uint8_t *name)
+/* Leaves a data set of so many extents. */
+static void extend(const uint8_t *name, unsigned extents)
 {
     result = vtoc_extend(table, sizeof table, name, VTOC_NAME_LENGTH, answer, sizeof answer);
+    if (result == VTOC_OK
+        && table[vtoc_find_slot(table, sizeof table, name) * VTOC_RECORD_LENGTH + VTOC_LABEL_EXTENTS] != extents)
+        result = 99;
 }
 
 static void *do_extend(void *unused)
 {
-    extend(one);
+    extend(one, 16);
+    return unused;
+}
+
+/* The cylinder file lies before a gap, and its last extent is lengthened. */
+static void *do_extend_joined(void *unused)
+{
+    extend(plot, 15);
     return unused;
 }
 
@@ -199,7 +210,7 @@ int main(void)
     } calls[] = {{"lspace", do_lspace},   {"obtain", do_obtain},   {"rename", do_rename},     {"extend", do_extend},
                  {"release", do_release}, {"scratch", do_scratch}, {"allocate", do_allocate}, {"CONTIG", do_contig},
                  {"MXIG", do_mxig},       {"ALX", do_alx},         {"cylinders", do_release_plot},
-                 {"initialise", do_initialise},
+                 {"joined", do_extend_joined},                     {"initialise", do_initialise},
                  {"preview allocate", do_preview_allocate},        {"preview extend", do_preview_extend},
                  {"preview release", do_preview_release},          {"preview scratch", do_preview_scratch},
                  {"date to stored", do_date_to_stored},            {"date to packed", do_date_to_packed}};
@@ -211,7 +222,8 @@ int main(void)
     do_date_to_stored(NULL);
     memcpy(stored, answer, sizeof stored);
 
-    /* The largest table: 400 data sets with a free track after each, the first of 15 extents; and a cylinder file of 15. */
+    /* The largest table: 400 data sets with a free track after each, the first of 15 extents; and a cylinder file of 15. These two
+       grow in turns, so that no extent touches the one before. */
     do_initialise(NULL);
     if (result != VTOC_OK || allocate(0, VTOC_TRACKS, 0, 300, 300) != VTOC_OK || allocate(998, VTOC_CYLINDERS, 0, 1, 1) != VTOC_OK)
         return 2;
@@ -222,9 +234,9 @@ int main(void)
     make_name(plot, 998);
     make_name(other, 999);
     for (unsigned extents = 1; extents < 15; extents++) {
-        extend(one);
+        extend(one, extents + 1);
         if (result == VTOC_OK)
-            extend(plot);
+            extend(plot, extents + 1);
         if (result != VTOC_OK)
             return 2;
     }
