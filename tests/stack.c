@@ -84,25 +84,28 @@ static void *do_alx(void *unused)
     return unused;
 }
 
-/* Leaves a data set of so many extents. */
-static void extend(const uint8_t *name, unsigned extents)
+static void extend(const uint8_t *name)
 {
     result = vtoc_extend(table, sizeof table, name, VTOC_NAME_LENGTH, answer, sizeof answer);
-    if (result == VTOC_OK
-        && table[vtoc_find_slot(table, sizeof table, name) * VTOC_RECORD_LENGTH + VTOC_LABEL_EXTENTS] != extents)
-        result = 99;
+}
+
+static unsigned extents_of(const uint8_t *name)
+{
+    return table[vtoc_find_slot(table, sizeof table, name) * VTOC_RECORD_LENGTH + VTOC_LABEL_EXTENTS];
 }
 
 static void *do_extend(void *unused)
 {
-    extend(one, 16);
+    extend(one);
     return unused;
 }
 
-/* The cylinder file lies before a gap, and its last extent is lengthened. */
+/* The cylinder file of 15 extents goes on from its last track. */
 static void *do_extend_joined(void *unused)
 {
-    extend(plot, 15);
+    extend(plot);
+    if (result == VTOC_OK && extents_of(plot) != 15)
+        result = 99;
     return unused;
 }
 
@@ -223,7 +226,7 @@ int main(void)
     memcpy(stored, answer, sizeof stored);
 
     /* The largest table: 400 data sets with a free track after each, the first of 15 extents; and a cylinder file of 15. These two
-       grow in turns, so that no extent touches the one before. */
+       grow in turns, so that no piece is joined. */
     do_initialise(NULL);
     if (result != VTOC_OK || allocate(0, VTOC_TRACKS, 0, 300, 300) != VTOC_OK || allocate(998, VTOC_CYLINDERS, 0, 1, 1) != VTOC_OK)
         return 2;
@@ -234,12 +237,14 @@ int main(void)
     make_name(plot, 998);
     make_name(other, 999);
     for (unsigned extents = 1; extents < 15; extents++) {
-        extend(one, extents + 1);
+        extend(one);
         if (result == VTOC_OK)
-            extend(plot, extents + 1);
+            extend(plot);
         if (result != VTOC_OK)
             return 2;
     }
+    if (extents_of(one) != 15 || extents_of(plot) != 15)
+        return 2;
     memcpy(before, table, sizeof table);
     for (size_t i = 0; i < sizeof calls / sizeof calls[0]; i++) {
         size_t need;
