@@ -381,7 +381,7 @@ static inline uint32_t vtoc_answer_tracks(const uint8_t *answer)
     return vtoc_two(answer);
 }
 
-/* allocate and extend: the number of pieces, 1 to 5. */
+/* allocate and extend: the number of pieces, 1 to 5. An extend may have joined the first of them to an extent. */
 static inline uint32_t vtoc_answer_pieces(const uint8_t *answer)
 {
     return answer[2];

@@ -708,7 +708,7 @@ static void extends_in_a_full_vtoc(void)
 /* A host with extents of its own: it appends the pieces of each answer, and joins as the header says. */
 static void extends_of_a_host(void)
 {
-    uint32_t firsts[21], lasts[21], count = 1, joined = 0;
+    uint32_t firsts[VTOC_MOST_EXTENTS + VTOC_MOST_PIECES], lasts[VTOC_MOST_EXTENTS + VTOC_MOST_PIECES], count = 1, joined = 0;
     volume();
     CHECK(allocate("LONG", VTOC_TRACKS, 0, 5, 7) == VTOC_OK);
     firsts[0] = vtoc_answer_start(answer, 0);
@@ -947,7 +947,7 @@ static void sixteen_extents(void)
         CHECK(vtoc_track(extent + VTOC_EXTENT_FIRST, H) == starts[e]);
         CHECK(vtoc_track(extent + VTOC_EXTENT_LAST, H) == starts[e] + counts[e] - 1);
     }
-    /* NEXT has 16 too, and what is granted next follows its last: it grows still. LONG does not, whatever comes after. */
+    /* NEXT has 16 too, and what is granted begins behind its last: it still grows. LONG does not. */
     CHECK(ends_with("NEXT", 15, 0x01, 124, 126));
     CHECK(grows("NEXT", 127, 3, 15, 0x01, 124, 129) && grows("NEXT", 130, 3, 15, 0x01, 124, 132));
     CHECK(both_extend("LONG") == VTOC_E_EXTENTS);
