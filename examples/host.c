@@ -218,8 +218,8 @@ static void rename_set(const char *old_text, const char *new_text, uint32_t want
 }
 
 /* Reads the labels of a data set and prints its extents, which lie in the format 1 and, from the fourth on, in the format 3; then
-   its expiry date. */
-static void obtain(const char *text)
+   its expiry date. Returns the number of extents. */
+static uint32_t obtain(const char *text)
 {
     uint8_t name[VTOC_NAME_LENGTH], labels[VTOC_LABELS_LENGTH];
     vtoc_name_from_text(name, text);
@@ -235,6 +235,7 @@ static void obtain(const char *text)
     }
     printf("      ");
     print_expiry(labels);
+    return labels[VTOC_LABEL_EXTENTS];
 }
 
 /* The expiry dates of a volume, from its format 1s. */
@@ -429,8 +430,16 @@ int main(int count, char **arguments)
     obtain("SURVEY.FLT0318.PHOTO");
     place(no_date, "SURVEY.FLT0318.STRIP01", 55, 24);
     check(table == tables[1], "one piece is better than two");
+    say("photographs come and come: the strip grows three times, each time from its last track on, and stays in one extent");
+    for (unsigned i = 0; i < 3; i++)
+        extend("SURVEY.FLT0318.STRIP01", VTOC_OK);
+    check(obtain("SURVEY.FLT0318.STRIP01") == 1, "what touches is joined");
     place(no_date, "SURVEY.FLT0318.NAV", 20, 0);
     check(table == tables[0], "of equal offers the first");
+    say("on this volume the index grows: into the shortest gap that holds 8 tracks, into the next, and on from its last track");
+    for (unsigned i = 0; i < 4; i++)
+        extend("SURVEY.INDEX", VTOC_OK);
+    check(obtain("SURVEY.INDEX") == 3, "four pieces, of which two are joined");
     space();
     list_dates();
 

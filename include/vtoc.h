@@ -17,6 +17,12 @@
  * of a refusal (1 to 14, below). Any bytes, numbers and lengths may be handed over: every call ends in one of the two.
  *
  * WHAT IS NEW
+ * Version 401: vtoc_extend joins what touches. Where its first piece begins on the track after the data set's last one, the last
+ * extent is lengthened, and that piece adds none. No signature changed. A host that has the extents from the labels stays as it is.
+ *   - A host that keeps extents of its own, by appending the pieces of the answer, must join too, or obtain the labels again. The
+ *     answer has the pieces as before, the joined one too.
+ *   - VTOC_E_EXTENTS (10), and VTOC_E_VTOC_FULL (11) for want of a format 3, come later: extents are counted after joining.
+ *   - Volumes of earlier versions are taken as they are. Extents that touch there stay apart.
  * Version 400: expiry dates. Every host must change, and every file of it be compiled anew: no linker sees that an old one lacks
  * an argument.
  *   - vtoc_allocate and its preview have an expiry date after option, four bytes. As before: vtoc_no_expiry(), four zeros.
@@ -111,8 +117,8 @@ extern "C" {
 
 /* ---- Version ------------------------------------------------------------------------------------------------------------ */
 
-#define VTOC_VERSION 400 /* of this header, 100 x major + minor: a new major number where a host must change, else a new minor */
-#define VTOC_REQUESTS 5  /* how many of document 02's requests are in, from the first on */
+#define VTOC_VERSION 401 /* of this header, 100 x major + minor: a new major number where a host must change, else a new minor */
+#define VTOC_REQUESTS 6  /* how many of document 02's requests are in, from the first on */
 
 /* ---- Lengths, in bytes unless said otherwise ---------------------------------------------------------------------------- */
 
@@ -208,11 +214,13 @@ extern "C" {
    smaller amount, or tracks in place of cylinders; scratch or release first. */
 #define VTOC_E_NO_SPACE 9
 
-/* 10, extents: vtoc_extend, the data set would have more than 16. Copy it into one allocated in fewer pieces. */
+/* 10, extents: vtoc_extend, the data set would have more than 16; a piece that is joined is none. Copy it into one allocated in
+   fewer pieces. */
 #define VTOC_E_EXTENTS 10
 
-/* 11, VTOC full: too few free records for the labels and format 5s that the call needs, those that it frees counted. Scratch a
-   data set; for more records the volume must be initialised with a larger VTOC. vtoc_scratch never answers it. */
+/* 11, VTOC full: too few free records for the labels and format 5s that the call needs, those that it frees counted. vtoc_extend
+   needs one for a format 3 where the data set comes to more than 3 extents; a piece that is joined is none. Scratch a data set; for
+   more records the volume must be initialised with a larger VTOC. vtoc_scratch never answers it. */
 #define VTOC_E_VTOC_FULL 11
 
 /* 12, TTR: vtoc_release, the TTR is wider than three bytes, TT + 1 is above the tracks of the data set, or R is 0 with TT above
@@ -255,8 +263,11 @@ uint32_t vtoc_allocate(uint8_t *VTOC_RESTRICT table, size_t table_length, const 
                        uint8_t *VTOC_RESTRICT answer, size_t answer_length);
 
 /*
- * Grants the secondary amount once more, without an option; the new pieces follow the extents that the data set has, and are not
- * joined to them. The answer has the tracks granted and the pieces. Refusals: 2, 3, 4, 5, 8, 9, 10, 11.
+ * Grants the secondary amount once more, without an option. The new pieces become extents after those that the data set has; but
+ * where the first one begins on the track after the end of the last extent, that extent is lengthened instead. Its type stays X'81'
+ * only if the piece is X'81' too, as those of a cylinder file are; else it is X'01'. No piece is preferred because it touches. The
+ * answer has the tracks granted and the pieces, the joined one too; the extents are in the labels (vtoc_obtain).
+ * Refusals: 2, 3, 4, 5, 8, 9, 10, 11.
  */
 VTOC_NODISCARD
 uint32_t vtoc_extend(uint8_t *VTOC_RESTRICT table, size_t table_length, const uint8_t *name, size_t name_length,
@@ -327,7 +338,8 @@ uint32_t vtoc_preview_allocate(const uint8_t *table, size_t table_length, const 
                                uint32_t amount, uint32_t secondary, uint32_t option, const uint8_t *expiry,
                                size_t expiry_length, uint8_t *VTOC_RESTRICT answer, size_t answer_length);
 
-/* The tracks and pieces that the next vtoc_extend would grant. */
+/* The tracks and pieces that the next vtoc_extend would grant. Whether the first would be joined, the labels tell: it is where it
+   begins on the track after the end of the last extent. */
 VTOC_NODISCARD
 uint32_t vtoc_preview_extend(const uint8_t *table, size_t table_length, const uint8_t *name, size_t name_length,
                              uint8_t *VTOC_RESTRICT answer, size_t answer_length);
@@ -369,7 +381,7 @@ static inline uint32_t vtoc_answer_tracks(const uint8_t *answer)
     return vtoc_two(answer);
 }
 
-/* allocate and extend: the number of pieces, 1 to 5. */
+/* allocate and extend: the number of pieces, 1 to 5. An extend may have joined the first of them to an extent. */
 static inline uint32_t vtoc_answer_pieces(const uint8_t *answer)
 {
     return answer[2];

@@ -16,8 +16,8 @@
 
 #define IS(constant, number) typedef char constant##_is_not_##number[(constant) == (number) ? 1 : -1]
 
-IS(VTOC_VERSION, 400);
-IS(VTOC_REQUESTS, 5);
+IS(VTOC_VERSION, 401);
+IS(VTOC_REQUESTS, 6);
 IS(VTOC_RECORD_LENGTH, 140);
 IS(VTOC_LEAST_RECORDS, 3);
 IS(VTOC_MOST_RECORDS, 468);

@@ -1,7 +1,8 @@
 /*
  * promises.c: what include/vtoc.h tells hosts they may do, done with the library. One buffer for two that are only read; a file
  * closed in the table; the space options; what a release keeps; previews beside their calls, on a table that cannot be written;
- * expiry dates; the header's limits, its readers and other inline functions on tables and labels that the library writes.
+ * what an extend joins; expiry dates; the header's limits, its readers and other inline functions on tables and labels that the
+ * library writes.
  *
  *   cc -std=c99 -Iinclude tests/promises.c target/staticlib/libvtoc.a -o target/promises && target/promises
  */
@@ -322,19 +323,35 @@ static uint32_t release(const char *text, uint32_t tt, uint32_t r)
     return vtoc_release(table, LENGTH, name_of(text), 44, vtoc_ttr(tt, r), answer, sizeof answer);
 }
 
-/* Whether a release at TT, R gives back so many tracks, stores the TTR as it is, and leaves a last extent of this number, type,
-   first and last track. */
+/* Whether a data set has a last extent of this number, type, first and last track. Its labels are obtained. */
+static int ends_with(const char *text, uint32_t e, uint8_t type, uint32_t first, uint32_t last)
+{
+    const uint8_t *extent = vtoc_label_extent(labels, e);
+    CHECK(obtain(text) == VTOC_OK);
+    return labels[VTOC_LABEL_EXTENTS] == e + 1 && extent[VTOC_EXTENT_TYPE] == type && extent[VTOC_EXTENT_NUMBER] == e
+           && vtoc_track(extent + VTOC_EXTENT_FIRST, H) == first && vtoc_track(extent + VTOC_EXTENT_LAST, H) == last;
+}
+
+/* Whether a release at TT, R gives back so many tracks, stores the TTR as it is, and leaves this last extent. */
 static int gives_back(const char *text, uint32_t tt, uint32_t r, uint32_t tracks, uint32_t e, uint8_t type, uint32_t first,
                       uint32_t last)
 {
-    const uint8_t *extent;
     if (release(text, tt, r) != VTOC_OK || vtoc_answer_tracks(answer) != tracks || vtoc_answer_pieces(answer) != 0)
         return 0;
-    CHECK(obtain(text) == VTOC_OK);
-    extent = vtoc_label_extent(labels, e);
-    return vtoc_label_last_block(labels) == tt * 256 + r && labels[VTOC_LABEL_EXTENTS] == e + 1
-           && extent[VTOC_EXTENT_TYPE] == type && extent[VTOC_EXTENT_NUMBER] == e
-           && vtoc_track(extent + VTOC_EXTENT_FIRST, H) == first && vtoc_track(extent + VTOC_EXTENT_LAST, H) == last;
+    return ends_with(text, e, type, first, last) && vtoc_label_last_block(labels) == tt * 256 + r;
+}
+
+/* As versions before 401 left it: the last extent of a data set, its first or second, in two that touch. The latter begins at this
+   track. */
+static void split_last(const char *text, uint32_t track)
+{
+    uint8_t *label = label_of(text), *extent = label + 105 + 10 * (label[VTOC_LABEL_EXTENTS] - 1);
+    memcpy(extent + 10, extent, 10);
+    vtoc_cchh(extent + VTOC_EXTENT_LAST, track - 1, H);
+    extent[10 + VTOC_EXTENT_NUMBER]++;
+    vtoc_cchh(extent + 10 + VTOC_EXTENT_FIRST, track, H);
+    label[VTOC_LABEL_EXTENTS]++;
+    CHECK(vtoc_lspace(table, LENGTH, answer, sizeof answer) == VTOC_OK);
 }
 
 /* The volume of three data sets: FLT.A has tracks 1 to 4, FLT.B cylinders 2 and 3 (10 to 19), FLT.C absolute 100 to 108. */
@@ -379,6 +396,7 @@ static void in_one_cylinder(uint8_t unit)
     CHECK(allocate("NINE", VTOC_ABSOLUTE, 9, 1, 0) == VTOC_OK && allocate("TEN", VTOC_ABSOLUTE, 10, 1, 0) == VTOC_OK);
     CHECK(allocate("HIGH", VTOC_ABSOLUTE, 14, 186, 0) == VTOC_OK && allocate("PLOT", VTOC_TRACKS, 0, 2, 1) == VTOC_OK);
     CHECK(extend("PLOT") == VTOC_OK && vtoc_answer_start(answer, 0) == 13);
+    split_last("PLOT", 13);
     CHECK(scratch("TEN") == VTOC_OK);
     CHECK(extend("PLOT") == VTOC_OK && vtoc_answer_start(answer, 0) == 10);
     set_unit("PLOT", unit);
@@ -387,9 +405,12 @@ static void in_one_cylinder(uint8_t unit)
 /* By the list of the data set, from extent to extent. */
 static void releases_by_list(void)
 {
-    /* FLT.B grows by 20 to 24, in an extent of its own: another cylinder, which is not kept with the one before. */
+    /* FLT.B grows by 20 to 24: another cylinder, which is not kept with the one before, be it in one extent with it or not. */
     volume();
     CHECK(extend("FLT.B") == VTOC_OK && vtoc_answer_start(answer, 0) == 20);
+    CHECK(gives_back("FLT.B", 11, 1, 0, 0, 0x81, 10, 24) && gives_back("FLT.B", 7, 1, 5, 0, 0x81, 10, 19));
+    CHECK(extend("FLT.B") == VTOC_OK && vtoc_answer_start(answer, 0) == 20);
+    split_last("FLT.B", 20);
     CHECK(gives_back("FLT.B", 11, 1, 0, 1, 0x81, 20, 24) && gives_back("FLT.B", 7, 1, 5, 0, 0x81, 10, 19));
 
     /* 13 follows 12, and 10 does not follow 13. */
@@ -405,6 +426,7 @@ static void releases_by_list(void)
     CHECK(allocate("NINE", VTOC_ABSOLUTE, 9, 2, 0) == VTOC_OK && allocate("HIGH", VTOC_ABSOLUTE, 18, 182, 0) == VTOC_OK);
     CHECK(allocate("PLOT", VTOC_TRACKS, 0, 1, 6) == VTOC_OK && vtoc_answer_start(answer, 0) == 11);
     CHECK(extend("PLOT") == VTOC_OK && vtoc_answer_start(answer, 0) == 12);
+    split_last("PLOT", 12);
     set_unit("PLOT", 0xC0);
     CHECK(gives_back("PLOT", 0, 1, 3, 1, 0x01, 12, 14));
 
@@ -564,23 +586,26 @@ static void previews_refused(void)
     CHECK(both_release("FLT.A", vtoc_ttr(4, 1)) == VTOC_E_TTR && both_release("FLT.A", vtoc_ttr(1, 0)) == VTOC_E_TTR);
     CHECK(both_release("FLT.A", vtoc_ttr(0, 256)) == VTOC_E_TTR);
 
+    /* Two that grow in turns, so that none joins. */
+    CHECK(both_allocate(VTOC_NO_OPTION, "FLT.D", VTOC_CYLINDERS, 0, 1, 1) == VTOC_OK);
     for (unsigned extents = 1; extents < 16; extents++)
-        CHECK(both_extend("FLT.B") == VTOC_OK);
+        CHECK(both_extend("FLT.B") == VTOC_OK && both_extend("FLT.D") == VTOC_OK);
     CHECK(both_extend("FLT.B") == VTOC_E_EXTENTS);
-    CHECK(both_allocate(VTOC_ALX, "FLT.D", VTOC_TRACKS, 0, 1, 0) == VTOC_OK && both_extend("FLT.A") == VTOC_E_NO_SPACE);
+    CHECK(both_allocate(VTOC_ALX, "FLT.E", VTOC_TRACKS, 0, 1, 0) == VTOC_OK && both_extend("FLT.A") == VTOC_E_NO_SPACE);
 }
 
 /* A volume without a free record, and with 26 free extents, as many as a format 5 holds. EDGE has tracks 1 to 6, GROW three
-   extents. */
+   extents, which do not touch. */
 static void full_vtoc(void)
 {
     static const char *const stay[2] = {"STAY1", "STAY2"}, *const go[2] = {"GO1", "GO2"};
     char filler[] = "FILL.A";
     CHECK(initialise() == VTOC_OK && allocate("EDGE", VTOC_ABSOLUTE, 1, 6, 0) == VTOC_OK);
-    CHECK(allocate("GROW", VTOC_TRACKS, 0, 1, 1) == VTOC_OK && extend("GROW") == VTOC_OK && extend("GROW") == VTOC_OK);
+    CHECK(allocate("GROW", VTOC_TRACKS, 0, 1, 1) == VTOC_OK);
     /* Two by two they have every other track, 13 each; what goes leaves 13 gaps. */
     for (unsigned i = 0; i < 2; i++) {
         CHECK(allocate(stay[i], VTOC_TRACKS, 0, 1, 1) == VTOC_OK && allocate(go[i], VTOC_TRACKS, 0, 1, 1) == VTOC_OK);
+        CHECK(extend("GROW") == VTOC_OK);
         for (unsigned extents = 1; extents < 13; extents++)
             CHECK(extend(stay[i]) == VTOC_OK && extend(go[i]) == VTOC_OK);
     }
@@ -601,6 +626,112 @@ static void previews_of_a_full_vtoc(void)
     CHECK(both_release("STAY1", vtoc_ttr(11, 1)) == VTOC_OK);        /* one less needs none */
     CHECK(both_scratch("FILL.A") == VTOC_OK);
     CHECK(both_extend("GROW") == VTOC_OK && both_release("EDGE", vtoc_ttr(2, 1)) == VTOC_OK);
+}
+
+/* ---- What an extend joins ------------------------------------------------------------------------------------------------ */
+
+/* Whether an extend, which its preview foretells, grants a first piece of this start and count, and leaves this last extent. */
+static int grows(const char *text, uint32_t start, uint32_t count, uint32_t e, uint8_t type, uint32_t first, uint32_t last)
+{
+    if (both_extend(text) != VTOC_OK || vtoc_answer_start(answer, 0) != start || vtoc_answer_count(answer, 0) != count)
+        return 0;
+    return ends_with(text, e, type, first, last);
+}
+
+/* The volume of three data sets, where FLT.A has tracks 1 to 4, FLT.B 10 to 19. */
+static void extends(void)
+{
+    /* To the end of the gap, then into another one, and on there. The answer has the piece all the same. */
+    volume();
+    CHECK(grows("FLT.A", 5, 2, 0, 0x01, 1, 6) && vtoc_answer_tracks(other_answer) == 2 && vtoc_answer_pieces(other_answer) == 1);
+    CHECK(grows("FLT.A", 20, 2, 1, 0x01, 20, 21) && grows("FLT.A", 22, 2, 1, 0x01, 20, 23));
+    CHECK(gives_back("FLT.A", 6, 1, 3, 1, 0x01, 20, 20) && grows("FLT.A", 21, 2, 1, 0x01, 20, 22));
+
+    /* Extents that touch, from an earlier version, stay two. */
+    volume();
+    split_last("FLT.A", 3);
+    CHECK(grows("FLT.A", 5, 2, 1, 0x01, 3, 6) && vtoc_track(vtoc_label_extent(labels, 0) + VTOC_EXTENT_LAST, H) == 2);
+
+    /* X'81' only where both are: of a cylinder file; not where the extent is X'01', nor where the piece is. */
+    volume();
+    CHECK(grows("FLT.B", 20, 5, 0, 0x81, 10, 24));
+    volume();
+    CHECK(allocate("FLT.D", VTOC_TRACKS, 0, 15, 1) == VTOC_OK);
+    set_unit("FLT.D", 0xC0);
+    CHECK(grows("FLT.D", 35, 5, 0, 0x01, 20, 39));
+    volume();
+    CHECK(allocate("FLT.D", VTOC_ABSOLUTE, 5, 2, 0) == VTOC_OK && allocate("FLT.E", VTOC_ABSOLUTE, 9, 1, 0) == VTOC_OK);
+    set_unit("FLT.B", 0x80);
+    CHECK(grows("FLT.B", 20, 1, 0, 0x01, 10, 20));
+}
+
+/* By the end of the last extent, which is not the highest track, and by the first piece alone. */
+static void extends_by_list(void)
+{
+    /* FLT.D has 109 to 199, then 20 to 29, and goes on from 29. */
+    volume();
+    CHECK(allocate("FLT.D", VTOC_TRACKS, 0, 101, 30) == VTOC_OK && ends_with("FLT.D", 1, 0x01, 20, 29));
+    CHECK(grows("FLT.D", 30, 30, 1, 0x01, 20, 59));
+
+    /* 190 follows its highest track, not its last one. 30, which does, is in a longer gap and not preferred. */
+    volume();
+    CHECK(allocate("FLT.D", VTOC_TRACKS, 0, 81, 10) == VTOC_OK && allocate("FLT.E", VTOC_ABSOLUTE, 190, 10, 0) == VTOC_OK);
+    CHECK(grows("FLT.D", 20, 10, 1, 0x01, 20, 29) && scratch("FLT.E") == VTOC_OK);
+    CHECK(grows("FLT.D", 190, 10, 2, 0x01, 190, 199));
+
+    /* Two pieces, of which the first is joined; and two of which the second begins after the last extent, and is not. */
+    volume();
+    CHECK(allocate("FLT.E", VTOC_ABSOLUTE, 129, 71, 0) == VTOC_OK && allocate("FLT.D", VTOC_TRACKS, 0, 21, 70) == VTOC_OK);
+    CHECK(grows("FLT.D", 41, 59, 1, 0x01, 109, 119) && vtoc_answer_pieces(other_answer) == 2);
+    CHECK(vtoc_track(vtoc_label_extent(labels, 0) + VTOC_EXTENT_LAST, H) == 99);
+    volume();
+    CHECK(allocate("FLT.D", VTOC_TRACKS, 0, 81, 90) == VTOC_OK);
+    CHECK(grows("FLT.D", 20, 80, 2, 0x01, 190, 199) && vtoc_answer_start(other_answer, 1) == 190);
+}
+
+/* 11: where a piece joins, a data set of three extents needs no format 3, and grows though no record is free. */
+static void extends_in_a_full_vtoc(void)
+{
+    char filler[] = "FILL.A";
+    CHECK(initialise() == VTOC_OK && allocate("EDGE", VTOC_ABSOLUTE, 1, 6, 0) == VTOC_OK);
+    CHECK(allocate("GROW", VTOC_TRACKS, 0, 1, 1) == VTOC_OK && allocate("TEN", VTOC_ABSOLUTE, 10, 1, 0) == VTOC_OK);
+    CHECK(grows("GROW", 11, 1, 1, 0x01, 11, 11) && allocate("TWELVE", VTOC_ABSOLUTE, 12, 1, 0) == VTOC_OK);
+    CHECK(grows("GROW", 13, 1, 2, 0x01, 13, 13));
+    for (uint32_t track = 199; track > 185; track--, filler[5]++)
+        CHECK(allocate(filler, VTOC_ABSOLUTE, track, 1, 0) == VTOC_OK);
+    CHECK(both_allocate(VTOC_NO_OPTION, "NEW", VTOC_TRACKS, 0, 1, 0) == VTOC_E_VTOC_FULL);
+    CHECK(grows("GROW", 14, 1, 2, 0x01, 13, 14) && grows("GROW", 15, 1, 2, 0x01, 13, 15));
+    CHECK(scratch("FILL.A") == VTOC_OK && allocate("SIXTEEN", VTOC_ABSOLUTE, 16, 1, 0) == VTOC_OK);
+    CHECK(both_extend("GROW") == VTOC_E_VTOC_FULL); /* from 17 on: a fourth extent */
+}
+
+/* A host with extents of its own: it appends the pieces of each answer, and joins as the header says. */
+static void extends_of_a_host(void)
+{
+    uint32_t firsts[VTOC_MOST_EXTENTS + VTOC_MOST_PIECES], lasts[VTOC_MOST_EXTENTS + VTOC_MOST_PIECES], count = 1, joined = 0;
+    volume();
+    CHECK(allocate("LONG", VTOC_TRACKS, 0, 5, 7) == VTOC_OK);
+    firsts[0] = vtoc_answer_start(answer, 0);
+    lasts[0] = firsts[0] + vtoc_answer_count(answer, 0) - 1;
+    for (uint32_t turn = 0; both_extend("LONG") == VTOC_OK; turn++) {
+        for (uint32_t i = 0; i < vtoc_answer_pieces(answer); i++) {
+            uint32_t start = vtoc_answer_start(answer, i);
+            if (i == 0 && start == lasts[count - 1] + 1)
+                joined++;
+            else
+                firsts[count++] = start;
+            lasts[count - 1] = start + vtoc_answer_count(answer, i) - 1;
+        }
+        CHECK(ends_with("LONG", count - 1, 0x01, firsts[count - 1], lasts[count - 1]));
+        for (uint32_t e = 0; e < count; e++) {
+            const uint8_t *extent = vtoc_label_extent(labels, e);
+            CHECK(vtoc_track(extent + VTOC_EXTENT_FIRST, H) == firsts[e]);
+            CHECK(vtoc_track(extent + VTOC_EXTENT_LAST, H) == lasts[e]);
+        }
+        if (turn % 3 == 2 && turn < 15) /* another comes between */
+            CHECK(extend("FLT.B") == VTOC_OK);
+    }
+    CHECK(count == 14 && joined == 11);
 }
 
 /* ---- Expiry dates -------------------------------------------------------------------------------------------------------- */
@@ -795,6 +926,7 @@ static void dates_moved(void)
 
 /* ---- Labels of sixteen extents, geometries, limits ----------------------------------------------------------------------- */
 
+/* LONG and NEXT grow in turns, so that none joins. */
 static void sixteen_extents(void)
 {
     uint32_t starts[16], counts[16];
@@ -804,8 +936,9 @@ static void sixteen_extents(void)
         CHECK(result == VTOC_OK && vtoc_answer_pieces(answer) == 1 && vtoc_answer_tracks(answer) == (e == 0 ? 5 : 3));
         starts[e] = vtoc_answer_start(answer, 0);
         counts[e] = vtoc_answer_count(answer, 0);
+        CHECK((e == 0 ? allocate("NEXT", VTOC_TRACKS, 0, 3, 3) : extend("NEXT")) == VTOC_OK);
     }
-    CHECK(extend("LONG") == VTOC_E_EXTENTS);
+    CHECK(both_extend("LONG") == VTOC_E_EXTENTS);
     CHECK(obtain("LONG") == VTOC_OK && labels[VTOC_LABEL_EXTENTS] == 16);
     CHECK(labels[VTOC_LABEL_ID] == 0xF1 && labels[VTOC_LABEL_UNIT] == 0x80 && labels[VTOC_LABEL_SECONDARY + 2] == 3);
     for (uint32_t e = 0; e < 16; e++) {
@@ -814,6 +947,11 @@ static void sixteen_extents(void)
         CHECK(vtoc_track(extent + VTOC_EXTENT_FIRST, H) == starts[e]);
         CHECK(vtoc_track(extent + VTOC_EXTENT_LAST, H) == starts[e] + counts[e] - 1);
     }
+    /* NEXT has 16 too, and what is granted begins behind its last: it still grows. LONG does not. */
+    CHECK(ends_with("NEXT", 15, 0x01, 124, 126));
+    CHECK(grows("NEXT", 127, 3, 15, 0x01, 124, 129) && grows("NEXT", 130, 3, 15, 0x01, 124, 132));
+    CHECK(both_extend("LONG") == VTOC_E_EXTENTS);
+
     CHECK(obtain("FLT.B") == VTOC_OK && vtoc_label_extent(labels, 0)[VTOC_EXTENT_TYPE] == 0x81);
     CHECK(labels[VTOC_LABEL_UNIT] == 0xC0);
     CHECK(obtain("FLT.C") == VTOC_OK && labels[VTOC_LABEL_UNIT] == 0x00);
@@ -883,6 +1021,10 @@ int main(void)
     previews_of_parts();
     previews_refused();
     previews_of_a_full_vtoc();
+    extends();
+    extends_by_list();
+    extends_in_a_full_vtoc();
+    extends_of_a_host();
     dates_stored();
     dates_of_scratches();
     dates_of_earlier_volumes();

@@ -89,9 +89,23 @@ static void extend(const uint8_t *name)
     result = vtoc_extend(table, sizeof table, name, VTOC_NAME_LENGTH, answer, sizeof answer);
 }
 
+static unsigned extents_of(const uint8_t *name)
+{
+    return table[vtoc_find_slot(table, sizeof table, name) * VTOC_RECORD_LENGTH + VTOC_LABEL_EXTENTS];
+}
+
 static void *do_extend(void *unused)
 {
     extend(one);
+    return unused;
+}
+
+/* The cylinder file of 15 extents goes on from its last track. */
+static void *do_extend_joined(void *unused)
+{
+    extend(plot);
+    if (result == VTOC_OK && extents_of(plot) != 15)
+        result = 99;
     return unused;
 }
 
@@ -199,7 +213,7 @@ int main(void)
     } calls[] = {{"lspace", do_lspace},   {"obtain", do_obtain},   {"rename", do_rename},     {"extend", do_extend},
                  {"release", do_release}, {"scratch", do_scratch}, {"allocate", do_allocate}, {"CONTIG", do_contig},
                  {"MXIG", do_mxig},       {"ALX", do_alx},         {"cylinders", do_release_plot},
-                 {"initialise", do_initialise},
+                 {"joined", do_extend_joined},                     {"initialise", do_initialise},
                  {"preview allocate", do_preview_allocate},        {"preview extend", do_preview_extend},
                  {"preview release", do_preview_release},          {"preview scratch", do_preview_scratch},
                  {"date to stored", do_date_to_stored},            {"date to packed", do_date_to_packed}};
@@ -211,7 +225,8 @@ int main(void)
     do_date_to_stored(NULL);
     memcpy(stored, answer, sizeof stored);
 
-    /* The largest table: 400 data sets with a free track after each, the first of 15 extents; and a cylinder file of 15. */
+    /* The largest table: 400 data sets with a free track after each, the first of 15 extents; and a cylinder file of 15. These two
+       grow in turns, so that no piece is joined. */
     do_initialise(NULL);
     if (result != VTOC_OK || allocate(0, VTOC_TRACKS, 0, 300, 300) != VTOC_OK || allocate(998, VTOC_CYLINDERS, 0, 1, 1) != VTOC_OK)
         return 2;
@@ -228,6 +243,8 @@ int main(void)
         if (result != VTOC_OK)
             return 2;
     }
+    if (extents_of(one) != 15 || extents_of(plot) != 15)
+        return 2;
     memcpy(before, table, sizeof table);
     for (size_t i = 0; i < sizeof calls / sizeof calls[0]; i++) {
         size_t need;
