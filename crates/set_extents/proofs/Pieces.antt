@@ -37,7 +37,7 @@ at-map f (x ∷ xs) zero d b u = refl
 at-map f (x ∷ xs) (suc k) d b u = at-map f xs k d b (omega arith)
 
 module _ (count : ℕ) (rows : List (List ℕ)) (len : length rows ≡ 5) (most : count ≤ 5) (ps : List Run) (e : take count rows ≡ map row ps) where
-  runs-length : length ps ≡ count
+  pub runs-length : length ps ≡ count
   runs-length = sym (length-map ps row) ∙ ap length (sym e) ∙ length-take-le count rows (omega arith)
 
   -- piece k starts at track s and has c tracks
@@ -45,7 +45,7 @@ module _ (count : ℕ) (rows : List (List ℕ)) (len : length rows ≡ 5) (most 
     row-is : getD rows k [] ≡ row (getD ps k noRun)
     row-is = let l = runs-length in sym (getD-take count rows k [] u) ∙ ap (λ (x : List (List ℕ)). getD x k []) e ∙ at-map row ps k noRun [] (omega arith)
 
-    run-is : run s c ≡ getD ps k noRun
+    pub run-is : run s c ≡ getD ps k noRun
     run-is =
         let a = first ∙ ap (λ (x : List ℕ). getD x 0 0) row-is in
         let b = size ∙ ap (λ (x : List ℕ). getD x 1 0) row-is in
