@@ -43,6 +43,10 @@ touches-last (e ∷ []) (suc n) s h = absurd (omega arith)
 touches-last (e ∷ f ∷ es) zero s h = absurd (omega arith)
 touches-last (e ∷ f ∷ es) (suc n) s h = touches-last (f ∷ es) n s (omega arith)
 
+-- what was told of track t, of the same extents and the same track
+pub told : (es fs : List Extent) (s t : ℕ) (joins b : Bool) → es ≡ fs → s ≡ t → joins ≡ touches es t → joins ≡ b → touches fs s ≡ b
+told es fs s t joins b own e f g = ap₂ touches (sym own) e ∙ sym f ∙ g
+
 part-some : (b s c : ℕ) → 1 ≤ c → partOf b s c ≡ extent b (run s c) ∷ []
 part-some b s zero h = absurd (omega arith)
 part-some b s (suc c) h = refl
@@ -69,7 +73,13 @@ module _ (g : Geometry) (f1 f3 : List ℕ) (n : ℕ) (d : SetIn g f1 f3 n) where
   pub some-extent : (start : ℕ) → touches es start ≡ true → 1 ≤ n
   some-extent start t = let a = touches-some es start t in let l = read-length g f1 f3 n in omega arith
 
+  pub fewer : (l : Label) → es ≡ l .extents → n - 1 ≤ length (l .extents)
+  fewer l own = let a = ap length own in let b = read-length g f1 f3 n in omega arith
+
   module _ (s c : ℕ) (q : run s c ≡ last .over) where
+    pub last-full : 1 ≤ n → 1 ≤ c
+    last-full h = let a = ap (λ (r : Run). r .count) q in omega (arith, last-in h .1)
+
     pub touches-is : 1 ≤ n → (a b : ℕ) → a ≡ b → eqb a (s + c) ≡ touches es b
     touches-is h a b e =
         ap₂ eqb e (ap (λ (r : Run). r .start + r .count) q ∙ ap trackAfter (sym (last-read h)))
@@ -88,7 +98,7 @@ module _ (g : Geometry) (f1 f3 : List ℕ) (n : ℕ) (d : SetIn g f1 f3 n) where
           sym (take-all n es (omega arith)) ∙ ap (λ (k : ℕ). take k es) (sym e) ∙ take-suc es (n - 1) noExtent (omega arith)
 
       -- what `cut_records` writes: the first extents, and the last one up to the end of the piece
-      pub is-longer : (kind count b : ℕ) → b ≡ cond (eqb kind 0x81) (last .typeByte) 0x01 → 1 ≤ c → (l : Label) → es ≡ l .extents
+      is-longer : (kind count b : ℕ) → b ≡ cond (eqb kind 0x81) (last .typeByte) 0x01 → 1 ≤ c → (l : Label) → es ≡ l .extents
           → shortened (n - 1) b s (start + count - s) l ≡ longer (extent kind (run start count) ∷ []) l
       is-longer kind count b e full l own =
           let p : Extent = extent kind (run start count) in
@@ -107,6 +117,10 @@ module _ (g : Geometry) (f1 f3 : List ℕ) (n : ℕ) (d : SetIn g f1 f3 n) where
           ap (λ (y : List Extent). withExtents (take (n - 1) y ++ partOf b s (start + count - s)) (l .ttr) l) (sym own)
           ∙ ap (λ (y : List Extent). withExtents y (l .ttr) l) new
           ∙ ap (λ (y : List Extent). withExtents (joined y (p ∷ [])) (l .ttr) l) own
+
+      pub written-longer : {r1 r3 : List ℕ} (kind count b : ℕ) → b ≡ cond (eqb kind 0x81) (last .typeByte) 0x01 → 1 ≤ c → (l : Label) → es ≡ l .extents
+          → InRecords g (shortened (n - 1) b s (start + count - s) l) r1 r3 → InRecords g (longer (extent kind (run start count) ∷ []) l) r1 r3
+      written-longer {r1} {r3} kind count b e full l own x = subst (λ (m : Label). InRecords g m r1 r3) (is-longer kind count b e full l own) x
 
 -- ---- the pieces behind the first
 

@@ -83,11 +83,3 @@ pub cylinders-stay : (h unit ttr : ℕ) (es : List Extent) → 1 ≤ h → unit 
     → (r : ℕ) → r ≡ keptFrom h (ttr / 256 + 1) 0 (tracksOf (overs es)) → r ≡ tracksKept h unit ttr (tracksOf (overs es))
 cylinders-stay h unit ttr es pos u fits r q =
     q ∙ sym (kept-cylinders h unit ttr (tracksOf (overs es)) pos u (let l = tracks-length (overs es) in omega arith))
-
--- ---- the type of the extent that is cut
-
-pub plain-type : (unit : ℕ) (e : Extent) → (unit ≡ 0xC0 → ⊥) → 0x01 ≡ cutType unit e
-plain-type unit e u = rw (ne-eqb unit 0xC0 u)
-
-pub own-type : (unit : ℕ) (e : Extent) → unit ≡ 0xC0 → e .typeByte ≡ cutType unit e
-own-type unit e u = rw (eq-eqb unit 0xC0 u)

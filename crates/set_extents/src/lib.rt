@@ -332,7 +332,7 @@ fn keep_third(rec: &mut [u8; 140], n: usize)
 // Makes the records of a label those of what stays of it.
 pub fn cut_records(f1: &mut [u8; 140], f3: &mut [u8; 140], g: dscb::Geometry, k: Kept)
     requires { ⌜ (length (now f1) ≡ 140) × (length (now f3) ≡ 140) × (k .whole ≤ 16) × (1 ≤ k .count → k .whole < 16) × (k .start + k .count ≤ 65535) × Limits (geometryOf g) ⌝ }
-    ensures { λ _. ⌜ ((l : Label) → k .whole ≤ length (l .extents) → InRecords (geometryOf g) l (now (f1 .entry)) (now (f3 .entry)) → InRecords (geometryOf g) (shortened (k .whole) (k .«type_byte») (k .start) (k .count) l) (now (f1 .exit)) (now (f3 .exit))) × (length (now (f1 .exit)) ≡ 140) ⌝ }
+    ensures { λ _. ⌜ ((l : Label) → k .whole ≤ length (l .extents) → InRecords (geometryOf g) l (now (f1 .entry)) (now (f3 .entry)) → InRecords (geometryOf g) (shortened (k .whole) (k .«type_byte») (k .start) (k .count) l) (now (f1 .exit)) (now (f3 .exit))) × (length (now (f1 .exit)) ≡ 140) × (length (now (f3 .exit)) ≡ 140) ⌝ }
 {
     dscb_write::keep_extents1(f1, k.whole);
     keep_third(f3, k.whole);

@@ -19,7 +19,7 @@ array-copy-out-t14 c = search needs
 returns : tie.Need-returns
 returns c =
     let top = c .before .before .before .before in
-    behind-five (top .args .pieces) (search needs)
+    behind-five (top .args .t1) (search needs)
 
 pub behind-first-spec : {M : Type 1} → statement M
 behind-first-spec =

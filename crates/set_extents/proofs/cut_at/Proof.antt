@@ -30,8 +30,8 @@ extent-at-requires c κs =
     let good = good-read (geometryOf (a .g)) (a .f1 .now) (a .f3 .now) (a .n) (at-loop .loop .e) (p .good) (at-loop-test .loop-test .taken) in
     (p .long1, p .long3, omega (arith, p .most), good .full, omega (arith, good .ends, p .limits .tracksMost))
 
-cut-type-requires : tie.Need-cut-type-requires Inv-loop μ-loop
-cut-type-requires c κs =
+type-if-requires : tie.Need-type-if-requires Inv-loop μ-loop
+type-if-requires c κs =
     let top = c .before .before .before .before .before .before .before in
     (top .pre .long1, top .pre .long3, omega (arith, top .pre .most, c .before .before .before .loop-test .taken))
 
@@ -45,7 +45,7 @@ returns c =
     let g = geometryOf (a .g) in
     let x = at-read g (a .f1 .now) (a .f3 .now) (a .n) (top .pre .good) (at-loop .loop .e) (at-extent-at .extent-at .result .start) (at-extent-at .extent-at .result .count) (at-loop-test .loop-test .taken) (at-extent-at .extent-at .ensures) in
     stays-part g (a .unit) (a .keep) (readExtents (a .g .heads) (a .f1 .now) (a .f3 .now) (a .n)) (at-loop .loop .e) (at-loop .loop .left) (at-extent-at .extent-at .result .start) (at-extent-at .extent-at .result .count) x (at-loop .loop .inv .1)
-    (c .cut-type .result) (c .cut-type .ensures (a .g .heads) ∙ ap (cutType (a .unit)) (sym (read-at g (a .f1 .now) (a .f3 .now) (a .n) (at-loop .loop .e) (at-loop-test .loop-test .taken)))) (c .before .if1 .taken)
+    (c .type-if .result) (c .type-if .ensures (a .g .heads) ∙ ap (cutType (a .unit)) (sym (read-at g (a .f1 .now) (a .f3 .now) (a .n) (at-loop .loop .e) (at-loop-test .loop-test .taken)))) (c .before .if1 .taken)
 
 add-e : tie.Need-add-e Inv-loop μ-loop
 add-e c = search needs
@@ -78,7 +78,7 @@ cut-at-spec =
     μ-loop
     loop-holds
     extent-at-requires
-    cut-type-requires
+    type-if-requires
     returns
     add-e
     loop-less

@@ -24,6 +24,7 @@ returns c =
           without-part (a .k .whole) (a .k .«type_byte») (a .k .start) (a .k .count) l (c .if1 .taken)
           (record { one = one .0 g l h (x .one); three = three .0 g l (x .three) }),
       one .1,
+      three .1,
     )
 
 add-extent-requires : tie.Need-add-extent-requires
@@ -49,6 +50,7 @@ returns-2 c =
           with-part (a .k .whole) (a .k .«type_byte») (a .k .start) (a .k .count) l (at-if1 .if1 .left)
           (more .0 (firstExtents (a .k .whole) l) (first-length (a .k .whole) l h) (record { one = one .0 g l h (x .one); three = three .0 g l (x .three) })),
       more .1,
+      more .2,
     )
 
 pub cut-records-spec : {M : Type 1} → statement M

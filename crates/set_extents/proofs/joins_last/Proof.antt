@@ -1,3 +1,6 @@
+use mathlib.Core.Path.{ap}
+use Rattle.model.specs.Model.{Run}
+use Prim.Native.Nat.{_+_}
 use Rattle.dscb.specs.Forms.{geometryOf}
 use Rattle.set_extents.proofs.Joining.{last-in, no-extent, touches-is}
 use native.Mathlib.Omega.{arith}
@@ -25,7 +28,13 @@ piece-at-requires : tie.Need-piece-at-requires
 piece-at-requires c κs = search needs
 
 add-result : tie.Need-add-result
-add-result c = search needs
+add-result c =
+    let at-extent-at = c .before .before in
+    let at-if1 = at-extent-at .before in
+    let top = at-if1 .before .before .before in
+    let x = last-in (geometryOf (top .args .g)) (top .args .f1 .now) (top .args .f3 .now) (top .args .n) (top .pre) (omega (arith, at-if1 .if1 .left)) in
+    let e = ap (λ (r : Run). r .start + r .count) (at-extent-at .extent-at .ensures) in
+    omega (arith, x .2)
 
 returns-2 : tie.Need-returns-2
 returns-2 c =
