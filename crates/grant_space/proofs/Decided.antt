@@ -9,22 +9,23 @@ use borrow.Author.Tests.{le-leb, lt-leb}
 use lib.Dec.{leb}
 use lib.ListN.{length, take, length-map}
 use Rattle.model.specs.Model.{Extent, Geometry, Label, Run, Volume, extent, overs, total}
-use Rattle.rules.specs.Calls.{Outcome, answer, given, grant, granted, onCopy, refuse, settled}
+use Rattle.rules.specs.Calls.{Outcome, answer, given, grant, granted, joined, longer, onCopy, refuse, settled}
 use Rattle.rules.specs.Entries.{lent, result, written}
-use Rattle.rules.specs.Slots.{settleWith, withExtents}
+use Rattle.rules.specs.Slots.{settleWith}
+use Rattle.rules.specs.Joining.{touches}
 use Rattle.rules.proofs.Previews.{uncopied}
 use Rattle.choose_pieces.specs.Grant.{rowsIn, row}
 use Rattle.request.specs.Request.{typeOf}
 use Rattle.request.proofs.Laws.{Fulfilled, accepted, refused}
-use Rattle.set_extents.specs.Change.{InRecords, granted as more}
+use Rattle.set_extents.specs.Change.{InRecords, SetIn, extentsIn}
 use Rattle.update.specs.declared.Plan.{Plan}
 use Rattle.update.specs.Commit.{Leaves}
 use Rattle.update.proofs.Replies.{grant-foreseen, is-granted}
 use Rattle.grant_space.specs.declared.Holder.{Holder}
 use Rattle.grant_space.specs.declared.Decision.{Decision}
 use Rattle.grant_space.specs.Deciding.{Decides, Planned, Seeks, sought, withPieces}
-use Rattle.grant_space.specs.Granting.{GrantPlans, GrantWrites, Grants, grown}
-use Rattle.grant_space.proofs.Laws.{grant-full, grant-there}
+use Rattle.grant_space.specs.Granting.{GrantPlans, GrantWrites, Grants, extentsThen, firstStart, grown, more}
+use Rattle.grant_space.proofs.Laws.{count-more, first-taken, grant-full, grant-there}
 
 module _ {g : Geometry} {t m s : List ℕ} {h : Holder} {p : List (List ℕ)} (d : Seeks g t m s h p) where
   abbrev v : Volume
@@ -65,24 +66,35 @@ module _ {g : Geometry} {t m s : List ℕ} {h : Holder} {p : List (List ℕ)} (d
       abbrev new : List Extent
       new = map (extent (typeOf (d .amount))) (it .ps)
 
-      together : length (l .extents) + length new ≡ h .extents + count
-      together = let a = length-map (it .ps) (extent (typeOf (d .amount))) in let b = it .number in let c = d .extentsAre in omega arith
+      abbrev set : Holder
+      set = record { slot = h .slot; slot3 = h .slot3; extents = h .extents; count = count; «type_byte» = h .«type_byte»; joins = h .joins }
 
-      pub too-many : 16 < h .extents + count → sought d ≡ refuse 10
+      pub count-least : 1 ≤ count
+      count-least = let a = it .number in let b = it .good .least in omega arith
+
+      joins-first : h .joins ≡ touches (l .extents) (firstStart (take count p))
+      joins-first = d .joinsIs ∙ ap (touches (l .extents)) (sym (first-taken count p count-least))
+
+      together : length (joined (l .extents) new) ≡ extentsThen set
+      together =
+          let a = count-more (typeOf (d .amount)) (l .extents) (it .ps) (take count p) (it .first) (it .good .least) (h .joins) joins-first in
+          let b = it .number in
+          let c = d .extentsAre in
+          omega arith
+
+      pub too-many : 16 < extentsThen set → sought d ≡ refuse 10
       too-many u =
-          let e : leb (length (l .extents) + length new) 16 ≡ false = lt-leb (length (l .extents) + length new) 16 (let w = together in omega arith) in
+          let e : leb (length (joined (l .extents) new)) 16 ≡ false = lt-leb (length (joined (l .extents) new)) 16 (let w = together in omega arith) in
           rule-with _ (it .granted) ∙ rw e
 
-      module _ (fits : h .extents + count ≤ 16) where
-        rule-done : sought d ≡ settled (granted (overs new)) (settleWith v (d .others) (withExtents (l .extents ++ new) (l .ttr) l))
-        rule-done =
-            let e : leb (length (l .extents) + length new) 16 ≡ true = le-leb (length (l .extents) + length new) 16 (let w = together in omega arith) in
-            rule-with _ (it .granted) ∙ rw e
+      module _ (fits : extentsThen set ≤ 16) where
+        few-enough : length (joined (l .extents) new) ≤ 16
+        few-enough = let w = together in omega arith
 
-        abbrev set : Holder
-        set = record { slot = h .slot; slot3 = h .slot3; extents = h .extents; count = count; «type_byte» = h .«type_byte» }
+        rule-done : sought d ≡ settled (granted (overs new)) (settleWith v (d .others) (longer new l))
+        rule-done = let e : leb (length (joined (l .extents) new)) 16 ≡ true = le-leb (length (joined (l .extents) new)) 16 few-enough in rule-with _ (it .granted) ∙ rw e
 
-        label-is : more (h .«type_byte») (it .ps) l ≡ withExtents (l .extents ++ new) (l .ttr) l
+        label-is : more (h .«type_byte») (it .ps) l ≡ longer new l
         label-is = ap (λ (b : ℕ). more b (it .ps) l) (d .typeIs)
 
         pub grants : Grants g t m s set (take count p)
@@ -99,13 +111,14 @@ module _ {g : Geometry} {t m s : List ℕ} {h : Holder} {p : List (List ℕ)} (d
               slot3Is = d .slot3Is;
               extentsAre = d .extentsAre;
               few = d .few;
+              joinsIs = joins-first;
               good = it .good;
               rowsAre = it .first;
               countIs = it .number;
               heldApart = d .heldApart;
               usedSame = d .usedSame;
               stays = d .stays;
-              valid = λ w e. d .valid new (it .granted) (let q = together in omega arith) w (sym (ap (settleWith v (d .others)) label-is) ∙ e);
+              valid = λ w e. d .valid new (it .granted) few-enough w (sym (ap (settleWith v (d .others)) label-is) ∙ e);
             }
 
         outcome : settled (granted (it .ps)) (settleWith v (d .others) (more (h .«type_byte») (it .ps) l)) ≡ sought d
@@ -133,6 +146,9 @@ module _ {g : Geometry} {t m s : List ℕ} {h : Holder} {p : List (List ℕ)} (d
                       s′ = s′;
                       slotSame = refl;
                       slot3Same = refl;
+                      joinsSame = refl;
+                      extentsSame = refl;
+                      least = count-least;
                       few = count-most;
                       most = fits;
                       grants = grants;
@@ -150,7 +166,7 @@ module _ {g : Geometry} {t m s : List ℕ} {h : Holder} {p : List (List ℕ)} (d
   pub declined : (r .refusal ≡ 0 → ⊥) → result (r .refusal) (lent t a′ []) ≡ written (lent t a []) (sought d)
   declined nz = uncopied (d .volume) (lent t a []) (lent t a′ []) (r .refusal) nz (sought d) (x .replied)
 
-  module _ (z : r .refusal ≡ 0) {f1 f3 : List ℕ} (recs : InRecords g (d .label) f1 f3) where
+  module _ (z : r .refusal ≡ 0) {f1 f3 : List ℕ} (recs : InRecords g (d .label) f1 f3) (set-in : SetIn g f1 f3 (h .extents)) (own : extentsIn g f1 f3 (h .extents) ≡ d .label .extents) where
     abbrev y : Planned d m′ c a′ r
     y = x .planned z
 
@@ -165,6 +181,8 @@ module _ {g : Geometry} {t m s : List ℕ} {h : Holder} {p : List (List ℕ)} (d
           plans = y .plans;
           fits = y .fits;
           records = subst (λ (k : Label). InRecords g k f1 f3) (sym (y .labelIs)) recs;
+          set = subst (SetIn g f1 f3) (sym (y .extentsSame)) set-in;
+          extents = ap (extentsIn g f1 f3) (y .extentsSame) ∙ own ∙ ap (λ (k : Label). k .extents) (sym (y .labelIs));
         }
 
     pub put : (t′ : List ℕ) → ((w : GrantWrites g t m′ c (r .plan) (r .set) (take (r .set .count) p) f1 f3) → Leaves (grown (w .grants)) t′)

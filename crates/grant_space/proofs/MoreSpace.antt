@@ -1,6 +1,6 @@
 -- A data set gets more pieces: what is refused, and what is put. Assumes nothing.
 use mathlib.Core.Path.{_≡_, refl, sym, ap, ap₂, _∙_, subst}
-use mathlib.Core.Bool.{true, false, cond}
+use mathlib.Core.Bool.{Bool, true, false, cond}
 use mathlib.Core.Option.{Option, some}
 use mathlib.Core.List.{List, [], _++_}
 use Prim.Native.Nat.{ℕ, _*_, _+_, _≤_, _<_}
@@ -11,11 +11,12 @@ use lib.ListN.{length, take, getD}
 use Rattle.model.specs.Basics.{get3}
 use Rattle.model.specs.Choice.{SpaceOption, noOption}
 use Rattle.model.specs.Model.{Extent, Geometry, Label, Volume, free, held, overs, runsOf, slots, times, tracks}
-use Rattle.rules.specs.Calls.{Amount, Outcome, accept, extendPieces, extendSet, given, granted, inCylinders, inTracks, onCopy, secondaryOf, grant as granting}
+use Rattle.rules.specs.Calls.{Amount, Outcome, accept, extendPieces, extendSet, given, granted, inCylinders, inTracks, joined, longer, onCopy, secondaryOf, grant as granting}
 use Rattle.rules.specs.Entries.{lent, result, written}
+use Rattle.rules.specs.Joining.{touches}
 use Rattle.rules.specs.Ledger.{appends}
 use Rattle.rules.specs.Reading.{read}
-use Rattle.rules.specs.Slots.{settleWith, withExtents, without}
+use Rattle.rules.specs.Slots.{settleWith, without}
 use Rattle.rules.specs.Predicates.{Asks, GoodLabel, Limits, Valid}
 use Rattle.rules.proofs.Grants.{extend-keeps}
 use Rattle.rules.proofs.Kept.{Keeps}
@@ -25,7 +26,7 @@ use Rattle.choose_pieces.specs.Grant.{grantOf}
 use Rattle.request.specs.Request.{piecesOf, typeOf}
 use Rattle.request.proofs.Laws.{secondary-asks}
 use Rattle.set_extents.proofs.Laws.{secondary-is, unit-is}
-use Rattle.set_extents.specs.Change.{InRecords}
+use Rattle.set_extents.specs.Change.{InRecords, SetIn, extentsIn}
 use Rattle.data_set.specs.Held.{SetAt}
 use Rattle.data_set.proofs.Stored.{KnownSet, known}
 use Rattle.open_table.specs.Opening.{Ready}
@@ -37,7 +38,7 @@ use Rattle.update.proofs.Sets.{held-apart, others-stay, slots-same}
 use Rattle.update.specs.Commit.{Leaves}
 use Rattle.grant_space.specs.declared.Decision.{Decision}
 use Rattle.grant_space.specs.declared.Holder.{Holder}
-use Rattle.grant_space.specs.Granting.{GrantWrites, grown}
+use Rattle.grant_space.specs.Granting.{GrantWrites, firstStart, grown}
 use Rattle.grant_space.specs.Deciding.{Decides, Planned, Seeks, sought, withPieces}
 use Rattle.grant_space.specs.Longer.{AsksMore, ExtendForeseen, Extended, Longer}
 use Rattle.grant_space.proofs.Decided.{declined, put, writes}
@@ -103,6 +104,9 @@ module _ {t m s a : List ℕ} {g : Geometry} {k : ℕ} (d : Longer t m s a g k) 
     pub third-inside : third < slots g
     third-inside = x .inside
 
+    pub known-set : SetIn g one three count
+    known-set = it .set
+
     pub one-long : length one ≡ 140
     one-long = it .set .long1
 
@@ -143,16 +147,16 @@ module _ {t m s a : List ℕ} {g : Geometry} {k : ℕ} (d : Longer t m s a g k) 
             let e : leb 1 (l .secondary) ≡ true = le-leb 1 (l .secondary) (let i = sec-is in let w = more .some z in omega arith) in
             rw e (ap₂ (λ (x : SpaceOption) (y : Amount). given (granting (v .geometry) (v .labels) x y) 9 (extendPieces v name l)) (sym (more .optionIs)) (sym amount-is))
 
-        new-valid : (es : List Extent) → chosen ≡ some es → length (l .extents) + length es ≤ 16
-            → (w : Volume) → settleWith v others (withExtents (l .extents ++ es) (l .ttr) l) ≡ some w → Valid w
+        new-valid : (es : List Extent) → chosen ≡ some es → length (joined (l .extents) es) ≤ 16
+            → (w : Volume) → settleWith v others (longer es l) ≡ some w → Valid w
         new-valid es c u w e =
-            let few : leb (length (l .extents) + length es) 16 ≡ true = le-leb (length (l .extents) + length es) 16 u in
+            let few : leb (length (joined (l .extents) es)) 16 ≡ true = le-leb (length (joined (l .extents) es)) 16 u in
             let done : withPieces v others l es ≡ accept (granted (overs es)) w = rw (few, e) in
             subst (Keeps v (appends name)) (rule-is ∙ ap (λ (x : Option (List Extent)). given x 9 (withPieces v others l)) c ∙ done)
             (extend-keeps v (is-ready .valid) name l (d .there .same)) .valid
 
         module _ {p : List (List ℕ)} (f : (ls : List Label) → Shows m (tracks g) (held g ls) → Listed g t (free g ls) → p ≡ grantOf (piecesOf g ls o q))
-            (h : Holder) (eh : (h .slot ≡ k) × (h .slot3 ≡ third) × (h .extents ≡ count) × (h .«type_byte» ≡ typeOf q)) where
+            {joins : Bool} (jo : joins ≡ touches (extentsIn g one three count) (firstStart p)) (h : Holder) (eh : (h .slot ≡ k) × (h .slot3 ≡ third) × (h .extents ≡ count) × (h .joins ≡ joins) × (h .«type_byte» ≡ typeOf q)) where
           pub seeks : Seeks g t m s h p
           seeks =
               record {
@@ -168,8 +172,9 @@ module _ {t m s a : List ℕ} {g : Geometry} {k : ℕ} (d : Longer t m s a g k) 
                 slot3Is = eh .1 ∙ it .slot3;
                 extentsAre = sym (eh .2 ∙ it .many);
                 few = good .few;
+                joinsIs = eh .3 ∙ jo ∙ ap (λ (es : List Extent). touches es (firstStart p)) (it .extents);
                 asks = subst (λ (y : Geometry). Asks y q) (d .geometryIs) asks;
-                typeIs = eh .3;
+                typeIs = eh .4;
                 chosen = f (v .labels) shows lists ∙ ap (λ (y : Geometry). grantOf (piecesOf y (v .labels) o q)) (d .geometryIs);
                 heldApart = held-there;
                 usedSame = slots-same v (is-ready .valid) name l (d .there .same) l refl refl;
@@ -202,9 +207,16 @@ module _ {t m s a : List ℕ} {g : Geometry} {k : ℕ} (d : Longer t m s a g k) 
               unfolding seeks
               records = it .records
 
+              set-in : SetIn g one three (h .extents)
+              set-in = subst (SetIn g one three) (sym (eh .2)) (it .set)
+
+              own : extentsIn g one three (h .extents) ≡ seeks .label .extents
+              unfolding seeks
+              own = ap (extentsIn g one three) (eh .2) ∙ it .extents
+
               -- what `write_grant` asks
               pub grant-writes : GrantWrites g t m′ c (r .plan) (r .set) (take (r .set .count) p) one three
-              grant-writes = writes seeks (y seeks) rz records
+              grant-writes = writes seeks (y seeks) rz records set-in own
 
               pub lengthened : (t′ : List ℕ) → ((w : GrantWrites g t m′ c (r .plan) (r .set) (take (r .set .count) p) one three) → Leaves (grown (w .grants)) t′) → Extended d 0 t′ a′
-              lengthened t′ w = put seeks (y seeks) rz records t′ w ∙ ap (written (lent t a [])) sought-is
+              lengthened t′ w = put seeks (y seeks) rz records set-in own t′ w ∙ ap (written (lent t a [])) sought-is

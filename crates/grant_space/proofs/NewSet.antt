@@ -1,6 +1,6 @@
 -- A new data set gets its pieces: what is refused, and what is put. Assumes nothing.
 use mathlib.Core.Path.{_≡_, refl, sym, ap, ap₂, _∙_, subst}
-use mathlib.Core.Bool.{true}
+use mathlib.Core.Bool.{true, false}
 use mathlib.Core.Option.{Option, none, some}
 use mathlib.Core.List.{List, [], _∷_}
 use Prim.Native.Nat.{ℕ, _*_, _+_, _≤_, _<_}
@@ -14,7 +14,7 @@ use Rattle.model.proofs.Lists.{and-l, and-r, is-true}
 use Rattle.rules.specs.Calls.{Amount, Outcome, absolute, allocateBy, allocatePieces, given, granted, inCylinders, inRange, inTracks, newSet, onCopy, settled, unitOf, grant as granting}
 use Rattle.rules.specs.Entries.{lent, written}
 use Rattle.rules.specs.Ledger.{adds}
-use Rattle.rules.specs.Reading.{read}
+use Rattle.rules.specs.Reading.{read, readExtents}
 use Rattle.rules.specs.Slots.{settleWith}
 use Rattle.rules.proofs.Grant.{range-asks}
 use Rattle.rules.specs.Predicates.{Asks, Limits, Valid}
@@ -26,7 +26,7 @@ use Rattle.choose_pieces.specs.Grant.{grantOf}
 use Rattle.dscb_write.specs.Labels.{Format1, Format3, newLabel}
 use Rattle.request.specs.Request.{piecesOf, typeOf}
 use Rattle.request.proofs.Laws.{fulfilled-good}
-use Rattle.set_extents.specs.Change.{InRecords}
+use Rattle.set_extents.specs.Change.{InRecords, SetIn, extentsIn}
 use Rattle.open_table.specs.Opening.{Ready}
 use Rattle.open_table.proofs.Laws.{ready}
 use Rattle.free_extents.specs.FreeList.{Listed}
@@ -114,10 +114,10 @@ module _ {t m s name at a : List ℕ} {g : Geometry} {o : SpaceOption} {amount :
 
   choice-is : (x : Option (List Extent)) → chosen ≡ x → given x 9 (withPieces v ls bare) ≡ given x 9 (there v)
   choice-is none c = refl
-  choice-is (some es) c = let e : leb (length (bare .extents) + length es) 16 ≡ true = le-leb (length (bare .extents) + length es) 16 (let a = few-pieces es c in omega arith) in rw e
+  choice-is (some es) c = let e : leb (length es) 16 ≡ true = le-leb (length es) 16 (let a = few-pieces es c in omega arith) in rw e
 
   module _ {p : List (List ℕ)} (f : (ls : List Label) → Shows m (tracks g) (held g ls) → Listed g t (free g ls) → p ≡ grantOf (piecesOf g ls o amount))
-      (h : Holder) (e : (h .slot ≡ 0) × (h .slot3 ≡ 0) × (h .extents ≡ 0) × (h .«type_byte» ≡ typeOf amount)) where
+      (h : Holder) (e : (h .slot ≡ 0) × (h .slot3 ≡ 0) × (h .extents ≡ 0) × (h .joins ≡ false) × (h .«type_byte» ≡ typeOf amount)) where
     pub seeks : Seeks g t m s h p
     seeks =
         record {
@@ -133,8 +133,9 @@ module _ {t m s name at a : List ℕ} {g : Geometry} {o : SpaceOption} {amount :
           slot3Is = e .1;
           extentsAre = sym (e .2);
           few = λ _. refl;
+          joinsIs = e .3;
           asks = asks-there;
-          typeIs = e .3;
+          typeIs = e .4;
           chosen = f ls shows lists ∙ ap (λ (y : Geometry). grantOf (piecesOf y ls o amount)) (d .geometryIs);
           heldApart = λ k. refl;
           usedSame = λ k. let x = used-tally ls (v .chain) k in let y = used-tally (bare ∷ ls) (v .chain) k in omega arith;
@@ -164,7 +165,8 @@ module _ {t m s name at a : List ℕ} {g : Geometry} {o : SpaceOption} {amount :
         planned = x seeks .planned z
 
         module _ (unit : ℕ) (eu : unit ≡ unitOf amount) (f1 f3 : List ℕ)
-            (written1 : (g : Geometry) → Format1 g (newLabel name at unit sec) f1) (written3 : (g : Geometry) (l : Label) → length (l .extents) ≤ 3 → Format3 g l f3) where
+            (written1 : (g : Geometry) → Format1 g (newLabel name at unit sec) f1) (written3 : (g : Geometry) (l : Label) → length (l .extents) ≤ 3 → Format3 g l f3)
+            (long1 : length f1 ≡ 140) (long3 : length f3 ≡ 140) where
           records : InRecords g (seeks .label) f1 f3
           unfolding seeks
           records =
@@ -173,9 +175,17 @@ module _ {t m s name at a : List ℕ} {g : Geometry} {o : SpaceOption} {amount :
                 three = written3 g bare (omega arith);
               }
 
+          set-in : SetIn g f1 f3 (h .extents)
+          unfolding readExtents
+          set-in = subst (SetIn g f1 f3) (sym (e .2)) (record { limits = limits; long1 = long1; long3 = long3; most = omega arith; good = tt })
+
+          none-yet : extentsIn g f1 f3 (h .extents) ≡ seeks .label .extents
+          unfolding seeks readExtents
+          none-yet = ap (extentsIn g f1 f3) (e .2)
+
           -- what `write_grant` asks
           pub grant-writes : GrantWrites g t m′ c (r .plan) (r .set) (take (r .set .count) p) f1 f3
-          grant-writes = writes seeks (x seeks) z records
+          grant-writes = writes seeks (x seeks) z records set-in none-yet
 
           pub placed : (t′ : List ℕ) → ((w : GrantWrites g t m′ c (r .plan) (r .set) (take (r .set .count) p) f1 f3) → Leaves (grown (w .grants)) t′) → Chooses t name at a o amount sec 0 t′ a′
-          placed t′ w = put seeks (x seeks) z records t′ w ∙ ap (written (lent t a [])) sought-is
+          placed t′ w = put seeks (x seeks) z records set-in none-yet t′ w ∙ ap (written (lent t a [])) sought-is

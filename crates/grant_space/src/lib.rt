@@ -40,8 +40,10 @@ fn extents_then(set: Holder) -> usize
     requires { ⌜ (set .extents ≤ 16) × (set .count ≤ 5) × (1 ≤ set .count) ⌝ }
     ensures { λ r. ⌜ r ≡ extentsThen set ⌝ }
 {
-    let behind = if set.joins { set.count - 1 } else { set.count };
-    set.extents + behind
+    if set.joins {
+        return set.extents + set.count - 1;
+    }
+    set.extents + set.count
 }
 
 // Whether it needs no format 3 then.
@@ -62,7 +64,7 @@ pub fn plan_grant(
     set: Holder,
     pieces: [[u16; 2]; 5],
 ) -> Plan
-    requires { ⌜ Limits (geometryOf g) × (length (now table) ≡ 140 * slots (geometryOf g)) × (tracks (geometryOf g) ≤ 64 * length (now «free_tracks»)) × (length (now «free_slots») ≡ 8) × (length (now chain) ≡ 468) × (set .extents ≤ 16) × (1 ≤ set .count) × (set .count ≤ 5) × (extentsThen set ≤ 16) ⌝ }
+    requires { ⌜ Limits (geometryOf g) × (length (now table) ≡ 140 * slots (geometryOf g)) × (tracks (geometryOf g) ≤ 64 * length (now «free_tracks»)) × (length (now «free_slots») ≡ 8) × (length (now chain) ≡ 468) × (set .extents ≤ 16) × (1 ≤ set .count) × (set .count ≤ 5) ⌝ }
     requires { ⌜ Grants (geometryOf g) (now table) (now «free_tracks») (now «free_slots») set (take (set .count) pieces) ⌝ }
     ensures { λ r. ⌜ GrantPlans (geometryOf g) (now (table .entry)) (now («free_tracks» .entry)) (now («free_tracks» .exit)) (now («free_slots» .entry)) (now («free_slots» .exit)) (now (chain .exit)) set (take (set .count) pieces) r ⌝ }
 {

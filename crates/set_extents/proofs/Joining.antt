@@ -109,11 +109,11 @@ module _ (g : Geometry) (f1 f3 : List ℕ) (n : ℕ) (d : SetIn g f1 f3 n) where
           let long : start + count - s ≡ c + count = let w = begins in omega arith in
           let one : extent b (run s (start + count - s)) ≡ lengthened z p
           = λ i. extent ((e ∙ ap (λ (y : Extent). cond (eqb kind 0x81) (y .typeByte) 0x01) (sym same)) i)
-            (run (sym (ap (λ (r : Run). r .start) over) i) ((long ∙ ap (λ (r : Run). r .count + count) (sym over)) i)) in
+          (run (sym (ap (λ (r : Run). r .start) over) i) ((long ∙ ap (λ (r : Run). r .count + count) (sym over)) i)) in
           let new : take (n - 1) es ++ partOf b s (start + count - s) ≡ joined es (p ∷ [])
           = ap (λ (y : List Extent). front ++ y) (part-some b s (start + count - s) (omega arith) ∙ ap (λ (y : Extent). y ∷ []) one)
-            ∙ sym (last-lengthened front z p [] (begins ∙ ap (λ (r : Run). r .start + r .count) (sym over)))
-            ∙ ap (λ (y : List Extent). joined y (p ∷ [])) (sym split) in
+          ∙ sym (last-lengthened front z p [] (begins ∙ ap (λ (r : Run). r .start + r .count) (sym over)))
+          ∙ ap (λ (y : List Extent). joined y (p ∷ [])) (sym split) in
           ap (λ (y : List Extent). withExtents (take (n - 1) y ++ partOf b s (start + count - s)) (l .ttr) l) (sym own)
           ∙ ap (λ (y : List Extent). withExtents y (l .ttr) l) new
           ∙ ap (λ (y : List Extent). withExtents (joined y (p ∷ [])) (l .ttr) l) own

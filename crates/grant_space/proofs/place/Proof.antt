@@ -79,8 +79,8 @@ write-grant-requires c κs =
     let x = planned (top .pre) (at-fulfil .fulfil .ensures) _ (at-seeker-of .seeker-of .ensures) (at-decide .decide .ensures) (at-if1 .if1 .left) in
     let same = x .slotSame in
     let same3 = x .slot3Same in (
-      (limits (top .pre), long (top .pre), map-fits (top .pre) _ (x .plans .took .long), omega (arith, none .0), omega (arith, none .1), x .few, x .most, long1, long3),
-      grant-writes (top .pre) (at-fulfil .fulfil .ensures) _ (at-seeker-of .seeker-of .ensures) (at-decide .decide .ensures) (at-if1 .if1 .left) _ (at-unit-byte .unit-byte .ensures) _ _ (at-new-label .new-label .ensures) (at-empty-three .empty-three .ensures),
+      (limits (top .pre), long (top .pre), map-fits (top .pre) _ (x .plans .took .long), omega (arith, none .0), omega (arith, none .1), omega (arith, none .2, x .extentsSame), x .least, x .few, x .most, long1, long3),
+      grant-writes (top .pre) (at-fulfil .fulfil .ensures) _ (at-seeker-of .seeker-of .ensures) (at-decide .decide .ensures) (at-if1 .if1 .left) _ (at-unit-byte .unit-byte .ensures) _ _ (at-new-label .new-label .ensures) (at-empty-three .empty-three .ensures) long1 long3,
     )
 
 same-length-5 : tie.Need-same-length-5
@@ -106,7 +106,9 @@ returns-2 c =
     let at-seeker-of = at-decide .before .before .before .before .before .before in
     let at-fulfil = at-seeker-of .before in
     let top = at-fulfil .before .before .before .before .before .before .before .before .before in
-    placed (top .pre) (at-fulfil .fulfil .ensures) _ (at-seeker-of .seeker-of .ensures) (at-decide .decide .ensures) (at-if1 .if1 .left) _ (at-unit-byte .unit-byte .ensures) _ _ (at-new-label .new-label .ensures) (at-empty-three .empty-three .ensures) _ (at-write-grant .write-grant .ensures)
+    let long1 : length (at-new-label .new-label .result) ≡ 140 = let known = at-new-label .new-label .ok in search needs in
+    let long3 : length (at-empty-three .empty-three .result) ≡ 140 = let known = at-empty-three .empty-three .ok in search needs in
+    placed (top .pre) (at-fulfil .fulfil .ensures) _ (at-seeker-of .seeker-of .ensures) (at-decide .decide .ensures) (at-if1 .if1 .left) _ (at-unit-byte .unit-byte .ensures) _ _ (at-new-label .new-label .ensures) (at-empty-three .empty-three .ensures) long1 long3 _ (at-write-grant .write-grant .ensures)
 
 pub place-spec : {M : Type 1} → statement M
 place-spec =

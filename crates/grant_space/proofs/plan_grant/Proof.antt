@@ -16,7 +16,7 @@ lowest-piece-requires c κs = search needs
 take-pieces-requires : tie.Need-take-pieces-requires
 take-pieces-requires c κs =
     let top = c .before .before .before .before .before .before .before in
-    (top .pre .0 .5, pieces-in (top .pre .1) _ (omega (arith, top .pre .0 .2, top .pre .0 .0 .tracksMost)), pieces-in (top .pre .1) 65535 (top .pre .0 .0 .tracksMost))
+    (top .pre .0 .7, pieces-in (top .pre .1) _ (omega (arith, top .pre .0 .2, top .pre .0 .0 .tracksMost)), pieces-in (top .pre .1) 65535 (top .pre .0 .0 .tracksMost))
 
 few-requires : tie.Need-few-requires
 few-requires c κs = search needs

@@ -62,9 +62,9 @@ returns c =
     let more = at-add-pieces .add-pieces .ensures in (
       λ l ps own rows x.
           rest-joined (a .pieces) five (a .count) (top .pre .2) (top .pre .3) _ (at-behind-first .behind-first .ensures) g (a .type-byte) (a .n) l
-              (sym (ap length own) ∙ read-length g (a .f1 .now) (a .f3 .now) (a .n)) _ _ (first .0) (first .1) _ _ _ _
-              (told _ _ _ _ _ true own (first .0) (top .pre .1) (at-if1 .if1 .taken))
-              (one .0 l own x) (more .0) ps rows,
+          (sym (ap length own) ∙ read-length g (a .f1 .now) (a .f3 .now) (a .n)) _ _ (first .0) (first .1) _ _ _ _
+          (told _ _ _ _ _ true own (first .0) (top .pre .1) (at-if1 .if1 .taken))
+          (one .0 l own x) (more .0) ps rows,
       more .1,
     )
 
@@ -86,8 +86,8 @@ returns-2 c =
     let more = at-add-pieces2 .add-pieces2 .ensures in (
       λ l ps own rows x.
           all-follow g (a .type-byte) (a .count) (a .pieces) five (top .pre .2) (top .pre .3) l ps rows
-              (told _ _ _ _ _ false own refl (top .pre .1) (at-if1 .if1 .left)) _ _
-              (more .0 l ps (sym (ap length own) ∙ read-length g (a .f1 .now) (a .f3 .now) (a .n)) rows x),
+          (told _ _ _ _ _ false own refl (top .pre .1) (at-if1 .if1 .left)) _ _
+          (more .0 l ps (sym (ap length own) ∙ read-length g (a .f1 .now) (a .f3 .now) (a .n)) rows x),
       more .1,
     )
 
