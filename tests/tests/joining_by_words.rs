@@ -99,6 +99,15 @@ fn on_volumes_from_elsewhere() {
     at_least(100, &counts);
 }
 
+#[test]
+fn on_volumes_made_for_it() {
+    let mut counts = Counts::new();
+    for seed in 0..400 {
+        compare(Session::touching(seed).table(), &mut counts);
+    }
+    at_least(150, &counts);
+}
+
 /// Volumes of all shapes, a few times in their lives.
 #[test]
 fn on_our_own_volumes() {
