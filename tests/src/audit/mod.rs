@@ -114,12 +114,10 @@ pub fn picture(table: &[u8]) -> Option<Picture> {
 pub fn table_with([c, h, d, s, v]: [u32; 5], sets: Vec<Set>) -> Option<Vec<u8>> {
     let mut picture = Picture { c, h, d, s, v, sets, chain: vec![1], free: vec![], format_0s: 0 };
     picture.derive_free()?;
-    let is_label = |&k: &usize| picture.sets.iter().any(|s| s.slot == k || s.format_3 == Some(k));
-    let left = (2..(v * d) as usize).filter(|k| !is_label(k));
+    let left = (2..(v * d) as usize).filter(|&k| picture.is_format_0(k));
     let more: Vec<usize> = left.take(picture.members() - 1).collect();
     picture.chain.extend(more);
-    picture.derive_roles()?;
-    Some(picture.render())
+    picture.table()
 }
 
 fn number(bytes: &[u8]) -> u64 {
@@ -152,6 +150,19 @@ pub fn is_name(bytes: &[u8]) -> bool {
 }
 
 impl Picture {
+    /// The table of the sets that the picture has now, in the slots that they name; nothing where they
+    /// are not sound.
+    pub fn table(mut self) -> Option<Vec<u8>> {
+        self.derive_free()?;
+        self.derive_roles()?;
+        Some(self.render())
+    }
+
+    pub fn is_format_0(&self, slot: usize) -> bool {
+        let is_label = |set: &Set| set.slot == slot || set.format_3 == Some(slot);
+        slot > 0 && !self.chain.contains(&slot) && !self.sets.iter().any(is_label)
+    }
+
     fn address(&self, slot: usize) -> Vec<u8> {
         let track = self.s + slot as u32 / self.d;
         let mut bytes = self.cchh(track);
