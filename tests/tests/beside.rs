@@ -96,6 +96,7 @@ fn grids_are_not_all_refused() {
         grids::options(),
         grids::ttrs(),
         grids::elsewhere(),
+        grids::joins(),
         grids::geometries(),
         grids::previews(),
         date_rows::forms(),

@@ -159,6 +159,7 @@ impl<'a, M: Manager> Beside<'a, M> {
             ("options", grids::options()),
             ("TTRs", grids::ttrs()),
             ("elsewhere", grids::elsewhere()),
+            ("joins", grids::joins()),
             ("geometries", grids::geometries()),
             ("previews", grids::previews()),
             ("geometries that wrap", around::geometries()),
