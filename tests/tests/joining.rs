@@ -40,7 +40,7 @@ impl Volume {
         let mut is_others = [true; 60];
         let own = self.extents.iter().map(|&(_, first, last)| first..last + 1);
         let free = self.free.iter().map(|&(start, length)| start..start + length);
-        for track in own.chain(free).chain([0..2]).flatten() {
+        for track in own.chain(free).chain(std::iter::once(0..2)).flatten() {
             is_others[track as usize] = false;
         }
         let tracks: Vec<u32> = (0..60).filter(|&track| is_others[track as usize]).collect();
