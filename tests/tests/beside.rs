@@ -10,9 +10,10 @@ use vtoc_tests::generate::session::Session;
 /// Calls of a few lives until a difference is found, if one is.
 fn difference(manager: &impl Manager, sides: u64) -> Option<(Call, String)> {
     let mut rooms = Rooms::new();
-    for seed in 1..10 {
-        let mut session = Session::new(seed).with_previews().with_dates();
-        for _ in 0..300 {
+    let touching = (1..60).map(|seed| (Session::touching(seed), 40));
+    for (session, calls) in (1..10).map(|seed| (Session::new(seed), 300)).chain(touching) {
+        let mut session = session.with_previews().with_dates();
+        for _ in 0..calls {
             let trial = session.next_trial();
             match both(manager, &trial.call, &trial.buffers, &mut rooms, sides) {
                 Ok(answered) => session.keep(&trial, answered.buffers.table),
@@ -68,6 +69,18 @@ fn every_fault_is_noticed() {
             Fault::OnlyDatesAreLater => "result 0, not 13",
             Fault::DaysByTheLowByte | Fault::DayBeforeYear => "13",
             Fault::PreviewForgetsDates => "not 1",
+            Fault::NeverJoins
+            | Fault::JoinsInFormat1Only
+            | Fault::JoinsTheHighest
+            | Fault::JoinsALaterPiece
+            | Fault::JoinsBackwards
+            | Fault::X81KeptBeforeX01
+            | Fault::X81Lost
+            | Fault::X01MadeX81 => "table: byte",
+            Fault::TenBeforeJoining => "result 10, not 0",
+            Fault::ElevenBeforeJoining => "result 11, not 0",
+            Fault::JoinedPieceNotNamed | Fault::WholeExtentNamed => "answer: byte",
+            Fault::PreviewForgetsJoining => ", not 0",
         };
         assert!(text.contains(expected), "{fault:?} {call:?}: {text}");
     }
@@ -83,6 +96,7 @@ fn grids_are_not_all_refused() {
         grids::options(),
         grids::ttrs(),
         grids::elsewhere(),
+        grids::joins(),
         grids::geometries(),
         grids::previews(),
         date_rows::forms(),

@@ -2,8 +2,8 @@
 
 use vtoc_tests::call::{CALL_NAMES, RESULTS};
 use vtoc_tests::coverage::{
-    Coverage, DATES, EACH, FEATURES, FULL_VOLUMES, OPTIONS, PREVIEWS, RELEASES, VOLUMES, WHOLE,
-    WIDE, WIDE_PREVIEWS,
+    Coverage, DATES, EACH, FEATURES, FULL_VOLUMES, JOINS, OPTIONS, PREVIEWS, RELEASES, VOLUMES,
+    WHOLE, WIDE, WIDE_PREVIEWS,
 };
 
 /// Just enough of everything.
@@ -15,8 +15,13 @@ fn enough() -> Coverage {
         }
     }
     let features = FEATURES.into_iter().chain(OPTIONS).chain(RELEASES).chain(PREVIEWS);
-    for feature in
-        features.chain(DATES).chain(VOLUMES).chain(WIDE).chain(WIDE_PREVIEWS).chain(FULL_VOLUMES)
+    for feature in features
+        .chain(JOINS)
+        .chain(DATES)
+        .chain(VOLUMES)
+        .chain(WIDE)
+        .chain(WIDE_PREVIEWS)
+        .chain(FULL_VOLUMES)
     {
         coverage.features.insert(feature, 1);
     }
@@ -62,7 +67,7 @@ fn enough_is_enough() {
 fn nothing_seen_names_everything() {
     let due = RESULTS.iter().map(|results| results.len()).sum::<usize>();
     let of_calls = FEATURES.len() + OPTIONS.len() + RELEASES.len() + PREVIEWS.len();
-    let features = of_calls + DATES.len() + VOLUMES.len();
+    let features = of_calls + JOINS.len() + DATES.len() + VOLUMES.len();
     let besides = WIDE.len() + WIDE_PREVIEWS.len() + FULL_VOLUMES.len();
     assert_eq!(Coverage::default().too_few(WHOLE).len(), due + features + besides);
     assert_eq!(Coverage::default().missing(&[]).len(), due + features);

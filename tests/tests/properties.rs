@@ -139,6 +139,7 @@ fn random_calls() {
         let calls = if session.shape == Shape::Large { 60 } else { 380 };
         run(session, calls, &mut coverage);
         run(Session::elsewhere(seed).with_previews().with_dates(), 40, &mut coverage);
+        run(Session::touching(seed).with_previews().with_dates(), 40, &mut coverage);
     }
     println!("{coverage}");
     assert_eq!(coverage.missing(&[]), [""; 0], "not seen");

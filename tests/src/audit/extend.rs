@@ -24,13 +24,11 @@ impl Picture {
     /// What an extend of this name gives, or its refusal from 5 on.
     pub fn extend(&self, name: &[u8]) -> Result<Growth, u32> {
         let set = self.sets.iter().find(|set| set.name == *name).ok_or(5u32)?;
-        let amount = set.secondary();
-        if amount == 0 {
+        if set.secondary() == 0 {
             return Err(8);
         }
-        let (kind, unit) = if set.unit() == 0xC0 { (0x81, self.h) } else { (0x01, 1) };
-        let units = chosen(&self.candidates(unit), amount).ok_or(9u32)?;
-        let pieces: Vec<_> = units.iter().map(|&(at, count)| (at * unit, count * unit)).collect();
+        let pieces = self.pieces(set).ok_or(9u32)?;
+        let kind = if set.unit() == 0xC0 { 0x81 } else { 0x01 };
         let extents = grown(set, kind, &pieces);
         if extents.len() > 16 {
             return Err(10);
@@ -40,6 +38,13 @@ impl Picture {
             return Err(11);
         }
         Ok(Growth { pieces, extents })
+    }
+
+    /// The pieces that an extend of this set takes, whether or not extents or slots are too few.
+    pub fn pieces(&self, set: &Set) -> Option<Vec<(u32, u32)>> {
+        let unit = if set.unit() == 0xC0 { self.h } else { 1 };
+        let units = chosen(&self.candidates(unit), set.secondary())?;
+        Some(units.iter().map(|&(at, count)| (at * unit, count * unit)).collect())
     }
 
     /// Runs of free units (tracks or whole cylinders), start and count in units: the whole cylinders of

@@ -112,14 +112,7 @@ pub fn picture(table: &[u8]) -> Option<Picture> {
 /// The table of a volume, C, H, D, S, V, with these sets; its later format 5s are in the lowest slots
 /// left. Nothing where slots are too few or the sets are not sound.
 pub fn table_with([c, h, d, s, v]: [u32; 5], sets: Vec<Set>) -> Option<Vec<u8>> {
-    let mut picture = Picture { c, h, d, s, v, sets, chain: vec![1], free: vec![], format_0s: 0 };
-    picture.derive_free()?;
-    let is_label = |&k: &usize| picture.sets.iter().any(|s| s.slot == k || s.format_3 == Some(k));
-    let left = (2..(v * d) as usize).filter(|k| !is_label(k));
-    let more: Vec<usize> = left.take(picture.members() - 1).collect();
-    picture.chain.extend(more);
-    picture.derive_roles()?;
-    Some(picture.render())
+    Picture { c, h, d, s, v, sets, chain: vec![1], free: vec![], format_0s: 0 }.table()
 }
 
 fn number(bytes: &[u8]) -> u64 {
@@ -152,6 +145,25 @@ pub fn is_name(bytes: &[u8]) -> bool {
 }
 
 impl Picture {
+    /// The table of the sets that the picture has now, in the slots that they name; the chain loses its
+    /// last format 5s, or gets more in the lowest slots left. Nothing where slots are too few or the sets
+    /// are not sound.
+    pub fn table(mut self) -> Option<Vec<u8>> {
+        self.derive_free()?;
+        let members = self.members();
+        self.chain.truncate(members);
+        let left = (2..(self.v * self.d) as usize).filter(|&k| self.is_format_0(k));
+        let more: Vec<usize> = left.take(members - self.chain.len()).collect();
+        self.chain.extend(more);
+        self.derive_roles()?;
+        Some(self.render())
+    }
+
+    pub fn is_format_0(&self, slot: usize) -> bool {
+        let is_label = |set: &Set| set.slot == slot || set.format_3 == Some(slot);
+        slot > 0 && !self.chain.contains(&slot) && !self.sets.iter().any(is_label)
+    }
+
     fn address(&self, slot: usize) -> Vec<u8> {
         let track = self.s + slot as u32 / self.d;
         let mut bytes = self.cchh(track);

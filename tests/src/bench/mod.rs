@@ -2,6 +2,7 @@
 
 pub mod dates;
 pub mod growth;
+mod joined;
 pub mod page;
 pub mod row;
 pub mod volume;

@@ -1,5 +1,6 @@
 //! The volumes of the benchmark, and the calls that are timed on each.
 
+use super::joined;
 use crate::call::{Buffers, Call, Reference, ALX, CONTIG, MXIG, NO_DATE, NO_OPTION, TODAY};
 use crate::desk::attributes;
 use crate::generate::aim::scratch_of;
@@ -24,6 +25,9 @@ pub struct Volume {
     irregular: bool,
     /// A table with a cylinder file, and the call that releases it in the middle of a cylinder.
     cut: Option<(Vec<u8>, Call)>,
+    /// Tables with sets of one and of sixteen extents, and the calls that lengthen the last of them.
+    joined: Option<(Vec<u8>, Call)>,
+    joined_at_sixteen: Option<(Vec<u8>, Call)>,
 }
 
 /// A call to time, the table to make it on, and the result that it must have.
@@ -60,7 +64,7 @@ pub fn regular(title: &'static str, mut table: Vec<u8>) -> Volume {
     place(&mut table, "BENCH.SET", 0, 0, 2, 1);
     let present = name("BENCH.SET").to_vec();
     let cut = with_cylinder_file(&table);
-    Volume { title, table, growing: present.clone(), present, irregular: false, cut }
+    with_joins(title, table, present.clone(), present, false, cut)
 }
 
 /// The volume as it is; the calls are made on sets with many extents, drawn by a fixed seed.
@@ -73,7 +77,21 @@ fn irregular(title: &'static str, table: Vec<u8>) -> Volume {
     let growing = rng.pick(&grows).expect("a set that can be extended").name.clone();
     let present = rng.pick(&many).expect("the one with most").name.clone();
     let cut = cylinder_file(&table).map(|call| (table.clone(), call));
-    Volume { title, table, growing, present, irregular: true, cut }
+    with_joins(title, table, growing, present, true, cut)
+}
+
+/// The volume, with copies in which an extend joins.
+fn with_joins(
+    title: &'static str, table: Vec<u8>, growing: Vec<u8>, present: Vec<u8>, irregular: bool,
+    cut: Option<(Vec<u8>, Call)>,
+) -> Volume {
+    let made = |name: Vec<u8>, extents| {
+        joined::table(&table, &name, extents).map(|table| (table, Call::Extend { name }))
+    };
+    let joined = made(growing.clone(), 1);
+    let long = joined::with_sixteen(&table, &growing);
+    let joined_at_sixteen = long.and_then(|name| made(name, 16));
+    Volume { title, table, growing, present, irregular, cut, joined, joined_at_sixteen }
 }
 
 /// The table with a cylinder file of three cylinders, or of one where there are no more. The other
@@ -137,7 +155,7 @@ impl Volume {
         self.calls_alone().into_iter().flat_map(with_preview).collect()
     }
 
-    fn calls_alone(&self) -> Vec<Timed<'_>> {
+    fn calls_alone<'a>(&'a self) -> Vec<Timed<'a>> {
         let glance = self.glance();
         let g = glance.geometry;
         let (c, h, d) = (g.cylinders, g.heads, g.per_track);
@@ -146,6 +164,10 @@ impl Volume {
         let table = &self.table[..];
         let accepted = |what: &str, call| Timed { what: what.into(), table, call, wanted: 0 };
         let many = |what: &str, call| self.irregular.then(|| accepted(what, call));
+        let on_a_copy = |what: &str, made: &'a Option<(Vec<u8>, Call)>| {
+            let (table, call) = made.as_ref()?;
+            Some(Timed { what: what.into(), table, call: call.clone(), wanted: 0 })
+        };
         // Where slots and whole cylinders allow it.
         let by_option = |what: &str, option, kind, amount| {
             let call = Volume::allocation_by(option, kind, amount);
@@ -168,14 +190,11 @@ impl Volume {
             by_option("allocate, ALX", ALX, 0, 1),
             by_option("allocate, ALX, cylinders", ALX, 1, 1),
             Some(accepted("extend", Call::Extend { name: self.growing.clone() })),
+            on_a_copy("extend, joined", &self.joined),
+            on_a_copy("extend, joined, 16 extents", &self.joined_at_sixteen),
             Some(accepted("release", Call::Release { name: present(), ttr: 1 })),
             many("release, half", Call::Release { name: present(), ttr: self.half(&glance) }),
-            self.cut.as_ref().map(|(table, call)| Timed {
-                what: "release, mid-cylinder".into(),
-                table,
-                call: call.clone(),
-                wanted: 0,
-            }),
+            on_a_copy("release, mid-cylinder", &self.cut),
             Some(accepted("scratch", scratch_of(present()))),
             Some(accepted(
                 "rename",
@@ -210,13 +229,15 @@ impl Volume {
 }
 
 /// The rows that have one of the preview after them.
-const PREVIEWED: [&str; 9] = [
+const PREVIEWED: [&str; 11] = [
     "allocate, tracks",
     "allocate, cylinders",
     "allocate, five pieces",
     "allocate, MXIG",
     "allocate, ALX",
     "extend",
+    "extend, joined",
+    "extend, joined, 16 extents",
     "release",
     "release, mid-cylinder",
     "scratch",

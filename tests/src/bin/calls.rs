@@ -30,8 +30,11 @@ use vtoc_tests::volumes::{many_extents, many_names, medium, name, small};
 
 /// Calls in all where no number is given.
 const CALLS: usize = 250_000;
-/// Of so many volumes, one comes from elsewhere.
+/// Of so many volumes, one comes from elsewhere, and one is made for extends that join.
 const ELSEWHERE: usize = 6;
+const TOUCHING: usize = 4;
+/// Calls on such a one: after a few more there is little left to join.
+const TOUCHING_CALLS: usize = 60;
 /// Tables that look sound where sums wrap, of each kind for each sound one.
 const WRAPPED: usize = 2;
 /// Calls in each life of a volume of 65,535 tracks.
@@ -156,6 +159,7 @@ impl<'a, M: Manager> Beside<'a, M> {
             ("options", grids::options()),
             ("TTRs", grids::ttrs()),
             ("elsewhere", grids::elsewhere()),
+            ("joins", grids::joins()),
             ("geometries", grids::geometries()),
             ("previews", grids::previews()),
             ("geometries that wrap", around::geometries()),
@@ -255,10 +259,16 @@ impl<'a, M: Manager> Beside<'a, M> {
         while self.calls < calls {
             volumes += 1;
             let seed = rng.word();
-            let from_elsewhere = volumes % ELSEWHERE == 0;
-            let session =
-                if from_elsewhere { Session::elsewhere(seed) } else { Session::new(seed) };
-            let most = if session.shape == Shape::Large { 60 } else { 250 };
+            let session = match volumes {
+                _ if volumes % ELSEWHERE == 0 => Session::elsewhere(seed),
+                _ if volumes % TOUCHING == 0 => Session::touching(seed),
+                _ => Session::new(seed),
+            };
+            let most = match session.shape {
+                Shape::Large => 60,
+                Shape::Touching => TOUCHING_CALLS,
+                _ => 250,
+            };
             let place = format!("session {seed}, {:?}", session.shape);
             self.life(session, most.min(calls - self.calls), &place)?;
         }
@@ -295,7 +305,10 @@ fn notices(fault: vtoc_tests::faulty::Fault) -> bool {
     let mut beside = Beside::new(&library, Sides::Planted);
     let special = [Session::elsewhere(1), Session::of_shape(1, Shape::Brink)];
     let mut sessions = (1..=6).map(Session::new).chain(special);
-    sessions.any(|session| beside.life(session, 300, "planted").is_err()) || beside.dates().is_err()
+    let mut touching = (1..=60).map(Session::touching);
+    sessions.any(|session| beside.life(session, 300, "planted").is_err())
+        || touching.any(|session| beside.life(session, 40, "planted").is_err())
+        || beside.dates().is_err()
 }
 
 /// Every form of a date, through the library and the reference alone.

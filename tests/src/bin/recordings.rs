@@ -17,7 +17,7 @@ use vtoc_tests::volumes::{cut_cylinders, name, ATTRIBUTES};
 
 /// The stored recording, and the most bytes that it may take with its lines.
 const SEED: u64 = 1;
-const CALLS: usize = 46;
+const CALLS: usize = 34;
 const MOST: usize = 300_000;
 
 fn stored() -> Result<Recording, String> {

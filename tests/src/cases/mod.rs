@@ -6,6 +6,7 @@ mod damages;
 mod dates;
 mod edges;
 mod grants;
+mod joins;
 mod options;
 mod previews;
 pub mod print;
@@ -42,6 +43,7 @@ pub fn sequences() -> Vec<Sequence> {
     all.extend(previews::sequences());
     all.extend(sixteen_bits::sequences());
     all.extend(dates::sequences());
+    all.extend(joins::sequences());
     all
 }
 
@@ -52,6 +54,7 @@ pub fn stories() -> Vec<Sequence> {
     all.extend(cylinders::sequences());
     all.extend(previews::sequences());
     all.extend(dates::sequences());
+    all.extend(joins::sequences());
     all
 }
 

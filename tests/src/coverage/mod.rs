@@ -2,6 +2,7 @@
 
 mod dates;
 mod full;
+mod joins;
 mod options;
 mod previews;
 mod releases;
@@ -14,6 +15,7 @@ use crate::generate::glance::{glance, Glance};
 use crate::generate::session::Origin;
 pub use dates::DATES;
 pub use full::FULL_VOLUMES;
+pub use joins::JOINS;
 use options::Numbers;
 pub use options::OPTIONS;
 use previews::Seen;
@@ -123,14 +125,17 @@ impl Coverage {
     fn preview(&mut self, call: &Call, result: u32, before: &[u8], answer: &[u8]) {
         let Some(table) = glance(before) else { return };
         let mut paths = previews::shown(call, &table, result, answer);
+        if let (0, Call::Extend { name }) = (result, call) {
+            paths.extend(joins::granted(&table, name, answer, true));
+        }
         if let (0, Some(preview)) = (result, call.preview()) {
             paths.extend(full::accepted(&preview, &table, &table));
         }
         paths.into_iter().for_each(|path| self.saw(path));
     }
 
-    /// A refused allocate with an option or past the volume's end, or a release for which slots are
-    /// short.
+    /// A refused allocate with an option or past the volume's end, a release for which slots are
+    /// short, or an extend for which extents or slots are.
     fn refusal(&mut self, call: &Call, result: u32, before: &[u8]) {
         let paths = match (result, call, numbers_with_option(call)) {
             (7 | 9 | 11, _, Some(numbers)) => {
@@ -138,6 +143,9 @@ impl Coverage {
             }
             (11, Call::Release { name, ttr }, _) => {
                 glance(before).map(|table| release_paths(&table, name, ttr >> 8, result))
+            }
+            (10 | 11, Call::Extend { name }, _) => {
+                Some(joins::refused(before, name, result).into_iter().collect())
             }
             (7, &Call::Allocate { kind: 2, start, amount, secondary: 0, .. }, None) => {
                 glance(before).map(|table| full::refused(&table, start, amount))
@@ -171,7 +179,11 @@ impl Coverage {
                     _ => {}
                 }
             }
-            Call::Extend { .. } => self.saw(FEATURES[4 + pieces]),
+            Call::Extend { name } => {
+                self.saw(FEATURES[4 + pieces]);
+                let paths = joins::granted(&old, name, answer, false);
+                paths.into_iter().for_each(|path| self.saw(path));
+            }
             Call::Release { name, ttr } => self.release(&old, name, ttr >> 8),
             Call::Obtain { name } => {
                 let set = old.sets.iter().find(|set| set.name == *name);
@@ -282,7 +294,7 @@ impl Coverage {
 /// What every run must see, apart from results.
 fn due() -> impl Iterator<Item = &'static str> {
     let of_calls = FEATURES.into_iter().chain(OPTIONS).chain(RELEASES).chain(PREVIEWS);
-    of_calls.chain(DATES).chain(VOLUMES)
+    of_calls.chain(JOINS).chain(DATES).chain(VOLUMES)
 }
 
 /// What a long run must see besides.

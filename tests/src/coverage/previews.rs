@@ -130,10 +130,12 @@ fn allocated(kind: u32, amount: u32, option: u32, table: &Glance, answer: &[u8])
 
 fn extended(set: Option<&SetGlance>, answer: &[u8]) -> Facts {
     let extents = set.map_or(0, |set| set.extents.len());
+    let end = set.and_then(|set| set.extents.last()).map_or(0, |&(start, length)| start + length);
+    let after = extents + usize::from(answer[2]) - usize::from(word(answer, 3) == end);
     vec![
         (answer[2] == 1, "one piece"),
         (answer[2] > 1, "several pieces"),
-        (extents <= 3 && extents + usize::from(answer[2]) > 3, "format 3 needed"),
+        (extents <= 3 && after > 3, "format 3 needed"),
     ]
 }
 

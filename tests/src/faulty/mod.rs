@@ -1,6 +1,7 @@
 //! A manager with a fault planted in it, to see that a comparison notices.
 
 mod dates;
+mod joins;
 
 use std::hint::black_box;
 
@@ -91,9 +92,35 @@ pub enum Fault {
     AttributeBytesKept,
     /// A preview of a scratch looks at no date.
     PreviewForgetsDates,
+    /// An extend appends every piece.
+    NeverJoins,
+    /// An extend joins no extent that lies in a format 3.
+    JoinsInFormat1Only,
+    /// The first piece of an extend is joined behind the set's highest track, not its last.
+    JoinsTheHighest,
+    /// A later piece is joined as well as the first.
+    JoinsALaterPiece,
+    /// A first piece that ends right before the last extent is joined too.
+    JoinsBackwards,
+    /// Refusal 10 counts extents before joining.
+    TenBeforeJoining,
+    /// Refusal 11 wants a format 3 for extents before joining.
+    ElevenBeforeJoining,
+    /// An X'81' extent stays one where an X'01' piece is joined.
+    X81KeptBeforeX01,
+    /// What is joined is X'01' though both are X'81'.
+    X81Lost,
+    /// An X'81' piece makes an X'01' extent X'81'.
+    X01MadeX81,
+    /// The answer leaves out a piece that is joined.
+    JoinedPieceNotNamed,
+    /// The answer names the whole extent in the place of the piece that is joined to it.
+    WholeExtentNamed,
+    /// A preview of an extend counts extents before joining.
+    PreviewForgetsJoining,
 }
 
-pub const FAULTS: [Fault; 39] = [
+pub const FAULTS: [Fault; 52] = [
     Fault::RefusesAll,
     Fault::AcceptsAll,
     Fault::OtherRefusal,
@@ -133,6 +160,19 @@ pub const FAULTS: [Fault; 39] = [
     Fault::ExpiryNotStored,
     Fault::AttributeBytesKept,
     Fault::PreviewForgetsDates,
+    Fault::NeverJoins,
+    Fault::JoinsInFormat1Only,
+    Fault::JoinsTheHighest,
+    Fault::JoinsALaterPiece,
+    Fault::JoinsBackwards,
+    Fault::TenBeforeJoining,
+    Fault::ElevenBeforeJoining,
+    Fault::X81KeptBeforeX01,
+    Fault::X81Lost,
+    Fault::X01MadeX81,
+    Fault::JoinedPieceNotNamed,
+    Fault::WholeExtentNamed,
+    Fault::PreviewForgetsJoining,
 ];
 
 pub struct Faulty<'a, M> {
@@ -329,7 +369,15 @@ impl<M: Manager> Manager for Faulty<'_, M> {
         self.spoil(result, table, answer)
     }
     fn extend(&self, table: &mut [u8], name: &[u8], answer: &mut [u8]) -> u32 {
-        let result = self.manager.extend(table, name, answer);
+        let before = (table.to_vec(), answer.to_vec());
+        let mut result = self.manager.extend(table, name, answer);
+        if result == 0 {
+            if let Err(refusal) = joins::spoil(self.fault, &before.0, name, table, answer) {
+                table.copy_from_slice(&before.0);
+                answer.copy_from_slice(&before.1);
+                result = refusal;
+            }
+        }
         self.spoil_read(Fault::NameByte, name);
         self.spoil(result, table, answer)
     }
@@ -398,7 +446,16 @@ impl<M: Manager> Manager for Faulty<'_, M> {
         })
     }
     fn preview_extend(&self, table: &[u8], name: &[u8], answer: &mut [u8]) -> u32 {
-        let result = self.manager.preview_extend(table, name, answer);
+        let before = answer.to_vec();
+        let mut result = self.manager.preview_extend(table, name, answer);
+        if (self.fault, result) == (Fault::PreviewForgetsJoining, 0) {
+            let mut copy = table.to_vec();
+            self.manager.extend(&mut copy, name, &mut [0; 24]);
+            if let Some(refusal) = joins::preview_refusal(table, name, &copy) {
+                answer.copy_from_slice(&before);
+                result = refusal;
+            }
+        }
         self.spoil_preview(result, table, name, answer, |table, answer| {
             self.manager.extend(table, name, answer)
         })

@@ -4,13 +4,15 @@
 use super::elsewhere;
 use super::glance::glance;
 use super::rng::Rng;
+use super::touching;
 use crate::call::{Buffers, Call, ALX, CONTIG, MXIG, NO_OPTION, TODAY};
 use crate::reference::{extend, release};
 use crate::short::{self, allocation, to_packed, to_stored};
 use crate::volumes::{fresh, name, open_slots, place, scattered, scratch, small};
 
-/// The volumes from elsewhere.
+/// The volumes from elsewhere, and those on which extends may join.
 const ELSEWHERE: usize = 60;
+const TOUCHING: usize = 2_000;
 
 /// A call and the buffers to make it with.
 pub type Row = (Call, Buffers);
@@ -219,10 +221,23 @@ fn releases(tables: &[Vec<u8>], ttrs: impl Fn(u32) -> Vec<u32>) -> Vec<Row> {
     rows
 }
 
+/// Extend of every set that has a secondary amount, on volumes made so that many of them join.
+pub fn joins() -> Vec<Row> {
+    let rng = &mut Rng::new(3);
+    let mut rows = vec![];
+    for _ in 0..TOUCHING {
+        let table = touching::table(rng);
+        let sets = glance(&table).expect("sound").sets.into_iter();
+        let growing = sets.filter(|set| set.secondary > 0);
+        rows.extend(growing.map(|set| row(Call::Extend { name: set.name }, &table)));
+    }
+    rows
+}
+
 /// Previews of the calls in the grids, where they have one; of the many amounts every fifth.
 pub fn previews() -> Vec<Row> {
     let amounts = amounts().into_iter().step_by(5);
-    let others = [name_bytes(), options(), ttrs(), elsewhere()].into_iter().flatten();
+    let others = [name_bytes(), options(), ttrs(), elsewhere(), joins()].into_iter().flatten();
     let preview = |(call, buffers): Row| Some((call.preview()?, buffers));
     amounts.chain(others).filter_map(preview).collect()
 }

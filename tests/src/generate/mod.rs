@@ -17,4 +17,5 @@ pub mod session;
 pub mod shapes;
 pub mod shuffle;
 pub mod tables;
+pub mod touching;
 pub mod wrapped;

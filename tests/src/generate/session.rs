@@ -10,6 +10,7 @@ use super::hostile::spoil;
 use super::rng::Rng;
 use super::shapes::{beyond, geometry, Shape, SHAPES};
 use super::shuffle::shuffled;
+use super::touching;
 use crate::call::{Buffers, Call, Reference, ALX, MXIG};
 
 /// One call to make and the buffers to make it with.
@@ -42,6 +43,8 @@ enum Phase {
     Tip,
     /// Releases, most of all.
     Cut,
+    /// Extends, most of all.
+    Join,
 }
 
 pub struct Session {
@@ -72,6 +75,7 @@ fn weights(phase: Phase, shape: Shape) -> [usize; 11] {
         Phase::Drain => [10, 3 * cylinders, 5, 5, 5, 30, 30, 3, 3, 3, 1],
         Phase::Tip => [14, 30, 4, 3, 25, 25, 20, 1, 2, 1, 0],
         Phase::Cut => [4, 6, 3, 3, 12, 90, 4, 2, 3, 1, 0],
+        Phase::Join => [3, 3, 2, 2, 90, 8, 4, 1, 4, 1, 0],
     }
 }
 
@@ -121,6 +125,14 @@ impl Session {
         let table = elsewhere::table(&mut rng);
         let session = Session::with(rng, table, Shape::Elsewhere);
         Session { phase: Phase::Cut, shuffles: true, ..session }
+    }
+
+    /// A volume with free tracks behind sets that can be extended.
+    pub fn touching(seed: u64) -> Session {
+        let mut rng = Rng::new(seed);
+        let table = touching::table(&mut rng);
+        let session = Session::with(rng, table, Shape::Touching);
+        Session { phase: Phase::Join, shuffles: true, ..session }
     }
 
     /// A life that goes on from a given sound table, by calls alone.
@@ -216,7 +228,7 @@ impl Session {
     /// A call without dates that is no preview.
     fn call_alone(&mut self) -> Trial {
         // A few calls end what is special about such a volume; most of them are only tried there.
-        let is_special = matches!(self.shape, Shape::Brink | Shape::Elsewhere);
+        let is_special = matches!(self.shape, Shape::Brink | Shape::Elsewhere | Shape::Touching);
         if self.rng.chance(4) && !is_special {
             self.phase =
                 [Phase::Fill, Phase::Wear, Phase::Stretch, Phase::Drain][self.rng.below(4)];

@@ -20,6 +20,8 @@ pub enum Shape {
     Large,
     /// With sets that no call of ours makes. Not one of `SHAPES`: its table is not made by calls.
     Elsewhere,
+    /// With free tracks behind sets that can be extended. Not one of `SHAPES` either.
+    Touching,
 }
 
 pub const SHAPES: [Shape; 6] =
@@ -33,7 +35,9 @@ pub fn geometry(rng: &mut Rng, shape: Shape) -> Geometry {
             Shape::Worn | Shape::Brink => (rng.range(90, 400), rng.range(1, 3), rng.range(32, 120)),
             Shape::Stretched => (rng.range(40, 160), rng.range(1, 4), rng.range(4, 14)),
             Shape::Cylinders => (rng.range(60, 600), rng.range(2, 15), rng.range(10, 70)),
-            Shape::Elsewhere => (rng.range(20, 130), rng.range(1, 9), rng.range(4, 16)),
+            Shape::Elsewhere | Shape::Touching => {
+                (rng.range(20, 130), rng.range(1, 9), rng.range(4, 16))
+            }
             Shape::Large => (rng.range(1000, 65_535), rng.range(1, 255), rng.range(3, 468)),
         };
         let c = (tracks / h).max(1);
