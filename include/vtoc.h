@@ -17,7 +17,7 @@
  * of a refusal (1 to 14, below). Any bytes, numbers and lengths may be handed over: every call ends in one of the two.
  *
  * WHAT IS NEW
- * Version 401: vtoc_extend joins what touches. Where its first piece begins on the track after the data set's last one, the last
+ * Version 500: vtoc_extend joins what touches. Where its first piece begins on the track after the data set's last one, the last
  * extent is lengthened, and that piece adds none. No signature changed. A host that has the extents from the labels stays as it is.
  *   - A host that keeps extents of its own, by appending the pieces of the answer, must join too, or obtain the labels again. The
  *     answer has the pieces as before, the joined one too.
@@ -117,7 +117,7 @@ extern "C" {
 
 /* ---- Version ------------------------------------------------------------------------------------------------------------ */
 
-#define VTOC_VERSION 401 /* of this header, 100 x major + minor: a new major number where a host must change, else a new minor */
+#define VTOC_VERSION 500 /* of this header, 100 x major + minor: a new major number where a host must change, else a new minor */
 #define VTOC_REQUESTS 6  /* how many of document 02's requests are in, from the first on */
 
 /* ---- Lengths, in bytes unless said otherwise ---------------------------------------------------------------------------- */

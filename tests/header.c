@@ -16,7 +16,7 @@
 
 #define IS(constant, number) typedef char constant##_is_not_##number[(constant) == (number) ? 1 : -1]
 
-IS(VTOC_VERSION, 401);
+IS(VTOC_VERSION, 500);
 IS(VTOC_REQUESTS, 6);
 IS(VTOC_RECORD_LENGTH, 140);
 IS(VTOC_LEAST_RECORDS, 3);

@@ -5,3 +5,4 @@ pub mod Options
 pub mod Cylinders
 pub mod Previews
 pub mod Dates
+pub mod Joining

@@ -504,3 +504,128 @@ sequence42 =
 pub case42 : T (right [] sequence42)
 unfolding held gaps free used unused format0s choose extentPart format4 format5 format1 format3 records encode readGeometry readExtents readLabel readRecords read goodName limits goodLabel valid taken goodLength settle grant tracksKept toStored toPacked expiryFrom withExpiry rule goodLengths perform initialise convertDate printable listing
 case42 = tt
+
+-- Extend joins: extents of the format 1 and of the format 3
+
+abbrev pub sequence43 : List Row
+sequence43 =
+    begin 28 1 6 1 1 0 0xADDC6EC94CFDA43
+    ∷ ok (allocate (request (nm (0xC1 ∷ [])) (attr 1) 0 0 1 1 0 noDate)) 0x101000200010000000000000000000000000000000000 0x1B9353EB18EB3225
+    ∷ ok (extend (nm (0xC1 ∷ []))) 0x101000300010000000000000000000000000000000000 0x1154E970FD2AB03
+    ∷ ok (allocate (request (nm (0xC2 ∷ [])) (attr 3) 0 0 1 1 0 noDate)) 0x101000400010000000000000000000000000000000000 0x4433E0CF5C51CFE
+    ∷ ok (extend (nm (0xC1 ∷ []))) 0x101000500010000000000000000000000000000000000 0x1AC4210200211191
+    ∷ ok (extend (nm (0xC1 ∷ []))) 0x101000600010000000000000000000000000000000000 0x21AE31B0B01C490
+    ∷ ok (extend (nm (0xC2 ∷ []))) 0x101000700010000000000000000000000000000000000 0x6A0EE2B4588EBC6
+    ∷ ok (extend (nm (0xC1 ∷ []))) 0x101000800010000000000000000000000000000000000 0x4853A3FF33868B1
+    ∷ ok (extend (nm (0xC1 ∷ []))) 0x101000900010000000000000000000000000000000000 0x9A9BBD6ABE4BEE4
+    ∷ ok (extend (nm (0xC2 ∷ []))) 0x101000A00010000000000000000000000000000000000 0x1D9A3E86EA9716D2
+    ∷ ok (extend (nm (0xC1 ∷ []))) 0x101000B00010000000000000000000000000000000000 0x563C2DF65E9A6AC
+    ∷ ok (extend (nm (0xC1 ∷ []))) 0x101000C00010000000000000000000000000000000000 0x1D488A4DA838E255
+    ∷ ok (extend (nm (0xC2 ∷ []))) 0x101000D00010000000000000000000000000000000000 0x43521DF9B3662CE
+    ∷ ok (extend (nm (0xC1 ∷ []))) 0x101000E00010000000000000000000000000000000000 0x160DDFC03B45259E
+    ∷ ok (extend (nm (0xC1 ∷ []))) 0x101000F00010000000000000000000000000000000000 0x1B6479CEBBCF287C
+    ∷ ok (extend (nm (0xC2 ∷ []))) 0x101001000010000000000000000000000000000000000 0x1E0133905C1A1C78
+    ∷ ok (extend (nm (0xC1 ∷ []))) 0x101001100010000000000000000000000000000000000 0x1F01C138E210AFFD
+    ∷ ok (extend (nm (0xC1 ∷ []))) 0x101001200010000000000000000000000000000000000 0x60D1D5B5E80660F
+    ∷ ok (extend (nm (0xC2 ∷ []))) 0x101001300010000000000000000000000000000000000 0x1A88A140AF13B099
+    ∷ ok (extend (nm (0xC1 ∷ []))) 0x101001400010000000000000000000000000000000000 0x4C329779C4EE191
+    ∷ ok (extend (nm (0xC1 ∷ []))) 0x101001500010000000000000000000000000000000000 0x1031EF564699A4E
+    ∷ ok (extend (nm (0xC2 ∷ []))) 0x101001600010000000000000000000000000000000000 0x5A2697919CADEA8
+    ∷ ok (extend (nm (0xC1 ∷ []))) 0x101001700010000000000000000000000000000000000 0x1C597CE4ACAB96E
+    ∷ ok (extend (nm (0xC1 ∷ []))) 0x101001800010000000000000000000000000000000000 0xDF1646A02D329E
+    ∷ ok (extend (nm (0xC2 ∷ []))) 0x101001900010000000000000000000000000000000000 0xC8D567A1D339AF9
+    ∷ okLabels (obtain (nm (0xC1 ∷ []))) 0x0 0xC8D567A1D339AF9 0xCE780024AE90979
+    ∷ ok (scratch (nm (0xC2 ∷ [])) (date 4 0x0080365F) 0) 0x800000000000000000000000000000000000000000000 0x1FECF1E0A75212FF
+    ∷ ok (release (nm (0xC1 ∷ [])) 0xE01) 0x100000000000000000000000000000000000000000000 0x12A2B3408200C75C
+    ∷ ok (preview (extend (nm (0xC1 ∷ [])))) 0x101000400010000000000000000000000000000000000 0x12A2B3408200C75C
+    ∷ ok (extend (nm (0xC1 ∷ []))) 0x101000400010000000000000000000000000000000000 0xD819813AE33B269
+    ∷ ok (release (nm (0xC1 ∷ [])) 0x1) 0xF00000000000000000000000000000000000000000000 0x161357F589B17561
+    ∷ ok (preview (extend (nm (0xC1 ∷ [])))) 0x101000300010000000000000000000000000000000000 0x161357F589B17561
+    ∷ ok (extend (nm (0xC1 ∷ []))) 0x101000300010000000000000000000000000000000000 0x1B9552A18098EE3E
+    ∷ okLabels (obtain (nm (0xC1 ∷ []))) 0x0 0x1B9552A18098EE3E 0x124910D5FC011476
+    ∷ ok (scratch (nm (0xC1 ∷ [])) (date 4 0x0080365F) 0) 0x200000000000000000000000000000000000000000000 0xADDC6EC94CFDA43
+    ∷ []
+
+pub case43 : T (right [] sequence43)
+unfolding held gaps free used unused format0s choose extentPart format4 format5 format1 format3 records encode readGeometry readExtents readLabel readRecords read goodName limits goodLabel valid taken goodLength settle grant tracksKept toStored toPacked expiryFrom withExpiry rule goodLengths perform initialise convertDate printable listing
+case43 = tt
+
+-- Extend joins: extents are counted after it, at 16 and for a format 3
+
+abbrev pub sequence44 : List Row
+sequence44 =
+    begin 40 1 7 1 1 0 0xB84327C91B26AB1
+    ∷ ok (allocate (request (nm (0xC1 ∷ [])) (attr 1) 0 0 1 1 0 noDate)) 0x101000200010000000000000000000000000000000000 0x1D7FA1DBC2AFB0C5
+    ∷ ok (allocate (request (nm (0xE6 ∷ [])) (attr 2) 0 0 1 1 0 noDate)) 0x101000300010000000000000000000000000000000000 0x54BD44373B0E667
+    ∷ ok (allocate (request (nm (0xE5 ∷ [])) (attr 3) 0 0 1 1 0 noDate)) 0x101000400010000000000000000000000000000000000 0xE85CAC40CB0EB6B
+    ∷ put ((51, 0x00) ∷ (145, 0x22) ∷ (147, 0x03) ∷ (150, 0x27) ∷ (152, 0x01) ∷ (339, 0x10) ∷ (377, 0x04) ∷ (388, 0x03) ∷ (392, 0x03) ∷ (395, 0x01) ∷ (396, 0x01) ∷ (398, 0x05) ∷ (402, 0x05) ∷ (405, 0x01) ∷ (406, 0x02) ∷ (408, 0x07) ∷ (412, 0x07) ∷ (416, 0x01) ∷ (419, 0x06) ∷ (479, 0x10) ∷ (528, 0x02) ∷ (532, 0x02) ∷ (535, 0x01) ∷ (536, 0x01) ∷ (538, 0x04) ∷ (542, 0x04) ∷ (545, 0x01) ∷ (546, 0x02) ∷ (548, 0x06) ∷ (552, 0x06) ∷ (556, 0x01) ∷ (559, 0x07) ∷ (668, 0x25) ∷ (672, 0x26) ∷ (700, 0x03) ∷ (701, 0x03) ∷ (702, 0x03) ∷ (703, 0x03) ∷ (704, 0x01) ∷ (705, 0x03) ∷ (707, 0x09) ∷ (711, 0x09) ∷ (714, 0x01) ∷ (715, 0x04) ∷ (717, 0x0B) ∷ (721, 0x0B) ∷ (724, 0x01) ∷ (725, 0x05) ∷ (727, 0x0D) ∷ (731, 0x0D) ∷ (734, 0x01) ∷ (735, 0x06) ∷ (737, 0x0F) ∷ (741, 0x0F) ∷ (744, 0xF3) ∷ (745, 0x01) ∷ (746, 0x07) ∷ (748, 0x11) ∷ (752, 0x11) ∷ (755, 0x01) ∷ (756, 0x08) ∷ (758, 0x13) ∷ (762, 0x13) ∷ (765, 0x01) ∷ (766, 0x09) ∷ (768, 0x15) ∷ (772, 0x15) ∷ (775, 0x01) ∷ (776, 0x0A) ∷ (778, 0x17) ∷ (782, 0x17) ∷ (785, 0x01) ∷ (786, 0x0B) ∷ (788, 0x19) ∷ (792, 0x19) ∷ (795, 0x01) ∷ (796, 0x0C) ∷ (798, 0x1B) ∷ (802, 0x1B) ∷ (805, 0x01) ∷ (806, 0x0D) ∷ (808, 0x1D) ∷ (812, 0x1D) ∷ (815, 0x01) ∷ (816, 0x0E) ∷ (818, 0x1F) ∷ (822, 0x1F) ∷ (825, 0x01) ∷ (826, 0x0F) ∷ (828, 0x21) ∷ (832, 0x21) ∷ (840, 0x03) ∷ (841, 0x03) ∷ (842, 0x03) ∷ (843, 0x03) ∷ (844, 0x01) ∷ (845, 0x03) ∷ (847, 0x08) ∷ (851, 0x08) ∷ (854, 0x01) ∷ (855, 0x04) ∷ (857, 0x0A) ∷ (861, 0x0A) ∷ (864, 0x01) ∷ (865, 0x05) ∷ (867, 0x0C) ∷ (871, 0x0C) ∷ (874, 0x01) ∷ (875, 0x06) ∷ (877, 0x0E) ∷ (881, 0x0E) ∷ (884, 0xF3) ∷ (885, 0x01) ∷ (886, 0x07) ∷ (888, 0x10) ∷ (892, 0x10) ∷ (895, 0x01) ∷ (896, 0x08) ∷ (898, 0x12) ∷ (902, 0x12) ∷ (905, 0x01) ∷ (906, 0x09) ∷ (908, 0x14) ∷ (912, 0x14) ∷ (915, 0x01) ∷ (916, 0x0A) ∷ (918, 0x16) ∷ (922, 0x16) ∷ (925, 0x01) ∷ (926, 0x0B) ∷ (928, 0x18) ∷ (932, 0x18) ∷ (935, 0x01) ∷ (936, 0x0C) ∷ (938, 0x1A) ∷ (942, 0x1A) ∷ (945, 0x01) ∷ (946, 0x0D) ∷ (948, 0x1C) ∷ (952, 0x1C) ∷ (955, 0x01) ∷ (956, 0x0E) ∷ (958, 0x1E) ∷ (962, 0x1E) ∷ (965, 0x01) ∷ (966, 0x0F) ∷ (968, 0x20) ∷ (972, 0x20) ∷ [])
+    ∷ no (preview (extend (nm (0xC1 ∷ [])))) 10
+    ∷ no (extend (nm (0xC1 ∷ []))) 10
+    ∷ put ((377, 0x03) ∷ [])
+    ∷ ok (preview (extend (nm (0xC1 ∷ [])))) 0x301002200030000000000000000000000000000000000 0x895A75C93B267E0
+    ∷ ok (extend (nm (0xC1 ∷ []))) 0x301002200030000000000000000000000000000000000 0x19CF07ED1BFBD935
+    ∷ put ((377, 0x01) ∷ [])
+    ∷ no (preview (extend (nm (0xC1 ∷ [])))) 10
+    ∷ no (extend (nm (0xC1 ∷ []))) 10
+    ∷ ok (release (nm (0xC1 ∷ [])) 0xE01) 0x400000000000000000000000000000000000000000000 0x15E2A4710A45A64
+    ∷ ok (release (nm (0xE6 ∷ [])) 0xE01) 0x100000000000000000000000000000000000000000000 0xECEF7814850C72B
+    ∷ put ((377, 0x06) ∷ [])
+    ∷ ok (preview (extend (nm (0xC1 ∷ [])))) 0x602002000050027000100000000000000000000000000 0xF3C1BE0A981881B
+    ∷ ok (extend (nm (0xC1 ∷ []))) 0x602002000050027000100000000000000000000000000 0xEA4995B768E6939
+    ∷ ok (release (nm (0xC1 ∷ [])) 0x201) 0x1200000000000000000000000000000000000000000000 0x24A956D287055F6
+    ∷ ok (release (nm (0xE6 ∷ [])) 0x201) 0xC00000000000000000000000000000000000000000000 0x1AC49127B7580D59
+    ∷ ok (allocate (request (nm (0xE7 ∷ [])) (attr 20) 2 10 1 0 0 noDate)) 0x101000A00010000000000000000000000000000000000 0x165CEAB31FFC1C01
+    ∷ ok (allocate (request (nm (0xE8 ∷ [])) (attr 21) 2 11 26 0 0 noDate)) 0x1A01000B001A0000000000000000000000000000000000 0x766194B835AE51E
+    ∷ put ((377, 0x03) ∷ [])
+    ∷ no (preview (extend (nm (0xC1 ∷ [])))) 11
+    ∷ no (extend (nm (0xC1 ∷ []))) 11
+    ∷ put ((377, 0x01) ∷ [])
+    ∷ no (preview (extend (nm (0xC1 ∷ [])))) 11
+    ∷ no (extend (nm (0xC1 ∷ []))) 11
+    ∷ put ((377, 0x02) ∷ [])
+    ∷ ok (preview (extend (nm (0xC1 ∷ [])))) 0x201000800020000000000000000000000000000000000 0x1A41FC3268CD7DF7
+    ∷ ok (extend (nm (0xC1 ∷ []))) 0x201000800020000000000000000000000000000000000 0x1A9600F113BEB964
+    ∷ ok (release (nm (0xC1 ∷ [])) 0x201) 0x200000000000000000000000000000000000000000000 0x1A41FC3268CD7DF7
+    ∷ ok (scratch (nm (0xE8 ∷ [])) (date 4 0x0080365F) 0) 0x1A00000000000000000000000000000000000000000000 0x938CD9A056EB4DB
+    ∷ ok (allocate (request (nm (0xE8 ∷ [])) (attr 33) 2 12 25 0 0 noDate)) 0x1901000C00190000000000000000000000000000000000 0x1FAE92CA381673D3
+    ∷ ok (scratch (nm (0xE7 ∷ [])) (date 4 0x0080365F) 0) 0x100000000000000000000000000000000000000000000 0x1E90AF3969B89FFC
+    ∷ put ((377, 0x05) ∷ [])
+    ∷ ok (preview (extend (nm (0xC1 ∷ [])))) 0x502000800040027000100000000000000000000000000 0x186BC50C3DA2AD59
+    ∷ ok (extend (nm (0xC1 ∷ []))) 0x502000800040027000100000000000000000000000000 0xE9F3D277F4E922
+    ∷ []
+
+pub case44 : T (right [] sequence44)
+unfolding held gaps free used unused format0s choose extentPart format4 format5 format1 format3 records encode readGeometry readExtents readLabel readRecords read goodName limits goodLabel valid taken goodLength settle grant tracksKept toStored toPacked expiryFrom withExpiry rule goodLengths perform initialise convertDate printable listing
+case44 = tt
+
+-- Extend joins: types, and the last track beside the highest
+
+abbrev pub sequence45 : List Row
+sequence45 =
+    begin 10 3 7 1 1 0 0x8FEA2BC26758DF8
+    ∷ ok (allocate (request (nm (0xE6 ∷ [])) (attr 1) 2 2 1 0 0 noDate)) 0x101000200010000000000000000000000000000000000 0x4FA9476D70BFB82
+    ∷ ok (allocate (request (nm (0xC3 ∷ 0xE8 ∷ 0xD3 ∷ [])) (attr 2) 1 0 1 1 0 noDate)) 0x301000300030000000000000000000000000000000000 0x433BE1003169485
+    ∷ ok (preview (extend (nm (0xC3 ∷ 0xE8 ∷ 0xD3 ∷ [])))) 0x301000600030000000000000000000000000000000000 0x433BE1003169485
+    ∷ ok (extend (nm (0xC3 ∷ 0xE8 ∷ 0xD3 ∷ []))) 0x301000600030000000000000000000000000000000000 0x159890D9BBEC5F7D
+    ∷ put ((525, 0x01) ∷ [])
+    ∷ ok (extend (nm (0xC3 ∷ 0xE8 ∷ 0xD3 ∷ []))) 0x301000900030000000000000000000000000000000000 0x6909498F1535611
+    ∷ put ((514, 0x80) ∷ (525, 0x81) ∷ [])
+    ∷ ok (extend (nm (0xC3 ∷ 0xE8 ∷ 0xD3 ∷ []))) 0x101000C00010000000000000000000000000000000000 0x182DFF329A825389
+    ∷ ok (extend (nm (0xC3 ∷ 0xE8 ∷ 0xD3 ∷ []))) 0x101000D00010000000000000000000000000000000000 0x9E0D26292069B3D
+    ∷ ok (allocate (request (nm (0xD7 ∷ [])) (attr 10) 2 14 1 0 0 noDate)) 0x101000E00010000000000000000000000000000000000 0x53D9AFAC851FA68
+    ∷ ok (allocate (request (nm (0xD3 ∷ [])) (attr 11) 0 0 1 1 0 noDate)) 0x101000F00010000000000000000000000000000000000 0x50701B7C21C95D3
+    ∷ ok (scratch (nm (0xD7 ∷ [])) (date 4 0x0080365F) 0) 0x100000000000000000000000000000000000000000000 0x136E6BF5F68BF072
+    ∷ ok (extend (nm (0xD3 ∷ []))) 0x101000E00010000000000000000000000000000000000 0x155896A8789AB0DA
+    ∷ ok (extend (nm (0xD3 ∷ []))) 0x101001000010000000000000000000000000000000000 0x1EFA727F88292CFC
+    ∷ ok (extend (nm (0xD3 ∷ []))) 0x101001100010000000000000000000000000000000000 0x1F731B4B7350C2F1
+    ∷ ok (allocate (request (nm (0xE7 ∷ [])) (attr 16) 2 19 2 0 0 noDate)) 0x201001300020000000000000000000000000000000000 0x39BA7F1F51F2733
+    ∷ put ((797, 0x0A) ∷ [])
+    ∷ ok (preview (extend (nm (0xD3 ∷ [])))) 0xA02001500090012000100000000000000000000000000 0x1AF5021FC845FFB
+    ∷ ok (extend (nm (0xD3 ∷ []))) 0xA02001500090012000100000000000000000000000000 0x118F02D6CE774832
+    ∷ okLabels (obtain (nm (0xD3 ∷ []))) 0x0 0x118F02D6CE774832 0xD573F1ACD03CC25
+    ∷ ok (release (nm (0xD3 ∷ [])) 0x201) 0xB00000000000000000000000000000000000000000000 0x115BA24D5DF55172
+    ∷ []
+
+pub case45 : T (right [] sequence45)
+unfolding held gaps free used unused format0s choose extentPart format4 format5 format1 format3 records encode readGeometry readExtents readLabel readRecords read goodName limits goodLabel valid taken goodLength settle grant tracksKept toStored toPacked expiryFrom withExpiry rule goodLengths perform initialise convertDate printable listing
+case45 = tt

@@ -409,8 +409,8 @@ pub fn put_pieces(
     ensures { λ _. ⌜ ((l : Label) (ps : List Run) → extentsIn (geometryOf g) (now (f1 .entry)) (now (f3 .entry)) n ≡ l .extents → take count pieces ≡ map row ps → InRecords (geometryOf g) l (now (f1 .entry)) (now (f3 .entry)) → InRecords (geometryOf g) (longer (map (extent «type_byte») ps) l) (now (f1 .exit)) (now (f3 .exit))) × (length (now (f1 .exit)) ≡ 140) ⌝ }
 {
     if joins {
-        let first = piece_at(pieces, 0);
-        lengthen_last(f1, f3, g, n, type_byte, first.start, first.count);
+        let touching = piece_at(pieces, 0);
+        lengthen_last(f1, f3, g, n, type_byte, touching.start, touching.count);
         add_pieces(f1, f3, g, n, type_byte, behind_first(pieces), count - 1);
         return;
     }
