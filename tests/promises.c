@@ -341,7 +341,7 @@ static int gives_back(const char *text, uint32_t tt, uint32_t r, uint32_t tracks
     return ends_with(text, e, type, first, last) && vtoc_label_last_block(labels) == tt * 256 + r;
 }
 
-/* As versions before 401 left it: the last extent of a data set, its first or second, in two that touch. The latter begins at this
+/* As versions before 500 left it: the last extent of a data set, its first or second, in two that touch. The latter begins at this
    track. */
 static void split_last(const char *text, uint32_t track)
 {
