@@ -10,7 +10,7 @@ use lib.ListN.{getD, length, length-map, take}
 use lib.Seq.{getD-take}
 use Rattle.grant_space.specs.declared.Holder.{Holder}
 use Rattle.model.specs.Basics.{bit}
-use Rattle.model.specs.Model.{Extent, Geometry, Label, Run, Volume, covers, extent, held, oneSlot, overs, runsOf, slots, tally, times, tracks, used}
+use Rattle.model.specs.Model.{Extent, Geometry, Label, Run, Volume, covers, extent, held, oneSlot, runsOf, slots, tally, times, tracks, used}
 use Rattle.model.proofs.Lists.{sum-append, true-is}
 use Rattle.model.specs.Predicates.{All}
 use Rattle.rules.specs.Calls.{joined}

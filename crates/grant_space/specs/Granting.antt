@@ -35,7 +35,8 @@ abbrev pub firstStart : List (List ℕ) → ℕ
 firstStart rows = getD (getD rows 0 []) 0 0
 
 -- Beside the labels `others` of the volume that table t holds stands `label`, new or found, in the slots of h, with as many
--- extents. It is to have the pieces too, which stand in `rows`; h tells whether the first joins. The maps m and s show what the volume holds without them.
+-- extents. It is to have the pieces too, which stand in `rows`; h tells whether the first joins. The maps m and s show what the volume
+-- holds without them.
 pub record Grants (g : Geometry) (t m s : List ℕ) (h : Holder) (rows : List (List ℕ)) : Type 0 where
   pub volume : Volume
   pub others : List Label

@@ -4,20 +4,20 @@ use mathlib.Core.Path.{_≡_, sym, ap, _∙_, subst}
 use mathlib.Core.Bool.{true, false}
 use mathlib.Core.Option.{none, some}
 use mathlib.Core.List.{List, [], _∷_, _++_}
-use Prim.Native.Nat.{ℕ, suc, _+_, _≤_, _<_}
+use Prim.Native.Nat.{ℕ, suc, _+_, _≤_}
 use native.Mathlib.Nat.{lt-of-not-le}
 use native.Mathlib.Decide.{decLe}
 use native.Mathlib.Omega.{arith}
 use borrow.Author.Tests.{le-leb, lt-leb}
 use lib.Dec.{T, leb}
 use lib.ListN.{length}
-use Rattle.model.specs.Basics.{bit, sumOf}
-use Rattle.model.specs.Model.{Extent, Geometry, Label, Run, Volume, covers, format0s, free, held, overs, runsOf, times, tracks}
+use Rattle.model.specs.Basics.{bit}
+use Rattle.model.specs.Model.{Extent, Geometry, Label, Volume, covers, format0s, free, held, overs, runsOf, times, tracks}
 use Rattle.model.specs.Predicates.{All}
 use Rattle.model.proofs.Lists.{All-right, by-option, clash, is-true, sum-append}
 use Rattle.model.proofs.RunCount.{fewer-gaps}
 use Rattle.model.proofs.Runs.{hit-above, hit-below, hit-in}
-use Rattle.rules.specs.Calls.{accept, extend, granted, joined, longer, rule, trackAfter}
+use Rattle.rules.specs.Calls.{joined, longer, rule}
 use Rattle.rules.specs.Full.{freed, full, needed}
 use Rattle.rules.specs.Joining.{OnlyPieceJoins, touches}
 use Rattle.rules.specs.Predicates.{GoodExtent, Valid}

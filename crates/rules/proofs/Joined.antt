@@ -1,9 +1,9 @@
 -- The extents of a data set and pieces behind them, document 02, [6]: the pieces follow, or the first of them lengthens the last
 -- extent. `joined-cases` tells which; whatever adds up over tracks is the same in both. Assumes nothing.
 use mathlib.Core.Path.{_≡_, refl, sym, ap, ap₂, _∙_, subst}
-use mathlib.Core.Bool.{Bool, true, false, _&&_}
+use mathlib.Core.Bool.{true, _&&_}
 use mathlib.Core.List.{List, [], _∷_, _++_, append-assoc, append-nil}
-use Prim.Native.Nat.{ℕ, zero, suc, _+_, _-_, _%_, _≤_, _<_}
+use Prim.Native.Nat.{ℕ, zero, suc, _+_, _-_, _%_, _≤_}
 use native.Mathlib.Nat.{add-mod, add-zero, lt-of-not-le, zero-add, zero-mod}
 use native.Mathlib.Decide.{decLe}
 use native.Mathlib.Omega.{arith}

@@ -13,7 +13,7 @@ use Rattle.model.specs.Basics.{bit, sumOf}
 use Rattle.model.specs.Choice.{noOption}
 use Rattle.model.specs.Model.{Extent, Label, Run, Volume, overs, run}
 use Rattle.model.proofs.Lists.{by, clash, is-true}
-use Rattle.rules.specs.Calls.{Reply, accept, extend, extendPieces, extendSet, given, grant, granted, joined, longer, refuse, rule, secondaryOf, settled, trackAfter, unless}
+use Rattle.rules.specs.Calls.{Reply, accept, extend, extendPieces, extendSet, given, grant, granted, joined, longer, rule, secondaryOf, settled, trackAfter, unless}
 use Rattle.rules.specs.Full.{RefusedExactly}
 use Rattle.rules.specs.Joining.{EachExtends, Extended, ExtendedAfter, KeepsOneExtent, OneExtent, TenExactly, touches}
 use Rattle.rules.specs.Predicates.{Valid}

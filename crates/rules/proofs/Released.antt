@@ -8,20 +8,19 @@ use Prim.Native.Nat.{ℕ, suc, _-_, _%_, _≤_, _<_}
 use borrow.Author.Tests.{eq-eqb, ne-eqb}
 use lib.Dec.{T}
 use lib.ListN.{getD, length, take}
-use Rattle.model.specs.Basics.{find, orElse, same}
+use Rattle.model.specs.Basics.{same}
 use Rattle.model.specs.Model.{Extent, Geometry, Label, Volume, overs, runsOf, total}
 use Rattle.model.specs.Tracks.{tracksOf}
 use Rattle.model.proofs.Cylinders.{KeptCount}
-use Rattle.model.proofs.Lists.{All-map, All-both, is-true, same-refl}
+use Rattle.model.proofs.Lists.{All-map, All-both}
 use Rattle.model.specs.Predicates.{All}
 use Rattle.rules.specs.Calls.{Outcome, Reply, accept, cutType, given, givenBack, goodTtr, refuse, release, releaseTracks, releaseSet, rule, shorter, tell, tracksKeptOf, unless}
-use Rattle.rules.specs.Predicates.{GoodExtent, Unlike, Valid}
+use Rattle.rules.specs.Predicates.{GoodExtent, Valid}
 use Rattle.rules.specs.Slots.{changed, found, without}
-use Rattle.rules.specs.Table.{goodName, named, unitIn}
+use Rattle.rules.specs.Table.{goodName, unitIn}
 use Rattle.rules.proofs.Cut.{keep-cut, keep-same, keep-tracks, keep-typed, whole-extent}
 use Rattle.rules.proofs.FoundSet.{found-good}
 use Rattle.rules.proofs.Grants.{put-released, release-count}
-use Rattle.rules.proofs.Labels.{find-insert, found-name, unlike-without}
 use Rattle.rules.proofs.Placed.{Put, put-found}
 
 -- where a call is accepted, this holds of its reply and the volume after it

@@ -1,23 +1,22 @@
 -- A piece joins the last extent: how the code tells, and what it writes then. Assumes nothing.
 use mathlib.Core.Path.{_≡_, refl, sym, ap, ap₂, _∙_, subst}
 use mathlib.Core.Bool.{Bool, true, false, cond}
-use mathlib.Core.List.{List, [], _∷_, _++_, map, append-assoc}
+use mathlib.Core.List.{List, [], _∷_, _++_, map}
 use Prim.Native.Nat.{ℕ, zero, suc, _+_, _-_, _≤_, _<_}
 use native.Mathlib.Omega.{arith}
 use borrow.Author.Tests.{eqb-true}
 use lib.Dec.{eqb}
-use lib.ListN.{length, take, drop, getD, length-append, length-drop}
+use lib.ListN.{length, take, drop, getD, length-drop}
 use lib.Seq.{take-all, take-append-le, take-suc}
 use Rattle.model.specs.Basics.{bit}
 use Rattle.model.specs.Model.{Extent, Geometry, Label, Run, extent, run}
 use Rattle.model.specs.Predicates.{All}
-use Rattle.model.proofs.Lists.{All-at, All-drop, clash, drop-take}
+use Rattle.model.proofs.Lists.{All-drop, clash, drop-take}
 use Rattle.rules.specs.Calls.{joined, lengthened, longer, trackAfter}
 use Rattle.rules.specs.Joining.{touches}
 use Rattle.rules.specs.Layout.{extentPart}
-use Rattle.rules.specs.Reading.{readExtent, readExtents}
+use Rattle.rules.specs.Reading.{readExtent}
 use Rattle.rules.specs.Slots.{withExtents}
-use Rattle.rules.specs.Predicates.{GoodExtent}
 use Rattle.rules.proofs.Joined.{as-before, count-after-joining, last-lengthened}
 use Rattle.choose_pieces.specs.Grant.{row}
 use Rattle.dscb.proofs.Blocks.{noExtent}

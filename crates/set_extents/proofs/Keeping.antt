@@ -6,7 +6,7 @@ use Prim.Native.Nat.{ℕ, _+_, _-_, _*_, _/_, _≤_, _<_}
 use native.Mathlib.Nat.{zero-add}
 use native.Mathlib.Numerals.{add-one}
 use native.Mathlib.Omega.{arith}
-use borrow.Author.Tests.{eq-eqb, eqb-true, ne-eqb}
+use borrow.Author.Tests.{eq-eqb, eqb-true}
 use lib.Dec.{eqb}
 use lib.ListN.{length, getD, drop, drop-of-length-le}
 use lib.Seq.{drop-cons}
@@ -16,7 +16,6 @@ use Rattle.model.specs.Predicates.{StaysOf, keptFrom}
 use Rattle.model.specs.Tracks.{tracksKept, tracksOf}
 use Rattle.model.proofs.Cylinders.{kept-cylinders, kept-plain, tracks-length}
 use Rattle.model.proofs.Lists.{by, clash}
-use Rattle.rules.specs.Calls.{cutType}
 use Rattle.dscb.proofs.Blocks.{noExtent}
 use Rattle.set_extents.proofs.Cutting.{ExtentAt}
 

@@ -94,7 +94,7 @@ fn add_extent(
 }
 
 // Adds the first `count` pieces to the records of a label with n extents, behind them.
-pub fn add_pieces(
+fn add_pieces(
     f1: &mut [u8; 140],
     f3: &mut [u8; 140],
     g: dscb::Geometry,

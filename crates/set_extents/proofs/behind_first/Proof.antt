@@ -1,5 +1,4 @@
 use Rattle.set_extents.proofs.Joining.{behind-five}
-use native.Mathlib.Omega.{arith}
 use borrow.Author.Needs.{needs}
 use Rattle.set_extents.proofs.behind_first.Statement.{statement}
 use Rattle.set_extents.proofs.behind_first.Tie as tie

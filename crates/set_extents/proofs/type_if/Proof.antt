@@ -1,11 +1,8 @@
-use mathlib.Core.Bool.{cond}
 use mathlib.Core.List.{List}
 use mathlib.Core.Path.{ap, _∙_}
 use Prim.Native.Nat.{ℕ}
 use lib.ListN.{getD, length}
 use Rattle.dscb.proofs.Tens.{extent-length}
-use Rattle.rules.specs.Layout.{extentPart}
-use Rattle.rules.specs.Reading.{readExtent}
 use native.Mathlib.Omega.{arith}
 use borrow.Author.Needs.{needs}
 use Rattle.set_extents.proofs.type_if.Statement.{statement}
