@@ -1,4 +1,6 @@
 // The 24 answer bytes. They are built in an array, so that their number is known, and copied in one go.
+#![tactic(auto)]
+
 ghost use Rattle.std.specs.Prelude.{◌≡◌, List, map, ◌+◌, ◌≤◌, ◌<◌, length, take};
 ghost use Rattle.model.specs.Basics.{be2, zeros};
 ghost use Rattle.model.specs.Model.{Run, total};
@@ -34,7 +36,7 @@ pub fn put_nothing(out: &mut [u8])
     ensures { out.new ≡ zeros 24 }
 {
     let all = [0u8; 24];
-    bytes::copy(&all, out);
+    rows::copy(&all, out);
 }
 
 // The answer of a conversion: these bytes first.
@@ -43,8 +45,8 @@ pub fn put_first(out: &mut [u8], bs: &[u8])
     ensures { out.new ≡ answer (date_bytes bs.now) }
 {
     let nothing = [0u8; 24];
-    bytes::copy(&nothing, out);
-    bytes::copy(bs, out);
+    rows::copy(&nothing, out);
+    rows::copy(bs, out);
 }
 
 // The answer of a call that gave n tracks back.
@@ -54,7 +56,7 @@ pub fn put_back(out: &mut [u8], n: u32)
 {
     let zeros = [0u8; 24];
     let all = put_two(zeros, 0, n);
-    bytes::copy(&all, out);
+    rows::copy(&all, out);
 }
 
 // The answer of the space inquiry.
@@ -69,7 +71,7 @@ pub fn put_numbers(out: &mut [u8], six: [u32; 6])
         all = more;
         i += 1;
     }
-    bytes::copy(&all, out);
+    rows::copy(&all, out);
 }
 
 // The answer of a call that was granted the first `count` of these pieces, which have so many tracks.
@@ -86,5 +88,5 @@ pub fn put_granted(out: &mut [u8], pieces: [[u16; 2]; 5], count: usize, tracks: 
         all = more;
         i += 1;
     }
-    bytes::copy(&all, out);
+    rows::copy(&all, out);
 }

@@ -1,6 +1,8 @@
 // A map of bits, 64 to a word: bit t is bit t % 64 of word t / 64, set where a track (or a slot of the table) is free.
 // No loop goes by bits: each turn does the rest of a word. Tracks, and the ends of ranges, have 16 bits: no volume has 65,536 tracks. An
 // index of a word is made of one where the map is read.
+#![tactic(auto)]
+
 ghost use Rattle.std.specs.Prelude.{◌≡◌, false, true, List, ℕ, ◌+◌, ◌-◌, ◌*◌, ◌/◌, ◌%◌, ◌≤◌, ◌<◌, min, length};
 ghost use Rattle.bitmap.specs.Map.{bit_at, free_from, is_free, FreedBelow, Taken, Given, NextRun};
 ghost use Rattle.bitmap.specs.Steps.{WordsAlike, Counts, Ending, First, RestOfWord, Starts, FirstUnlike, Word, bit_before, block, flipped, runs_below};
@@ -143,7 +145,7 @@ fn flip(x: u64, free: bool) -> u64
 }
 
 // Tracks from the first up to the one behind the last.
-#[derive(Drop)]
+#[derive(Clone, Copy)]
 pub struct Span {
     pub from: u16,
     pub to: u16,
@@ -162,7 +164,7 @@ pub fn rest_of(map: &[u64], t: u16, n: u16) -> u64
 }
 
 // A run of free tracks, and the tracks behind it that lie in the word of its end.
-#[derive(Drop)]
+#[derive(Clone, Copy)]
 pub struct Ahead {
     pub from: u16,
     pub to: u16,
@@ -170,7 +172,7 @@ pub struct Ahead {
 }
 
 // A word of the map, by its number, and tracks of it.
-#[derive(Drop)]
+#[derive(Clone, Copy)]
 struct Place {
     at: usize,
     word: u64,
@@ -382,7 +384,7 @@ fn starts_in_eight(map: &[u64], w: usize, y: u64) -> usize
 }
 
 // How many runs start before a word, and the word before that.
-#[derive(Drop)]
+#[derive(Clone, Copy)]
 struct Counted {
     runs: usize,
     last: u64,

@@ -1,4 +1,6 @@
 // Allocate: space for a new data set.
+#![tactic(auto)]
+
 ghost use Rattle.std.specs.Prelude.{◌≡◌, ◌&&◌, ◌*◌, T, eqb, length};
 ghost use Rattle.model.specs.Model.{slots};
 ghost use Rattle.rules.specs.Reading.{read};

@@ -1,4 +1,6 @@
 // The conversions of dates, which have no table.
+#![tactic(auto)]
+
 ghost use Rattle.rules.specs.Promises.{DateToPacked, DateToStored};
 
 use refusals::*;

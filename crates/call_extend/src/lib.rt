@@ -1,4 +1,6 @@
 // Extend: the secondary amount for a data set.
+#![tactic(auto)]
+
 ghost use Rattle.rules.specs.Promises.{Extends, PreviewsExtend};
 ghost use Rattle.check_table.specs.Check.{Roomy};
 

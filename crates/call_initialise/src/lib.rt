@@ -1,4 +1,6 @@
 // Initialise: a table with no data set.
+#![tactic(auto)]
+
 ghost use Rattle.std.specs.Prelude.{◌≡◌, [], ◌+◌, ◌*◌, ◌≤◌, ◌<◌, length};
 ghost use Rattle.model.specs.Basics.{zeros};
 ghost use Rattle.model.specs.Model.{free, slots};

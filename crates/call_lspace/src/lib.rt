@@ -1,5 +1,7 @@
 // LSPACE, the space inquiry: how many free cylinders, odd tracks, free extents and format 0s there are, and the longest
 // free extent. All but the format 0s is read in the entries of the format 5s.
+#![tactic(auto)]
+
 ghost use Rattle.std.specs.Prelude.{◌≡◌, List, ◌*◌, ◌≤◌, ◌<◌, max, length};
 ghost use Rattle.model.specs.Model.{Run, slots};
 ghost use Rattle.model.specs.Predicates.{All};
@@ -13,7 +15,7 @@ ghost use Rattle.call_lspace.specs.Totals.{Added, Below, Summed, none};
 use dscb::Geometry;
 
 // What free extents add up to: their cylinders and odd tracks, how many they are, and the tracks of the longest.
-#[derive(Drop)]
+#[derive(Clone, Copy)]
 pub struct Sums {
     pub cylinders: u64,
     pub odd: u64,

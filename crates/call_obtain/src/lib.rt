@@ -1,4 +1,6 @@
 // Obtain: the label records of a data set.
+#![tactic(auto)]
+
 ghost use Rattle.std.specs.Prelude.{◌≡◌, ◌++◌, ◌+◌, ◌*◌, ◌≤◌, ◌<◌, length};
 ghost use Rattle.model.specs.Model.{slots};
 ghost use Rattle.rules.specs.Promises.{Obtains};

@@ -1,4 +1,6 @@
 // Release: the tracks of a data set behind its last block given back.
+#![tactic(auto)]
+
 ghost use Rattle.rules.specs.Promises.{PreviewsRelease, Releases};
 ghost use Rattle.check_table.specs.Check.{Roomy};
 

@@ -1,4 +1,6 @@
 // Rename: another name for a data set.
+#![tactic(auto)]
+
 ghost use Rattle.std.specs.Prelude.{◌≡◌, ◌+◌, ◌*◌, ◌≤◌, length};
 ghost use Rattle.model.specs.Model.{Geometry, Label};
 ghost use Rattle.rules.specs.Promises.{Renames};

@@ -1,4 +1,6 @@
 // Scratch: a data set taken off the volume, if its expiry date lets it go.
+#![tactic(auto)]
+
 ghost use Rattle.std.specs.Prelude.{◌≡◌, ◌&&◌, ◌+◌, ◌*◌, ◌≤◌, eqb, length};
 ghost use Rattle.model.specs.Basics.{part};
 ghost use Rattle.rules.specs.Promises.{PreviewsScratch, Scratches};

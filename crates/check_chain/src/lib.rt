@@ -1,4 +1,6 @@
 // The chain of format 5s in a table, held against the map of free tracks.
+#![tactic(auto)]
+
 ghost use Rattle.std.specs.Prelude.{◌≡◌, false, ◌*◌, ◌/◌, ◌%◌, ◌≤◌, ◌<◌, drop, length};
 ghost use Rattle.model.specs.Basics.{part};
 ghost use Rattle.model.specs.Model.{slots, tracks};
@@ -14,7 +16,7 @@ use dscb::places::*;
 
 // One format 5: whether it holds what it must, whether it is the last, and where the chain goes on: the slot, and the
 // track whose free extents are the first there.
-#[derive(Drop)]
+#[derive(Clone, Copy)]
 pub struct Member {
     pub ok: bool,
     pub last: bool,
@@ -35,7 +37,7 @@ fn refused() -> Member
 }
 
 // How entries compare with the runs of free tracks: whether they are those, and the track from which the other runs go on.
-#[derive(Drop)]
+#[derive(Clone, Copy)]
 pub struct Compared {
     pub ok: bool,
     pub next: u16,

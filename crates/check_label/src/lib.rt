@@ -1,5 +1,7 @@
 // Data sets' labels in a table: whether a format 1, with its format 3, is as the layout says, and its tracks and slots taken
 // out of the maps of free ones.
+#![tactic(auto)]
+
 ghost use Rattle.std.specs.Prelude.{◌≡◌, List, ℕ, ◌-◌, ◌*◌, ◌≤◌, ◌<◌, length};
 ghost use Rattle.model.specs.Model.{slots, tracks};
 ghost use Rattle.rules.specs.Predicates.{Limits};
@@ -11,7 +13,7 @@ use dscb::Geometry;
 use dscb::places::*;
 
 // What the label in a slot turns out to be: good, with the slot of its format 3, 0 for none; or bad, refusal 3.
-#[derive(Drop)]
+#[derive(Clone, Copy)]
 pub enum Form {
     Good(usize),
     Bad,

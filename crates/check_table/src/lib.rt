@@ -1,4 +1,6 @@
 // Whether a table is taken: the test that stands before every call.
+#![tactic(auto)]
+
 ghost use Rattle.std.specs.Prelude.{◌≡◌, ◌*◌, ◌≤◌, ◌<◌, length, false};
 ghost use Rattle.check_table.specs.Spare.{Spared, highest_slot};
 ghost use Rattle.model.specs.Model.{slots, tracks};
@@ -17,7 +19,7 @@ use dscb::{Geometry, *};
 use rows::*;
 
 // Whether the free slots are zero and, if so, how many they are.
-#[derive(Drop)]
+#[derive(Clone, Copy)]
 pub struct Spares {
     pub clear: bool,
     pub count: usize,
@@ -111,7 +113,7 @@ pub fn take_labels(
 
 // What the check tells of a table: whether it is taken and, where it is, its geometry, the number of its format 0s and the
 // highest slot of a format 1, 0 for none. Where it is not taken these are any numbers.
-#[derive(Drop)]
+#[derive(Clone, Copy)]
 pub struct Verdict {
     pub taken: bool,
     pub geometry: Geometry,

@@ -1,6 +1,8 @@
 // The choice of pieces out of the free tracks, for any unit: 1 track, or the tracks of a cylinder.
 // One pass over the free extents that the table lists finds the best fit and the five longest candidates. It ends at a candidate
 // that has exactly the amount: no later one is better, and the five longest are then of no use.
+#![tactic(auto)]
+
 ghost use Rattle.std.specs.Prelude.{◌≡◌, true, List, [], map, ◌+◌, ◌-◌, ◌*◌, ◌≤◌, ◌<◌, length, take};
 ghost use Rattle.model.specs.Basics.{map_option};
 ghost use Rattle.model.specs.Model.{Run, run, slots, total};
@@ -15,7 +17,7 @@ ghost use Rattle.choose_pieces.specs.Pass.{to_run, to_runs, padded, better, fits
 use dscb::Geometry;
 
 // Units that follow each other: the first, and how many; none where the count is 0.
-#[derive(Drop)]
+#[derive(Clone, Copy)]
 struct Units {
     start: u32,
     count: u32,
@@ -287,7 +289,7 @@ fn several_pieces(five: [[u32; 2]; 5], u: u32, amount: u32) -> [[u16; 2]; 5]
 // ---- the options of a request
 
 // CONTIG: one piece or nothing. MXIG: the longest candidate whole. ALX: every candidate that serves whole, five at most.
-#[derive(Drop)]
+#[derive(Clone, Copy)]
 pub enum SpaceOption {
     NoOption,
     Contig,
@@ -352,7 +354,7 @@ pub fn choose(table: &[u8], g: Geometry, option: SpaceOption, u: u32, amount: u3
 }
 
 // What is granted: how many pieces, none where it is 0, and their tracks.
-#[derive(Drop)]
+#[derive(Clone, Copy)]
 pub struct Chosen {
     pub count: usize,
     pub tracks: u32,

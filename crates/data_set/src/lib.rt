@@ -1,4 +1,6 @@
 // The data set whose format 1 is in a slot: its records, how many extents it has, and the slot of its format 3.
+#![tactic(auto)]
+
 ghost use Rattle.std.specs.Prelude.{◌≡◌, ◌+◌, ◌*◌, ◌≤◌, ◌<◌, length};
 ghost use Rattle.model.specs.Model.{slots};
 ghost use Rattle.rules.specs.Predicates.{Limits};
@@ -9,7 +11,7 @@ use dscb::Geometry;
 use dscb::places::*;
 
 // Without a format 3, `slot3` is 0, and `f3` is one that no extent stands in.
-#[derive(Drop)]
+#[derive(Clone, Copy)]
 pub struct Held {
     pub f1: [u8; 140],
     pub f3: [u8; 140],

@@ -1,19 +1,21 @@
 // Dates (document 02, [5]): packed, in four bytes, to stored, in three, and back; which of two is later; an expiry date put among the
 // attributes of a data set. Years are counted from 1900 here.
+#![tactic(auto)]
+
 ghost use Rattle.std.specs.Prelude.{◌≡◌, cond, ◌+◌, ◌*◌, ◌/◌, ◌%◌, ◌<◌, length};
 ghost use Rattle.std.proofs.Math.Option.{none, some};
 ghost use Rattle.rules.specs.Dates.{date, expiry_from, good_date, later, leap, packed_form, stored_form, to_packed, to_stored, with_expiry};
 ghost use Rattle.dates.specs.Digits.{day_in, digits_in, two_digits, year_in};
 
 // A date as a format 1 holds it; where it is none, the bytes are zero.
-#[derive(Drop)]
+#[derive(Clone, Copy)]
 pub struct Stored {
     pub ok: bool,
     pub bytes: [u8; 3],
 }
 
 // A date packed; where it is none, the bytes are zero.
-#[derive(Drop)]
+#[derive(Clone, Copy)]
 pub struct Packed {
     pub ok: bool,
     pub bytes: [u8; 4],
@@ -215,7 +217,7 @@ pub fn with_expiry(stored: &[u8], attributes: &[u8]) -> [u8; 52]
     ensures { result ≡ with_expiry stored.now attributes.now }
 {
     let mut r = [0u8; 52];
-    bytes::copy(attributes, &mut r);
+    rows::copy(attributes, &mut r);
     r[11] = stored[0];
     r[12] = stored[1];
     r[13] = stored[2];

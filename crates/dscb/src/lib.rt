@@ -1,5 +1,7 @@
 // Label records (DSCBs), read and tested where they stand: the geometry in the format 4, what each format must hold, extents and
 // addresses. Places of bytes have IBM's names.
+#![tactic(auto)]
+
 ghost use Rattle.std.specs.Prelude.{◌≡◌, false, ◌&&◌, ◌+◌, ◌-◌, ◌*◌, ◌≤◌, ◌<◌, min, leb, ltb, length};
 ghost use Rattle.model.specs.Basics.{get2};
 ghost use Rattle.model.specs.Model.{slots, tracks};
@@ -18,7 +20,7 @@ use places::*;
 
 // C cylinders, H tracks in each (heads), D records a track, and the VTOC: V tracks from track S on. A volume has at most 65,535 tracks, so
 // 16 bits hold each of them, and every sum and product of tracks that a taken table has.
-#[derive(Drop)]
+#[derive(Clone, Copy)]
 pub struct Geometry {
     pub cylinders: u16,
     pub heads: u16,
@@ -265,7 +267,7 @@ pub fn put_record(table: &mut [u8], k: usize, rec: &[u8; 140])
     ensures { table.new ≡ put_record table.old k rec.now }
 {
     let a = 140 * k;
-    bytes::copy(rec, &mut table[a..]);
+    rows::copy(rec, &mut table[a..]);
 }
 
 // The ten bytes of extent number e: a part of the format 1 (DS1EXT1 to 3) or of the format 3 (DS3EXTNT, DS3ADEXT), handed

@@ -1,5 +1,7 @@
 // Label records (DSCBs) built: bytes put at their places, where the record stands; formats 4 and 5 whole; formats 1 and 3 of a data set,
 // where each function takes the records of some label to those of another.
+#![tactic(auto)]
+
 ghost use Rattle.std.specs.Prelude.{◌≡◌, [], ℕ, ◌+◌, ◌-◌, ◌*◌, ◌/◌, ◌%◌, ◌≤◌, ◌<◌, length, replicate};
 ghost use Rattle.model.specs.Basics.{be2, be3};
 ghost use Rattle.model.specs.Model.{extent, run, slots, Geometry, Label};
@@ -82,7 +84,7 @@ pub fn put_extent(
 }
 
 // A number of tracks: whole cylinders, odd tracks.
-#[derive(Drop)]
+#[derive(Clone, Copy)]
 struct Cylinders {
     whole: u16,
     odd: u16,
@@ -222,7 +224,7 @@ pub fn five(
     ensures { Fills (geometry_of g) free_tracks.now n at k rec.new result }
 {
     let made = empty_five(g, k);
-    bytes::copy(&made, rec);
+    rows::copy(&made, rec);
     let mut t = at;
     let mut x = bitmap::rest_of(free_tracks, at, n);
     let mut j: usize = 0;

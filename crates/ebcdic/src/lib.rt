@@ -1,4 +1,6 @@
 // EBCDIC characters: those of data set names and the rule for names; label bytes as printable characters.
+#![tactic(auto)]
+
 ghost use Rattle.std.specs.Prelude.{◌≡◌, cond, ◌+◌, ◌≤◌, ◌<◌, min, length};
 ghost use Rattle.rules.specs.Table.{good_name, in_part, starts_part};
 ghost use Rattle.ebcdic.specs.Pairs.{Tells, brief, class_of, fit, least_of_four, sixteen_to, wanted_after};

@@ -1,1 +1,2 @@
 // Worked examples of the definitions of `rules` (specs/); this crate has no code.
+#![tactic(auto)]

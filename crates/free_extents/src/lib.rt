@@ -1,5 +1,7 @@
 // The free extents as a taken table lists them: the chain of format 5s, member by member. A call that only reads free space
 // goes along the entries, which costs less than a search in the map of free tracks.
+#![tactic(auto)]
+
 ghost use Rattle.std.specs.Prelude.{◌≡◌, List, ℕ, suc, ◌+◌, ◌*◌, ◌/◌, ◌%◌, ◌≤◌, ◌<◌, drop, length};
 ghost use Rattle.model.specs.Model.{Run, run, slots};
 ghost use Rattle.rules.specs.Reading.{entry_place, read_entry};
@@ -10,7 +12,7 @@ ghost use Rattle.free_extents.specs.FreeList.{Lists};
 use dscb::Geometry;
 
 // A free extent (hole) as its entry has it; an entry that is not used has no track.
-#[derive(Drop)]
+#[derive(Clone, Copy)]
 pub struct Hole {
     pub start: u32,
     pub count: u32,

@@ -1,5 +1,7 @@
 // What release and scratch do after the lookup: the data set's tracks counted and given back, its slots freed, the change planned; where it
 // fits, the data set is cut or taken out. Its extents are read where they stand, in the table.
+#![tactic(auto)]
+
 ghost use Rattle.std.specs.Prelude.{◌≡◌, ℕ, ◌*◌, ◌/◌, ◌≤◌, ◌<◌, ◌+◌, List, [], ◌++◌, length, take, leb};
 ghost use Rattle.model.specs.Model.{slots, tracks, Extent, overs, total};
 ghost use Rattle.model.specs.Tracks.{tracks_kept, tracks_of};
@@ -22,7 +24,7 @@ use update::{Home, Plan};
 
 // A data set: the slots of its format 1 and its format 3, 0 for none, its unit, how many extents it has, its tracks and the lowest
 // of them.
-#[derive(Drop)]
+#[derive(Clone, Copy)]
 pub struct Measured {
     pub slot: usize,
     pub slot3: usize,
@@ -114,7 +116,7 @@ fn few_stay(k: Kept) -> bool
 }
 
 // What stays of a data set, whether that needs no format 3, and the plan.
-#[derive(Drop)]
+#[derive(Clone, Copy)]
 pub struct Cut {
     pub kept: Kept,
     pub few: bool,
@@ -155,7 +157,7 @@ fn cut_set(f1: &mut [u8; 140], f3: &mut [u8; 140], g: Geometry, kept: Kept, ttr:
 
 // What is decided of a release: the refusal, 0 for none; where it is 0, the data set, what stays of it and a plan that fits. Where it
 // is not, these are any numbers.
-#[derive(Drop)]
+#[derive(Clone, Copy)]
 pub struct Decision {
     pub refusal: u32,
     pub set: Measured,
@@ -286,7 +288,7 @@ pub fn preview_release(
 }
 
 // A data set that is to go, and the plan of what is left.
-#[derive(Drop)]
+#[derive(Clone, Copy)]
 pub struct Leaving {
     pub set: Measured,
     pub plan: Plan,

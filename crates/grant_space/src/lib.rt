@@ -1,5 +1,7 @@
 // What allocate and extend do after the lookup: pieces are chosen, leave the map, and the slots are planned; where they fit, the data
 // set's records get the pieces and the table is written.
+#![tactic(auto)]
+
 ghost use Rattle.std.specs.Prelude.{◌≡◌, ℕ, ◌+◌, ◌*◌, ◌≤◌, ◌<◌, List, leb, length, take};
 ghost use Rattle.model.specs.Model.{slots, tracks};
 ghost use Rattle.rules.specs.Predicates.{Limits};
@@ -21,7 +23,7 @@ use update::{Home, Plan};
 
 // A data set that is granted pieces: the slots of its format 1 and its format 3, 0 for none, how many extents it has, how many
 // pieces it gets, of which type, and whether the first of them joins the last extent.
-#[derive(Drop)]
+#[derive(Clone, Copy)]
 pub struct Holder {
     pub slot: usize,
     pub slot3: usize,
@@ -107,7 +109,7 @@ pub fn write_grant(
 
 // What is decided of a grant: the refusal, 0 for none; where it is 0, the data set with its pieces and a plan that fits. Where it is
 // not, these are any numbers.
-#[derive(Drop)]
+#[derive(Clone, Copy)]
 pub struct Decision {
     pub refusal: u32,
     pub set: Holder,
@@ -268,7 +270,7 @@ pub fn preview_place(
 
 // What an extend asks for, by the format 1: the refusal, 8 or 0 for none, and where it is 0 the secondary amount. No label keeps an
 // option.
-#[derive(Drop)]
+#[derive(Clone, Copy)]
 pub struct More {
     pub refusal: u32,
     pub amount: Amount,

@@ -1,4 +1,6 @@
 // The listing of a table: its lines, and the whole, taken or not.
+#![tactic(auto)]
+
 ghost use Rattle.std.specs.Prelude.{◌≡◌, ◌+◌, ◌*◌, ◌≤◌, ◌<◌, [], ◌∷◌, length, take};
 ghost use Rattle.model.specs.Model.{overs, run, total, slots};
 ghost use Rattle.model.specs.Predicates.{All};

@@ -1,4 +1,6 @@
 // Names in a table: the lookup, and that no two data sets have the same one.
+#![tactic(auto)]
+
 ghost use Rattle.std.specs.Prelude.{◌≡◌, ◌+◌, ◌*◌, ◌≤◌, ◌<◌, length};
 ghost use Rattle.names.specs.Find.{is_named, answer_of, find_slot, is_nothing, keyed, mixed, tag_of, has_tag, Tagged, Seen, Entered};
 
@@ -7,7 +9,7 @@ use dscb::*;
 use rows::*;
 
 // A lookup's answer.
-#[derive(Drop)]
+#[derive(Clone, Copy)]
 pub enum Found {
     Slot(usize),
     Nothing,

@@ -1,5 +1,7 @@
 // What each call but initialise does first: the lengths, the check of the table, the rule for names. What refuses a call here is told
 // by one definition, `open_number`.
+#![tactic(auto)]
+
 ghost use Rattle.std.specs.Prelude.{◌≡◌, not, true, ◌&&◌, ◌*◌, ◌≤◌, ◌<◌, eqb, length};
 ghost use Rattle.model.specs.Model.{slots, tracks};
 ghost use Rattle.rules.specs.Reading.{read_geometry};
@@ -50,7 +52,7 @@ pub fn is_small(table: &[u8]) -> bool
 
 // What a call is told when it has opened a table: the refusal, 0 for none, and where it is 0 the table's geometry, the number of its
 // format 0s and the highest slot of a format 1. Where the call is refused these are any numbers.
-#[derive(Drop)]
+#[derive(Clone, Copy)]
 pub struct Opening {
     pub refusal: u32,
     pub geometry: Geometry,
@@ -157,7 +159,7 @@ pub fn on_volume(table: &[u8], g: Geometry, name: &[u8]) -> bool
 
 // What a call on one data set is told: the refusal, 0 for none, and where it is 0 the table's geometry and the slot of the data set's
 // format 1. Where the call is refused these are any numbers.
-#[derive(Drop)]
+#[derive(Clone, Copy)]
 pub struct SetOpening {
     pub refusal: u32,
     pub geometry: Geometry,

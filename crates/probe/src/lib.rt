@@ -1,5 +1,7 @@
 // The check of a table, the name rule alone and the ten bytes of an extent, for programs in C or Rust that test them: the caller lends
 // the table, the name or the two records, and nothing else.
+#![tactic(auto)]
+
 ghost use Rattle.std.specs.Prelude.{◌≡◌};
 ghost use Rattle.probe.specs.Number.{check_number, extent_byte, name_number};
 

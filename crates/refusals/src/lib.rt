@@ -1,4 +1,6 @@
 // The refusals of documents 01 and 02 by name. include/vtoc.h has the same words (VTOC_E_..), and what a host does with each.
+#![tactic(auto)]
+
 pub const E_GEOMETRY: u32 = 1;
 
 pub const E_LENGTH: u32 = 2;

@@ -1,5 +1,7 @@
 // replay [[START] END]: plays the recorded calls on standard input (docs/REPLAY.md), and prints a line for each. END is a file to
 // make: the table that the last record left is written there. START is a file with the table before the first record.
+#![tactic(auto)]
+
 ghost use Rattle.std.specs.Prelude.{◌≡◌, ◌<◌, length};
 
 use libc::{STDERR_FILENO, STDIN_FILENO, STDOUT_FILENO};

@@ -1,4 +1,6 @@
 // Recorded calls (docs/REPLAY.md): the fields of a record, the digest of a buffer, and the line that is printed.
+#![tactic(auto)]
+
 ghost use Rattle.std.specs.Prelude.{◌≡◌, ◌+◌, ◌*◌, ◌≤◌, ◌<◌, ◌∷◌, length};
 ghost use Rattle.rows.specs.Text.{Written};
 ghost use Rattle.replay_record.specs.Line.{be4, digest, hex, hex_byte, hex_digit, line_of, two_digits};
@@ -82,7 +84,7 @@ pub fn put_over(table: &mut [u8], place: usize, s: &[u8])
 {
     if place < table.len() {
         let n = rows::at_most(s.len(), table.len() - place);
-        bytes::copy(&s[..n], &mut table[place..]);
+        rows::copy(&s[..n], &mut table[place..]);
     }
 }
 

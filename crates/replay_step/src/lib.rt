@@ -1,4 +1,6 @@
 // One record played (docs/REPLAY.md).
+#![tactic(auto)]
+
 ghost use Rattle.std.specs.Prelude.{◌≡◌, get_or, length};
 ghost use Rattle.rules.specs.Calls.{allocate, date_to_packed, date_to_stored, extend, lspace, preview, release, rename};
 ghost use Rattle.rules.specs.Entries.{lent, result_of};

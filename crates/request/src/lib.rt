@@ -1,4 +1,6 @@
 // A request for space: its amount in one of three kinds, its option, the range of its numbers, and what it is granted.
+#![tactic(auto)]
+
 ghost use Rattle.std.specs.Prelude.{◌≡◌, cond, true, ◌&&◌, List, ◌+◌, ◌-◌, ◌*◌, ◌≤◌, ◌<◌, eqb, leb, length};
 ghost use Rattle.std.proofs.Math.Option.{some};
 ghost use Rattle.model.specs.Basics.{all, up_from, within};
@@ -16,7 +18,7 @@ use choose_pieces::SpaceOption;
 use dscb::Geometry;
 
 // An amount: how many tracks, how many cylinders, or from which track on how many.
-#[derive(Drop)]
+#[derive(Clone, Copy)]
 pub enum Amount {
     Tracks(u32),
     Cylinders(u32),
@@ -24,7 +26,7 @@ pub enum Amount {
 }
 
 // What is asked for now, by which option, and how much each extend will ask for, in the same unit.
-#[derive(Drop)]
+#[derive(Clone, Copy)]
 pub struct Request {
     pub amount: Amount,
     pub option: SpaceOption,

@@ -1,10 +1,20 @@
 // Numbers and rows of bytes: read, compared eight bytes at a time; text written into a buffer.
-ghost use Rattle.std.specs.Prelude.{◌≡◌, ◌+◌, ◌≤◌, ◌<◌, min, [], ◌∷◌, length};
+#![tactic(auto)]
+
+ghost use Rattle.std.specs.Prelude.{◌≡◌, ◌+◌, ◌≤◌, ◌<◌, min, [], ◌∷◌, ◌++◌, length, take, drop};
 ghost use Rattle.model.specs.Basics.{get2, get3, part, same};
 ghost use Rattle.rows.specs.Words.{all_are, word4, word8};
 ghost use Rattle.rows.specs.Text.{Written};
 
 // ---- numbers and rows of bytes
+
+// Copies bytes over the first ones of a buffer, which is as long or longer.
+pub fn copy(from: &[u8], to: &mut [u8])
+    requires { length from.now ≤ length to.old }
+    ensures { (length to.new ≡ length to.old) × (to.new ≡ take (length from.now) from.now ++ drop (length from.now) to.old) }
+{
+    to[..from.len()].copy_from_slice(from);
+}
 
 // A byte as a number.
 pub fn wide(x: u8) -> u32

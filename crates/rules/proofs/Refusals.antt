@@ -1,5 +1,5 @@
 -- No call answers a refusal that document 01 does not give it (specs/Refusals), on any buffers. Assumes nothing.
-use mathlib.Core.Path.{◌≡◌, refl, subst}
+use mathlib.Core.Path.{◌≡◌, refl, subst, sym}
 use mathlib.Core.Bool.{Bool, true, false, not, ◌&&◌}
 use mathlib.Core.Option.{Option, none, some}
 use mathlib.Core.List.{List, ◌∷◌}
@@ -11,7 +11,7 @@ use Rattle.model.specs.Model.{Geometry, Label, Volume, overs, runs_of, slots, to
 use Rattle.model.proofs.Lists.{by, by-option, clash, true-is}
 use Rattle.rules.specs.Calls.{Call, DateCall, Outcome, Reply, accept, allocate, allocate_amount, allocate_by, allocate_pieces, allocate_stored, amount_of, date_to_packed, date_to_stored, dated, extend, extend_pieces, extend_set, given, given_back, good_ttr, grant, granted, in_range, joined, longer, lspace, new_set, obtain, obtain_set, on_copy, option_for, preview, refuse, release, release_set, rename, rename_set, rule, scratch, scratch_on, scratch_set, tell, secondary_of, settled, shorter, tracks_kept_of, unless}
 use Rattle.rules.specs.Dates.{to_packed, to_stored, unexpired}
-use Rattle.rules.specs.Entries.{Lent, convert_date, date_length, good_lengths, initialise, perform, written}
+use Rattle.rules.specs.Entries.{Lent, Result, convert_date, date_length, good_lengths, initialise, perform, written}
 use Rattle.rules.specs.Reading.{read}
 use Rattle.rules.specs.Refusals.{OneOf, ZeroOr, refusals, refusals_of_date_call, refusals_of_initialise}
 use Rattle.rules.specs.Slots.{added, changed, found, is_new, removed}
@@ -122,18 +122,30 @@ written_listed c b (refuse n) h = by (eqb n 0) (λ e. rw e) (λ e. rw e h.within
 written_listed c b (accept r w) h = refl
 written_listed c b (tell r) h = refl
 
+-- a call on buffers of good lengths whose table is taken, on another table, and on other lengths
+performed-taken : (b : Lent) (c : Call) → good_lengths b c ≡ true → taken b.table ≡ true → perform b c ≡ written b (rule (read b.table) c)
+unfolding perform
+performed-taken b c u t = rw (u, t)
+
+performed-untaken : (b : Lent) (c : Call) → good_lengths b c ≡ true → taken b.table ≡ false → perform b c ≡ written b (refuse 3)
+unfolding perform
+performed-untaken b c u t = rw (u, t)
+
+performed-short : (b : Lent) (c : Call) → good_lengths b c ≡ false → perform b c ≡ written b (refuse 2)
+unfolding perform
+performed-short b c u = rw u
+
 -- A CALL ANSWERS 0 OR ONE OF ITS REFUSALS, ON ANY BUFFERS
 pub refusals-listed : (b : Lent) (c : Call) → ZeroOr (refusals c) (perform b c).number
-unfolding perform
 refusals-listed b c =
     by (good_lengths b c)
     (λ u.
     by (taken b.table)
     (λ t.
     let good : Valid (read b.table) = (taken_is b.table (true-is t)).0 in
-    rw (u, t) (written_listed c b (rule (read b.table) c) (rule-listed (read b.table) good c)))
-    (λ t. rw (u, t, (begins c).1)))
-    (λ u. rw (u, (begins c).1))
+    subst (λ (r : Result). ZeroOr (refusals c) r.number) (sym (performed-taken b c u t)) (written_listed c b (rule (read b.table) c) (rule-listed (read b.table) good c)))
+    (λ t. subst (λ (r : Result). ZeroOr (refusals c) r.number) (sym (performed-untaken b c u t)) (rw (begins c).1)))
+    (λ u. subst (λ (r : Result). ZeroOr (refusals c) r.number) (sym (performed-short b c u)) (rw (begins c).1))
 
 pub initialise-listed : (g : Geometry) (b : Lent) → ZeroOr refusals_of_initialise (initialise g b).number
 unfolding initialise

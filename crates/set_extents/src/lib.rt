@@ -1,4 +1,6 @@
 // The extents of one data set, granted more or cut: in its records, and in the map of free tracks.
+#![tactic(auto)]
+
 ghost use Rattle.std.specs.Prelude.{◌≡◌, ℕ, ◌+◌, ◌*◌, ◌/◌, ◌≤◌, ◌<◌, min, cond, true, List, [], ◌∷◌, ◌++◌, map, length, take, drop, get_or};
 ghost use Rattle.model.specs.Basics.{bit};
 ghost use Rattle.model.specs.Model.{Geometry, Label, Run, extent, overs, run, total, tracks};
@@ -15,7 +17,7 @@ ghost use Rattle.dscb_write.specs.Labels.{Format3, with_extent, first_extents};
 ghost use Rattle.set_extents.specs.Change.{GaveTail, InRecords, NoneBelow, PieceIn, SetIn, Spreads, Stays, TookPieces, extents_in, granted, shortened};
 
 // Tracks that follow each other: the first, and how many.
-#[derive(Drop)]
+#[derive(Clone, Copy)]
 struct Tracks {
     start: u32,
     count: u32,
@@ -140,7 +142,7 @@ fn type_if<'a>(f1: &'a [u8], f3: &'a [u8], e: usize, stays: bool) -> u8
 }
 
 // How many tracks a data set has, and the lowest of them.
-#[derive(Drop)]
+#[derive(Clone, Copy)]
 pub struct Spread {
     pub all: u32,
     pub lowest: u32,
@@ -237,7 +239,7 @@ pub fn tracks_kept<'a>(
 // ---- cut
 
 // What stays of a data set: `whole` extents, and `count` tracks from `start` of the next, of this type; 0 for none of it.
-#[derive(Drop)]
+#[derive(Clone, Copy)]
 pub struct Kept {
     pub whole: usize,
     pub type_byte: u8,

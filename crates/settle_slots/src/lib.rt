@@ -1,6 +1,8 @@
 // The slots that a change of data sets needs: format 5s that are no longer needed are freed from the chain's end, then the
 // format 1, the format 3 and new format 5s take the lowest free slots. In the map of free slots a bit is set where a slot is
 // free.
+#![tactic(auto)]
+
 ghost use Rattle.std.specs.Prelude.{◌≡◌, [], ◌∷◌, ◌-◌, ◌*◌, ◌≤◌, ◌<◌, length, take};
 ghost use Rattle.std.proofs.Math.Seq.{slice};
 ghost use Rattle.model.specs.Model.{fives_for, slots, total};
@@ -115,7 +117,7 @@ fn longer(was: usize, need: usize) -> usize
 }
 
 // Whether a change has the slots that it needs, and how many are free then.
-#[derive(Drop)]
+#[derive(Clone, Copy)]
 pub struct Outcome {
     pub fits: bool,
     pub left: usize,

@@ -1,6 +1,8 @@
 // A change of one data set: the slots that it needs, planned (plan_slots only reads the table: they fit, or the VTOC is full), and
 // then all records written: freed slots cleared, the data set's records, the chain of format 5s, the format 4 last. What is
 // written cannot be refused.
+#![tactic(auto)]
+
 ghost use Rattle.std.specs.Prelude.{◌≡◌, ◌+◌, ◌*◌, ◌≤◌, ◌<◌, min, drop, length, take, get_or, cond, false};
 ghost use Rattle.std.proofs.Math.Seq.{slice};
 ghost use Rattle.model.specs.Model.{Label, one_slot, slots, tracks};
@@ -73,7 +75,7 @@ fn member(chain: &[u16], i: usize, n: usize) -> usize
 }
 
 // Where a chain begins to be written: the number of the member, and the track whose free extents are the first there.
-#[derive(Drop)]
+#[derive(Clone, Copy)]
 pub struct Place {
     pub from: usize,
     pub at: usize,
@@ -202,7 +204,7 @@ fn lesser(a: usize, b: usize) -> usize
 // The slots that a change needs. Where they fit, the chain of `was` members becomes one of `need`, the label gets those of `given`
 // that it asked for, and `left` are free. The chain is written from member number `from` on, which tells of free extents from
 // track `at` on: the members before it stay.
-#[derive(Drop)]
+#[derive(Clone, Copy)]
 pub struct Plan {
     pub fits: bool,
     pub was: usize,
@@ -273,7 +275,7 @@ fn finish(table: &mut [u8], g: Geometry, free_tracks: &[u64], chain: &[u16], pla
 }
 
 // Where a data set that is new or changed goes: the slots that it has, 0 for none, and whether its extents are few.
-#[derive(Drop)]
+#[derive(Clone, Copy)]
 pub struct Home {
     pub slot: usize,
     pub slot3: usize,

@@ -1,4 +1,6 @@
 // vtlist: prints the listing of the table on standard input, or one line, `E` and the refusal.
+#![tactic(auto)]
+
 use libc::{STDIN_FILENO, STDOUT_FILENO};
 
 // Room for the listing of any table.

@@ -2,6 +2,8 @@
 // refusal. No call asks anything of its arguments. What each ensures is one equation of rules/specs/Promises.antt: the
 // result and every lent byte afterwards are those that `initialise`, `convert_date`, or `perform` with the call, gives for the lent bytes
 // and numbers before. It leaves nothing free. Where the result is not 0, these definitions leave every lent byte as it was.
+#![tactic(auto)]
+
 ghost use Rattle.rules.specs.Promises.{Allocates, DateToPacked, DateToStored, Extends, Initialises, Inquires, Obtains, PreviewsAllocate, PreviewsExtend, PreviewsRelease, PreviewsScratch, Releases, Renames, Scratches};
 
 // Initialises a volume of c cylinders with h tracks each, and a VTOC of v tracks from track s on with d records a track. The
