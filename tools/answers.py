@@ -1,0 +1,271 @@
+#!/usr/bin/env python3
+"""answers.py NAMES CRATE [FUNCTION..]: turns the Proof.antt files of a crate, which walk the code by hand, to Invariants.antt and
+Answers.antt. NAMES is the names.json that `rt check --generated DIR --old-names` writes in the crate. An answer that only says
+`search rules` goes: the check tries more than that by itself. What it could not turn is printed, for a hand.
+"""
+import json, os, re, sys
+
+NAME = r'[^\s(){};,@"«»\[\]]+'
+TOKEN = re.compile(NAME)
+norm = lambda s: re.sub(r"[-_]", "", s)
+
+
+def read(p):
+    with open(p, encoding="utf-8") as f:
+        return f.read()
+
+
+def source_words(crate):
+    words = set()
+    for d, _, fs in os.walk(os.path.join(crate, "src")):
+        for f in fs:
+            if f.endswith(".rt"):
+                words |= set(re.findall(r"\b[a-z]\w*_\w*\b", read(os.path.join(d, f))))
+    return words
+
+
+def blocks(text):
+    """The declarations of a file: head lines of `use`, then (signature, rest) pairs."""
+    uses, decls, cur = [], [], None
+    for line in text.split("\n"):
+        if line.startswith("use "):
+            uses.append(line)
+            continue
+        sig = re.match(rf"^(?:abbrev )?(?:pub )?({NAME}) :(?: |$)", line)
+        if (sig and not line.startswith(" ")) or line.startswith(("record ", "pub record ", "module ", "data ")):
+            cur = [line]
+            decls.append(cur)
+        elif cur is None:
+            if line.strip():
+                decls.append([line])
+        else:
+            cur.append(line)
+    return uses, ["\n".join(d).rstrip() for d in decls]
+
+
+def main():
+    names = json.load(open(sys.argv[1]))
+    crate = sys.argv[2].rstrip("/")
+    only = sys.argv[3:]
+    lib = os.path.basename(os.path.abspath(crate))
+    words = source_words(crate)
+    dashed = {w.replace("_", "-"): w for w in words}
+    src = {}
+    for d, _, fs in os.walk(os.path.join(crate, "proofs")):
+        if "Proof.antt" not in fs:
+            continue
+        p = os.path.join(d, "Proof.antt")
+        text = read(p)
+        if " as tie" not in text:
+            continue
+        path = os.path.relpath(d, os.path.join(crate, "proofs")).replace("/", ".")
+        if only and path not in only:
+            continue
+        key = f"Rattle-{lib}-proofs.{path}.Lts"
+        if key not in names:
+            print(f"{path}: not in names.json")
+            continue
+        turn(path, d, p, text, names[key], lib, dashed)
+
+
+def turn(path, d, p, text, it, lib, dashed):
+    uses, decls = blocks(text)
+    needs = {norm(old): (new, i) for i, (old, new) in enumerate(it["needs"])}
+    places = {}
+    for i, (name, parent, step, _, _) in enumerate(it["places"]):
+        places[name] = (parent, step[0], step[1])
+    asked = it["asked_at"]
+    said = []
+
+    def say(what):
+        said.append(f"{path}: {what}")
+
+    def chain(place, n):
+        for _ in range(n):
+            if place is None or place not in places:
+                return None
+            place = places[place][0]
+        return place
+
+    def fields(parts):
+        return "".join("." + dashed.get(f, f) for f in parts)
+
+    def resolve(token, env):
+        head, *parts = token.split(".")
+        if head not in env:
+            return token
+        place, n = env[head], 0
+        while n < len(parts) and parts[n] == "before":
+            n += 1
+        at = chain(place, n)
+        rest = parts[n:]
+        if at is None:
+            say(f"too many .before in {token}")
+        if not rest:
+            return ("PLACE", at)
+        f = rest[0]
+        up = at
+        while up is not None:
+            if norm(places[up][1]) == norm(f) and f != "":
+                if up != at:
+                    say(f"{token}: step {f} found further up")
+                return "c." + places[up][2] + fields(rest[1:])
+            up = places[up][0]
+        if f in ("args", "requires", "ranges", "auto"):
+            return "c." + f + fields(rest[1:])
+        say(f"{token}: no step {f}")
+        return "c." + dashed.get(f, f) + fields(rest[1:])
+
+    def body_of(body, place):
+        env = {"c": place}
+        locs = set()
+        pos, out = 0, []
+        # lets that name a place go; other tokens are turned one by one
+        let = re.compile(rf"let ({NAME}) = ({NAME}) in[ \n]*")
+        while pos < len(body):
+            m = let.match(body, pos)
+            if m and m[2].split(".")[0] in env:
+                r = resolve(m[2], env)
+                if isinstance(r, tuple):
+                    env[m[1]] = r[1]
+                    pos = m.end()
+                    continue
+            m2 = re.compile(rf"let ({NAME})(?= [=:])").match(body, pos)
+            if m2:
+                locs.add(m2[1])
+            m = TOKEN.match(body, pos)
+            if m:
+                r = resolve(m[0], env)
+                if isinstance(r, tuple):
+                    say(f"{m[0]}: a place as a value")
+                    r = "c"
+                if r == m[0] and "." in r and r.split(".")[0] in locs:
+                    h, *ps = r.split(".")
+                    r = h + fields(ps)
+                elif r == m[0] and r.startswith("."):
+                    r = "." + dashed.get(r[1:], r[1:]) if "." not in r[1:] else fields(r[1:].split("."))
+                out.append(r)
+                pos = m.end()
+            else:
+                out.append(body[pos])
+                pos += 1
+        return "".join(out)
+
+    invs, answers, helpers = [], [], []
+    base = f"Rattle.{lib}.proofs.{path}"
+    for decl in decls:
+        sig = re.match(rf"^(abbrev )?(pub )?({NAME}) : ?(.*?)(?=\n\S)", decl + "\n\n#", re.S)
+        if not sig:
+            helpers.append(decl)
+            continue
+        name, typ = sig[3], sig[4]
+        rest = decl[len(sig[0]) :].lstrip("\n")
+        unfold = ""
+        m = re.match(r"^(unfolding [^\n]*\n)", rest)
+        if m:
+            unfold = m[1]
+            rest = rest[len(unfold) :]
+        t = re.match(rf"^tie\.({NAME})", typ.strip())
+        if name.endswith("-spec") or name.endswith("_spec"):
+            if "statement" in typ:
+                continue
+        if not t:
+            if "tie." in decl:
+                say(f"helper {name} names tie")
+            helpers.append(decl)
+            continue
+        kind = t[1]
+        if kind.startswith(("invariant-", "decreases-")):
+            which, loop = kind.split("-", 1)
+            found = [(a, b) for a, b in zip(it["loops"], it["changed"]) if norm(a[0][0]) == norm(loop)]
+            if not found:
+                say(f"{kind}: no such loop")
+                continue
+            (loopname, vars_), changed = found[0]
+            m = re.match(rf"^{re.escape(name)}((?: {NAME})*) =\s*(.*)$", rest, re.S)
+            if not m:
+                say(f"{kind}: no clause")
+                continue
+            args = m[1].split()
+            moved = [v for v, ch in zip(vars_, changed) if ch]
+            if len(args) != len(vars_) + len(moved):
+                say(f"{kind}: {len(args)} arguments for {vars_} {changed}")
+                continue
+            table = {}
+            for a, v, ch in zip(args, vars_, changed):
+                table[a] = f"l.initial.{v}" if ch else f"l.{v}"
+            for a, v in zip(args[len(vars_) :], moved):
+                table[a] = f"l.{v}"
+
+            def turned(mm):
+                h, *ps = mm[0].split(".")
+                if h in table:
+                    return table[h] + fields(ps)
+                return mm[0]
+
+            b = TOKEN.sub(turned, m[2])
+            nm = f"{which}-{loopname[1]}"
+            invs.append(f"abbrev pub {nm} : goal.{nm}\n{unfold}{nm} l =" + ("\n    " if "\n" in b.strip() else " ") + b.strip())
+            continue
+        if not kind.startswith("Need-"):
+            say(f"{name}: {kind}")
+            helpers.append(decl)
+            continue
+        old = kind[5:]
+        hit = needs.get(norm(old)) or needs.get(norm(re.sub(r"^overflow-", "", old)))
+        if not hit:
+            say(f"need {old}: not in names.json")
+            continue
+        new, i = hit
+        m = re.match(rf"^{re.escape(name)} c(?: κs)? =\s*(.*)$", rest, re.S)
+        if not m:
+            say(f"need {old}: clause {rest[:60]!r}")
+            continue
+        body = m[1].strip()
+        if body == "search rules":
+            continue
+        b = body_of(body, asked[i][0])
+        if re.fullmatch(r"search rules|omega arith", b.strip()):
+            continue
+        one = "\n" not in b and len(b) < 120
+        answers.append(f"pub {new} : goal.{new}\n{unfold}{new} c =" + (" " if one else "\n    ") + b.strip())
+    keep = [u for u in uses if not re.search(r"\.(Statement|Tie)(\.|\s|$)", u)]
+    if not any("rules" in TOKEN.findall(x) for x in answers + invs + helpers):
+        keep = [u for u in keep if "borrow.Author.Rules.{rules}" not in u]
+
+    def used(u, blob):
+        m = re.match(r"^use (.*)\.\{(.*)\}$", u)
+        if not m:
+            return u
+        toks = set()
+        for x in TOKEN.findall(blob):
+            toks.add(x)
+            toks |= set(x.split("."))
+        items = []
+        for x in m[2].split(", "):
+            core = x.split(" as ")[-1]
+            op = re.sub("◌", "", core)
+            if core in toks or (op != core and (op in toks or any(q and q in toks for q in core.split("◌")))) or (core == "[]" and "[]" in blob):
+                items.append(x)
+        return f"use {m[1]}.{{{', '.join(items)}}}" if items else None
+
+    def put(file, parts, goal):
+        blob = "\n".join(parts)
+        us = [x for x in (used(u, blob) for u in keep) if x]
+        g = f"use {base}.{goal} as goal"
+        with open(os.path.join(d, file), "w", encoding="utf-8") as f:
+            f.write("\n".join(us + [g, ""] + ["\n\n".join(parts)]) + "\n")
+
+    if invs:
+        # helpers that an invariant uses would have to stand elsewhere
+        put("Invariants.antt", invs, "Given")
+    if answers:
+        put("Answers.antt", helpers + answers, "Goals")
+    elif helpers:
+        say("helpers without an answer: " + ", ".join(h.split(" ")[0] for h in helpers))
+    os.remove(p)
+    for s in said:
+        print(s)
+
+
+main()
