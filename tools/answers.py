@@ -90,6 +90,16 @@ def turn(path, d, p, text, it, lib, dashed):
     def fields(parts):
         return "".join("." + dashed.get(f, f) for f in parts)
 
+    # the parameters of the callees, by the last part of their names
+    params = {norm(k.split("::")[-1]): v for k, v in it["params"].items()}
+
+    def later(step, parts):
+        """The fields behind a step: `.new.1.0` of a call is what its parameter number 1 holds after it."""
+        ps = params.get(norm(re.sub(r"\d+$", "", step))) or params.get(norm(step))
+        if ps and len(parts) >= 2 and parts[0] == "new" and parts[1].isdigit() and int(parts[1]) < len(ps):
+            parts = ["new", ps[int(parts[1])]] + parts[2 + (parts[2:3] == ["0"]) :]
+        return fields(parts)
+
     def resolve(token, env):
         head, *parts = token.split(".")
         if head not in env:
@@ -99,17 +109,16 @@ def turn(path, d, p, text, it, lib, dashed):
             n += 1
         at = chain(place, n)
         rest = parts[n:]
-        if at is None:
-            say(f"too many .before in {token}")
         if not rest:
             return ("PLACE", at)
         f = rest[0]
-        up = at
+        if at is not None and norm(places[at][1]) == norm(f) and f != "":
+            return "c." + places[at][2] + later(f, rest[1:])
+        # the steps between were others in the older Rattle: by the step's name
+        up = env["c"]
         while up is not None:
-            if norm(places[up][1]) == norm(f) and f != "":
-                if up != at:
-                    say(f"{token}: step {f} found further up")
-                return "c." + places[up][2] + fields(rest[1:])
+            if norm(places[up][1]) == norm(f):
+                return "c." + places[up][2] + later(f, rest[1:])
             up = places[up][0]
         if f in ("args", "requires", "ranges", "auto"):
             return "c." + f + fields(rest[1:])
