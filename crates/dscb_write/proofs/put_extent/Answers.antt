@@ -1,0 +1,20 @@
+use mathlib.Core.Path.{◌∙◌, ap, refl}
+use mathlib.Core.List.{List}
+use Prim.Native.Nat.{ℕ, ◌+◌, ◌-◌}
+use native.Mathlib.Omega.{arith}
+use lib.ListN.{length-set}
+use Rattle.rules.specs.Layout.{cchh}
+use Rattle.dscb.specs.Forms.{geometry_of}
+use Rattle.dscb_write.specs.Put.{put_at}
+use Rattle.dscb_write.proofs.Putting.{put-behind, put_keeps}
+use Rattle.dscb_write.proofs.put_extent.Goals as goal
+
+pub put_track-requires-2 : goal.put_track-requires-2
+put_track-requires-2 c = (put_keeps _ _ _ _ 140 c.put_track.ensures (simp length-set c.requires.0), omega arith, c.requires.5)
+
+pub returns : goal.returns
+returns c =
+    let a = c.args in
+    let g = geometry_of a.g in
+    let last = a.start + a.count - 1 in
+    c.put_track-2.ensures ∙ ap (λ (l : List ℕ). put_at l (a.at + 6) (cchh g last)) c.put_track.ensures ∙ put-behind a.rec.now a.at a.type_byte a.number (cchh g a.start) (cchh g last) refl
