@@ -24,7 +24,7 @@ returns-2 c =
     let at-entry-place = c.before.before.before in
     let at-if1 = at-entry-place.before.before in
     let top = at-if1.before.before in
-    one_more (geometry_of top.args.g) top.args.rec.now _ top.args.j top.args.start top.args.count at-entry-place.entry_IsPlace.result at-if1.if1.false top.requires.1 at-entry-place.entry_IsPlace.ensures.0 c.before.before.put-entry.ensures
+    one_more (geometry_of top.args.g) top.args.rec.now _ top.args.j top.args.start top.args.count at-entry-place.entry_place.result at-if1.if1.false top.requires.1 at-entry-place.entry_place.ensures.0 c.before.before.put-entry.ensures
 
 pub put-some-spec : {M : Type 1} → statement M
 put-some-spec =

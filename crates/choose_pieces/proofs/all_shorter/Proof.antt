@@ -49,7 +49,7 @@ loop-less c = search rules
 loop-again : tie.Need-loop-preserved invariant-loop decreases-loop
 loop-again c =
     let l = c.before.before.before.before.before.before.loop in
-    let p = c.before.before.before.before.entry_IsPlace in
+    let p = c.before.before.before.before.entry_place in
     (omega arith, together-next _ l.cylinders l.odd l.j p.result c.larger.result p.ensures.0 c.larger.ensures.0 c.larger.ensures.1 l.invariant.1)
 
 returns : tie.Need-returns invariant-loop decreases-loop

@@ -36,13 +36,13 @@ put_entry-requires c =
     let a = r.high in
     let b = r.low in
     let d = c.requires.3 in
-    (filling-long (geometry_of c.args.g) c.args.free_tracks.now c.args.n c.args.at c.args.k l.j l.t l.rec l.invariant.2, c.entry_IsPlace.ensures.1, omega arith, c.requires.5)
+    (filling-long (geometry_of c.args.g) c.args.free_tracks.now c.args.n c.args.at c.args.k l.j l.t l.rec l.invariant.2, c.entry_place.ensures.1, omega arith, c.requires.5)
 
 pub loop-j-preserved : goal.loop-j-preserved
 loop-j-preserved c =
     let l = c.loop-j in
     let r = c.run_ahead-free in
-    (omega arith, r.ensures.1, rw (c.put_entry.ensures, c.entry_IsPlace.ensures.0) (filling-next (geometry_of c.args.g) c.args.free_tracks.now c.args.n c.args.at c.args.k l.j l.t r.result.from r.result.to l.rec (omega arith) l.invariant.2 r.ensures.0 c.if-from-n.false))
+    (omega arith, r.ensures.1, rw (c.put_entry.ensures, c.entry_place.ensures.0) (filling-next (geometry_of c.args.g) c.args.free_tracks.now c.args.n c.args.at c.args.k l.j l.t r.result.from r.result.to l.rec (omega arith) l.invariant.2 r.ensures.0 c.if-from-n.false))
 
 pub shape_of-rec : goal.shape_of-rec
 shape_of-rec c =

@@ -47,7 +47,7 @@ returns c =
     let top = at-entry-place.before.before in
     let x = c.hole-of.ensures in
     let s : c.hole-of.result.start ≡ at-wide16.wide16.result = ap (λ (r : Run). r.start) x.0 in (
-      x.0 ∙ entry-is top.args.h top.args.rec.now _ top.args.j _ _ _ at-entry-place.entry_IsPlace.ensures.0 (at-wide16.wide16.ensures.0 ∙ at-two.two.ensures.0) (at-wide162.wide162.ensures.0 ∙ at-two2.two2.ensures.0) at_wide.wide.ensures.0,
+      x.0 ∙ entry-is top.args.h top.args.rec.now _ top.args.j _ _ _ at-entry-place.entry_place.ensures.0 (at-wide16.wide16.ensures.0 ∙ at-two.two.ensures.0) (at-wide162.wide162.ensures.0 ∙ at-two2.two2.ensures.0) at_wide.wide.ensures.0,
       omega arith,
       x.1,
       x.2,
