@@ -10,8 +10,8 @@ loop-i-preserved c =
     let l = c.loop-i in
     let s = c.args in
     elim c.if-tags-i.branch [
-      then-tags-i w ↦ (omega arith, l.invariant.1 ∙ tag-hit s.tags.now s.t l.i c.loop-i-test.true l.hit w.if-tags-i.true ∙ rw w.hit-is)
-    | else-tags-i w ↦ (omega arith, l.invariant.1 ∙ tag-miss s.tags.now s.t l.i c.loop-i-test.true l.hit w.if-tags-i.false ∙ rw w.hit-is)
+      | then-tags-i w ↦ (omega arith, l.invariant.1 ∙ tag-hit s.tags.now s.t l.i c.loop-i-test.true l.hit w.if-tags-i.true ∙ rw w.hit-is)
+      | else-tags-i w ↦ (omega arith, l.invariant.1 ∙ tag-miss s.tags.now s.t l.i c.loop-i-test.true l.hit w.if-tags-i.false ∙ rw w.hit-is)
     ]
 
 pub returns : goal.returns

@@ -24,10 +24,10 @@ loop-j-preserved c =
     let l = c.loop-j in
     let h = c.loop-j-test.true in
     let other : is_named (slot_bytes c.args.table.now l.j) c.args.name.now ≡ false =
-        elim c.if-tags-j.branch [
-          then-tags-j+else-is_named w ↦ sym (w.is_named.ensures ∙ ap (λ (r : List ℕ). is_named r c.args.name.now) w.record_at.ensures.0) ∙ w.if-is_named.false
-        | else-tags-j w ↦ other_tag c.args.table.now c.args.tags.now c.args.k l.j c.args.t c.args.name.now c.requires.2 h c.requires.3 w.if-tags-j.false
-        ] in
+    elim c.if-tags-j.branch [
+      | then-tags-j+else-is_named w ↦ sym (w.is_named.ensures ∙ ap (λ (r : List ℕ). is_named r c.args.name.now) w.record_at.ensures.0) ∙ w.if-is_named.false
+      | else-tags-j w ↦ other_tag c.args.table.now c.args.tags.now c.args.k l.j c.args.t c.args.name.now c.requires.2 h c.requires.3 w.if-tags-j.false
+    ] in
     (l.invariant.0 ∙ miss _ _ _ _ h other, omega arith, l.invariant.2)
 
 pub returns : goal.returns
