@@ -94,10 +94,14 @@ def turn(path, d, p, text, it, lib, dashed):
     params = {norm(k.split("::")[-1]): v for k, v in it["params"].items()}
 
     def later(step, parts):
-        """The fields behind a step: `.new.1.0` of a call is what its parameter number 1 holds after it."""
+        """The fields behind a step: of a call, `.new.1.1.0` is what its parameter number 2 holds after it."""
         ps = params.get(norm(re.sub(r"\d+$", "", step))) or params.get(norm(step))
-        if ps and len(parts) >= 2 and parts[0] == "new" and parts[1].isdigit() and int(parts[1]) < len(ps):
-            parts = ["new", ps[int(parts[1])]] + parts[2 + (parts[2:3] == ["0"]) :]
+        if ps and len(parts) >= 2 and parts[0] == "new" and parts[1] in ("0", "1"):
+            n = 1
+            while n < len(parts) and parts[n] == "1":
+                n += 1
+            if n - 1 < len(ps):
+                parts = ["new", ps[n - 1]] + parts[n + (parts[n : n + 1] == ["0"]) :]
         return fields(parts)
 
     def resolve(token, env):
@@ -127,7 +131,7 @@ def turn(path, d, p, text, it, lib, dashed):
 
     def body_of(body, place):
         env = {"c": place}
-        locs = set()
+        locs = {}
         pos, out = 0, []
         # lets that name a place go; other tokens are turned one by one
         let = re.compile(rf"let ({NAME}) = ({NAME}) in[ \n]*")
@@ -139,9 +143,10 @@ def turn(path, d, p, text, it, lib, dashed):
                     env[m[1]] = r[1]
                     pos = m.end()
                     continue
-            m2 = re.compile(rf"let ({NAME})(?= [=:])").match(body, pos)
+            m2 = re.compile(rf"let ({NAME})(?= [=:])(?: = ({NAME}) in)?").match(body, pos)
             if m2:
-                locs.add(m2[1])
+                step = m2[2].split(".")[-1] if m2[2] and m2[2].split(".")[0] in env else ""
+                locs[m2[1]] = step
             m = TOKEN.match(body, pos)
             if m:
                 r = resolve(m[0], env)
@@ -150,7 +155,7 @@ def turn(path, d, p, text, it, lib, dashed):
                     r = "c"
                 if r == m[0] and "." in r and r.split(".")[0] in locs:
                     h, *ps = r.split(".")
-                    r = h + fields(ps)
+                    r = h + later(locs[h], ps)
                 elif r == m[0] and r.startswith("."):
                     r = "." + dashed.get(r[1:], r[1:]) if "." not in r[1:] else fields(r[1:].split("."))
                 out.append(r)

@@ -21,8 +21,8 @@ pub returns-else-look : goal.returns-else-look
 returns-else-look c =
     let l = c.loop-k in
     let k = c.look in
-    taken-wrong (geometry_of c.args.g) c.args.table.now c.args.free_tracks.now k.new.1.1.1.0 c.args.free_slots.now k.new.1.1.1.1.0 (slots (geometry_of c.args.g))
-    (scan-stop (geometry_of c.args.g) c.args.table.now c.args.free_tracks.now l.free_tracks k.new.1.1.1.0 c.args.free_slots.now l.free_slots k.new.1.1.1.1.0 l.k l.invariant.5 k.result (slots (geometry_of c.args.g)) c.if-look.false (omega arith) k.ensures)
+    taken-wrong (geometry_of c.args.g) c.args.table.now c.args.free_tracks.now k.new.free_tracks c.args.free_slots.now k.new.free_slots (slots (geometry_of c.args.g))
+    (scan-stop (geometry_of c.args.g) c.args.table.now c.args.free_tracks.now l.free_tracks k.new.free_tracks c.args.free_slots.now l.free_slots k.new.free_slots l.k l.invariant.5 k.result (slots (geometry_of c.args.g)) c.if-look.false (omega arith) k.ensures)
 
 pub enter-requires : goal.enter-requires
 enter-requires c =
@@ -40,7 +40,7 @@ loop-k-preserved c =
       l.invariant.2,
       k.ensures.long_map ∙ l.invariant.3,
       k.ensures.long_slots ∙ l.invariant.4,
-      scan-next (geometry_of c.args.g) c.args.table.now c.args.free_tracks.now l.free_tracks k.new.1.1.1.0 c.args.free_slots.now l.free_slots k.new.1.1.1.1.0 l.k l.invariant.5 k.result c.if-look.true k.ensures,
+      scan-next (geometry_of c.args.g) c.args.table.now c.args.free_tracks.now l.free_tracks k.new.free_tracks c.args.free_slots.now l.free_slots k.new.free_slots l.k l.invariant.5 k.result c.if-look.true k.ensures,
       entering-next c.args.table.now l.tags _ l.seen _ l.k (slots (geometry_of c.args.g)) l.invariant.6 (omega (arith, l.invariant.2, c.loop-k-test.true)) e.result e.ensures c.if-enter.true,
     )
 
@@ -49,8 +49,8 @@ returns-else-enter c =
     let l = c.loop-k in
     let k = c.look in
     let e = c.enter in
-    taken_twice (geometry_of c.args.g) c.args.table.now c.args.free_tracks.now k.new.1.1.1.0 c.args.free_slots.now k.new.1.1.1.1.0 (l.k + 1) (slots (geometry_of c.args.g))
-    (scan-next (geometry_of c.args.g) c.args.table.now c.args.free_tracks.now l.free_tracks k.new.1.1.1.0 c.args.free_slots.now l.free_slots k.new.1.1.1.1.0 l.k l.invariant.5 k.result c.if-look.true k.ensures)
+    taken_twice (geometry_of c.args.g) c.args.table.now c.args.free_tracks.now k.new.free_tracks c.args.free_slots.now k.new.free_slots (l.k + 1) (slots (geometry_of c.args.g))
+    (scan-next (geometry_of c.args.g) c.args.table.now c.args.free_tracks.now l.free_tracks k.new.free_tracks c.args.free_slots.now l.free_slots k.new.free_slots l.k l.invariant.5 k.result c.if-look.true k.ensures)
     (entering-stop c.args.table.now l.tags _ l.seen _ l.k (slots (geometry_of c.args.g)) l.invariant.6 (omega (arith, l.invariant.2, c.loop-k-test.true)) e.result e.ensures c.if-enter.false)
 
 pub returns : goal.returns
