@@ -1,0 +1,33 @@
+use mathlib.Core.Path.{refl, ◌∙◌}
+use mathlib.Core.List.{[], ◌∷◌}
+use mathlib.Core.Logic.{⊎_elim}
+use native.Mathlib.Omega.{arith}
+use lib.ListN.{length-set}
+use Rattle.choose_pieces.proofs.Entering.{goes_in, goes_by, enter-done, enter-not, enter-is}
+use Rattle.choose_pieces.proofs.enter.Goals as goal
+
+pub returns-then-size-five : goal.returns-then-size-five
+returns-then-size-five c = (c.requires, enter-not (c.args.c.start ∷ c.args.c.count ∷ []) c.args.five.now c.if-size-five.true)
+
+pub loop-k-init : goal.loop-k-init
+loop-k-init c = (omega arith, c.requires, refl)
+
+pub loop-k-preserved : goal.loop-k-preserved
+loop-k-preserved c =
+    let n = c.args.c.count in
+    let x = c.args.c.start ∷ c.args.c.count ∷ [] in
+    let five₀ = c.args.five.now in
+    let held = c.loop-k.held in
+    let five = c.loop-k.five in
+    let k = c.loop-k.k in
+    ⊎_elim
+    (λ w. rw (w.1, w.2) (omega arith, length-set five k held ∙ c.loop-k.invariant.1, goes_in n x five₀ held five k (omega arith) c.loop-k.invariant.2 w.0.taken))
+    (λ w. rw (w.1, w.2) (omega arith, c.loop-k.invariant.1, goes_by n x five₀ held five k (omega arith) c.loop-k.invariant.2 w.0.left))
+    c.if-d-size.branch
+
+pub returns : goal.returns
+returns c = (
+  c.loop-k.invariant.1,
+  enter-is (c.args.c.start ∷ c.args.c.count ∷ []) c.args.five.now c.loop-k.five c.if-size-five.false
+      (enter-done c.args.c.count (c.args.c.start ∷ c.args.c.count ∷ []) c.args.five.now c.loop-k.held c.loop-k.five c.loop-k.k (omega arith) c.loop-k.invariant.2),
+)
