@@ -24,6 +24,70 @@ def source_words(crate):
     return words
 
 
+def parameters(crate, path):
+    """The parameters of the function of that path, as the source names them."""
+    name = path.split(".")[-1].lstrip("+")
+    for d, _, fs in os.walk(os.path.join(crate, "src")):
+        for f in fs:
+            if not f.endswith(".rt"):
+                continue
+            m = re.search(rf"\bfn {re.escape(name)}(?:<[^>]*>)?\(", read(os.path.join(d, f)))
+            if m:
+                t, depth, i = read(os.path.join(d, f)), 1, m.end()
+                start = i
+                while depth:
+                    depth += {"(": 1, "[": 1, ")": -1, "]": -1}.get(t[i], 0)
+                    i += 1
+                flat, depth = "", 0
+                for ch in t[start : i - 1]:
+                    depth += {"(": 1, "[": 1, ")": -1, "]": -1}.get(ch, 0)
+                    flat += " " if depth else ch
+                return [re.match(r"\s*(?:mut )?(\w+)\s*:", x)[1] for x in flat.split(",") if ":" in x]
+    return []
+
+
+def requires_of(root):
+    """The names of the clauses of each function that has several `requires`, by the function's own name."""
+    found = {}
+    for d, ds, fs in os.walk(root):
+        ds[:] = [x for x in ds if x not in ("out", "proofs", "specs", "must-fail")]
+        for f in fs:
+            if f.endswith(".rt"):
+                for m in re.finditer(r"(?m)^ *(?:pub )?(?:extern \"C\" )?fn (\w+)(.*?)^\{", read(os.path.join(d, f)), re.S):
+                    names = re.findall(r"(?m)^ *requires (\w+) \{", m[2])
+                    if len(names) > 1:
+                        found[m[1]] = names
+    return found
+
+
+def as_record(body, names):
+    """A body that ends in a tuple of a fact for each clause, with the tuple as a record."""
+    if not body.endswith(")"):
+        return None
+    depth, i = 0, len(body)
+    commas = []
+    while i:
+        i -= 1
+        ch = body[i]
+        if ch in ")]}":
+            depth += 1
+        elif ch in "([{":
+            depth -= 1
+            if not depth:
+                break
+        elif ch == "," and depth == 1:
+            commas.append(i)
+    ends = sorted(commas) + [len(body) - 1]
+    parts, at = [], i + 1
+    for e in ends:
+        parts.append(body[at:e].strip())
+        at = e + 1
+    parts = [x for x in parts if x]
+    if len(parts) != len(names):
+        return None
+    return body[:i] + "record { " + "; ".join(f"{n} = {x}" for n, x in zip(names, parts)) + " }"
+
+
 def blocks(text):
     """The declarations of a file: head lines of `use`, then (signature, rest) pairs."""
     uses, decls, cur = [], [], None
@@ -49,6 +113,7 @@ def main():
     only = sys.argv[3:]
     lib = os.path.basename(os.path.abspath(crate))
     words = source_words(crate)
+    clauses = requires_of(os.path.join(crate, ".."))
     dashed = {w.replace("_", "-"): w for w in words}
     src = {}
     for d, _, fs in os.walk(os.path.join(crate, "proofs")):
@@ -65,10 +130,10 @@ def main():
         if key not in names:
             print(f"{path}: not in names.json")
             continue
-        turn(path, d, p, text, names[key], lib, dashed)
+        turn(path, d, p, text, names[key], lib, dashed, parameters(crate, path), clauses)
 
 
-def turn(path, d, p, text, it, lib, dashed):
+def turn(path, d, p, text, it, lib, dashed, own, clauses):
     uses, decls = blocks(text)
     needs = {norm(old): (new, i) for i, (old, new) in enumerate(it["needs"])}
     places = {}
@@ -104,6 +169,16 @@ def turn(path, d, p, text, it, lib, dashed):
                 parts = ["new", ps[n - 1]] + parts[n + (parts[n : n + 1] == ["0"]) :]
         return fields(parts)
 
+    def argument(f, parts):
+        """An array's parameter had a number for a name, as t1."""
+        m = re.match(r"t(\d+)$", parts[0]) if f == "args" and parts else None
+        mine = clauses.get(path.split(".")[-1], [])
+        if f == "requires" and parts and parts[0].isdigit() and int(parts[0]) < len(mine):
+            parts = [mine[int(parts[0])]] + parts[1:]
+        if m and parts[0] not in own and int(m[1]) <= len(own):
+            parts = [own[int(m[1]) - 1]] + parts[1:]
+        return fields(parts)
+
     def resolve(token, env):
         head, *parts = token.split(".")
         if head not in env:
@@ -125,7 +200,7 @@ def turn(path, d, p, text, it, lib, dashed):
                 return "c." + places[up][2] + later(f, rest[1:])
             up = places[up][0]
         if f in ("args", "requires", "ranges", "auto"):
-            return "c." + f + fields(rest[1:])
+            return "c." + f + argument(f, rest[1:])
         say(f"{token}: no step {f}")
         return "c." + dashed.get(f, f) + fields(rest[1:])
 
@@ -155,7 +230,7 @@ def turn(path, d, p, text, it, lib, dashed):
                     r = "c"
                 if r == m[0] and "." in r and r.split(".")[0] in locs:
                     h, *ps = r.split(".")
-                    r = h + later(locs[h], ps)
+                    r = h + (argument(locs[h], ps) if locs[h] in ("args", "requires") else later(locs[h], ps))
                 elif r == m[0] and r.startswith("."):
                     r = "." + dashed.get(r[1:], r[1:]) if "." not in r[1:] else fields(r[1:].split("."))
                 out.append(r)
@@ -239,6 +314,13 @@ def turn(path, d, p, text, it, lib, dashed):
         if body == "search rules":
             continue
         b = body_of(body, asked[i][0])
+        callee = re.match(r"(\w+)(?:-.*)?-requires", new)
+        if callee and callee[1] in clauses:
+            r = as_record(b, clauses[callee[1]])
+            if r is None:
+                say(f"{new}: write the clauses {clauses[callee[1]]}")
+            else:
+                b = r
         if re.fullmatch(r"search rules|omega arith", b.strip()):
             continue
         one = "\n" not in b and len(b) < 120

@@ -4,7 +4,7 @@ use Rattle.choose_pieces.proofs.Reply.{counting-none, counting-next, counted-her
 use Rattle.choose_pieces.proofs.count_pieces.Goals as goal
 
 pub loop-count-init : goal.loop-count-init
-loop-count-init c = (omega arith, counting-none c.args.t1)
+loop-count-init c = (omega arith, counting-none c.args.pieces)
 
 pub returns-then-n-eq0 : goal.returns-then-n-eq0
 returns-then-n-eq0 c = counted-here c.loop-count.invariant.1 (search rules) c.loop-count-test.true _ c.wide16-n.ensures.0 c.if-n-eq0.true

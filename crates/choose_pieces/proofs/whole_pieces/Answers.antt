@@ -12,7 +12,7 @@ pub returns-then-size-amount : goal.returns-then-size-amount
 returns-then-size-amount c = taking-short c.loop-k.invariant c.requires.0 (search rules) c.loop-k-test.true c.if-size-amount.true
 
 pub piece-all-requires : goal.piece-all-requires
-piece-all-requires c = part-within c.args.u c.args.t1 c.loop-k.k _ _ c.requires.1 refl (omega arith)
+piece-all-requires c = part-within c.args.u c.args.five c.loop-k.k _ _ c.requires.1 refl (omega arith)
 
 pub loop-k-preserved : goal.loop-k-preserved
 loop-k-preserved c =
