@@ -140,6 +140,10 @@ def turn(path, d, p, text, it, lib, dashed, own, clauses):
     for i, (name, parent, step, _, _) in enumerate(it["places"]):
         places[name] = (parent, step[0], step[1])
     asked = it["asked_at"]
+    arms = {}
+    for (name, *_), arm in zip(it["places"], it["arms"]):
+        if arm:
+            arms[name] = [(f"{arm[0]}.{field}", old, below) for field, old, below in arm[2]]
     said = []
 
     def say(what):
@@ -191,6 +195,13 @@ def turn(path, d, p, text, it, lib, dashed, own, clauses):
         if not rest:
             return ("PLACE", at)
         f = rest[0]
+        # what an arm of a match binds and tells
+        up = at if at is not None else env["c"]
+        while up is not None:
+            for field, old, below in arms.get(up, []):
+                if norm(old) == norm(f) and rest[1 : 1 + len(below)] == below and below:
+                    return "c." + field + fields(rest[1 + len(below) :])
+            up = places[up][0]
         if at is not None and norm(places[at][1]) == norm(f) and f != "":
             return "c." + places[at][2] + later(f, rest[1:])
         # the steps between were others in the older Rattle: by the step's name

@@ -45,18 +45,18 @@ whole_pieces-requires-in-Alx c =
 pub returns-in-NoOption : goal.returns-in-NoOption
 returns-in-NoOption c =
     λ f x. c.several_pieces.ensures
-    ∙ gives-several f (tracks (geometry_of c.args.g)) x.apart c.requires.limits.0.tracks_most c.requires.limits.2 c.requires.le_amount.0 c.args.option c.amount_sought.ensures (c.survey_for-best.ensures f x) c.enum_told-1.given.1 (omega arith)
+    ∙ gives-several f (tracks (geometry_of c.args.g)) x.apart c.requires.limits.0.tracks_most c.requires.limits.2 c.requires.le_amount.0 c.args.option c.amount_sought.ensures (c.survey_for-best.ensures f x) c.in-NoOption.is (omega arith)
 
 pub returns-in-Contig : goal.returns-in-Contig
 returns-in-Contig c =
-    λ f x. gives_none f (tracks (geometry_of c.args.g)) x.apart c.requires.limits.0.tracks_most c.requires.limits.2 c.requires.le_amount.0 c.args.option c.amount_sought.ensures (c.survey_for-best.ensures f x) c.enum_told-in-Contig-1.given.1 (omega arith)
+    λ f x. gives_none f (tracks (geometry_of c.args.g)) x.apart c.requires.limits.0.tracks_most c.requires.limits.2 c.requires.le_amount.0 c.args.option c.amount_sought.ensures (c.survey_for-best.ensures f x) c.in-Contig.is (omega arith)
 
 pub returns-in-Mxig : goal.returns-in-Mxig
 returns-in-Mxig c =
     λ f x. c.whole_pieces.ensures
-    ∙ gives-longest f (tracks (geometry_of c.args.g)) x.apart c.requires.limits.0.tracks_most c.requires.limits.2 c.requires.le_amount.0 c.args.option c.amount_sought.ensures (c.survey_for-best.ensures f x) c.enum_told-in-Mxig-1.given.1 (omega arith)
+    ∙ gives-longest f (tracks (geometry_of c.args.g)) x.apart c.requires.limits.0.tracks_most c.requires.limits.2 c.requires.le_amount.0 c.args.option c.amount_sought.ensures (c.survey_for-best.ensures f x) c.in-Mxig.is (omega arith)
 
 pub returns-in-Alx : goal.returns-in-Alx
 returns-in-Alx c =
     λ f x. c.whole_pieces-in-Alx.ensures
-    ∙ gives_all f (tracks (geometry_of c.args.g)) x.apart c.requires.limits.0.tracks_most c.requires.limits.2 c.requires.le_amount.0 c.args.option c.amount_sought.ensures (c.survey_for-best.ensures f x) c.enum_told-in-Alx-1.given.1 (omega arith)
+    ∙ gives_all f (tracks (geometry_of c.args.g)) x.apart c.requires.limits.0.tracks_most c.requires.limits.2 c.requires.le_amount.0 c.args.option c.amount_sought.ensures (c.survey_for-best.ensures f x) c.in-Alx.is (omega arith)

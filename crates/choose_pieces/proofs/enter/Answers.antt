@@ -1,10 +1,10 @@
 use mathlib.Core.Path.{refl, ◌∙◌}
 use mathlib.Core.List.{[], ◌∷◌}
-use mathlib.Core.Logic.{⊎_elim}
 use native.Mathlib.Omega.{arith}
 use lib.ListN.{length-set}
 use Rattle.choose_pieces.proofs.Entering.{goes_in, goes_by, enter-done, enter-not, enter-is}
 use Rattle.choose_pieces.proofs.enter.Goals as goal
+use Rattle.choose_pieces.proofs.enter.Goals.{then-d-size, else-d-size}
 
 pub returns-then-size-five : goal.returns-then-size-five
 returns-then-size-five c = (c.requires, enter-not (c.args.c.start ∷ c.args.c.count ∷ []) c.args.five.now c.if-size-five.true)
@@ -20,10 +20,10 @@ loop-k-preserved c =
     let held = c.loop-k.held in
     let five = c.loop-k.five in
     let k = c.loop-k.k in
-    ⊎_elim
-    (λ w. rw (w.1, w.2) (omega arith, length-set five k held ∙ c.loop-k.invariant.1, goes_in n x five₀ held five k (omega arith) c.loop-k.invariant.2 w.0.taken))
-    (λ w. rw (w.1, w.2) (omega arith, c.loop-k.invariant.1, goes_by n x five₀ held five k (omega arith) c.loop-k.invariant.2 w.0.left))
-    c.if-d-size.branch
+    elim c.if-d-size.branch [
+      | then-d-size w ↦ rw (w.five-is, w.held-is) (omega arith, length-set five k held ∙ c.loop-k.invariant.1, goes_in n x five₀ held five k (omega arith) c.loop-k.invariant.2 w.if-d-size.true)
+      | else-d-size w ↦ rw (w.five-is, w.held-is) (omega arith, c.loop-k.invariant.1, goes_by n x five₀ held five k (omega arith) c.loop-k.invariant.2 w.if-d-size.false)
+    ]
 
 pub returns : goal.returns
 returns c = (
