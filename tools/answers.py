@@ -7,7 +7,7 @@ import json, os, re, sys
 
 NAME = r'[^\s(){};,@"«»\[\]]+'
 TOKEN = re.compile(NAME)
-norm = lambda s: re.sub(r"[-_]", "", s)
+norm = lambda s: re.sub(r"[-_«»]", "", s).lower()
 
 
 def read(p):
@@ -210,6 +210,8 @@ def turn(path, d, p, text, it, lib, dashed, own, clauses):
             if norm(places[up][1]) == norm(f):
                 return "c." + places[up][2] + later(f, rest[1:])
             up = places[up][0]
+        if norm(f) == "wellformed":
+            return "c.well_formed" + fields(rest[1:])
         if f in ("args", "requires", "ranges", "auto"):
             return "c." + f + argument(f, rest[1:])
         say(f"{token}: no step {f}")

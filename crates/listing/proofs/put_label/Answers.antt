@@ -9,7 +9,7 @@ use Rattle.listing.proofs.put_label.Goals as goal
 
 pub tracks_of-many-requires : goal.tracks_of-many-requires
 tracks_of-many-requires c =
-    ((c.record_at-f1.ensures.1, c.record_at-f3.ensures.1, few (geometry_of c.args.g) c.args.table.now c.args.k c.link-slot3.result c.record_at-f1.result.now c.requires.3 c.record_at-f1.ensures.0 c.link-slot3.ensures.0 c.link-slot3.ensures.1 c.record_at-f3.result.now c.wide-n.result c.record_at-f3.ensures.0 c.wide-n.ensures.0, omega (arith, c.requires.0.heads_most)), all-proper (geometry_of c.args.g) c.args.table.now c.args.k c.link-slot3.result c.record_at-f1.result.now c.requires.3 c.record_at-f1.ensures.0 c.link-slot3.ensures.0 c.link-slot3.ensures.1 c.record_at-f3.result.now c.wide-n.result c.record_at-f3.ensures.0 c.wide-n.ensures.0)
+    record { f1_len = (c.record_at-f1.ensures.1, c.record_at-f3.ensures.1, few (geometry_of c.args.g) c.args.table.now c.args.k c.link-slot3.result c.record_at-f1.result.now c.requires.3 c.record_at-f1.ensures.0 c.link-slot3.ensures.0 c.link-slot3.ensures.1 c.record_at-f3.result.now c.wide-n.result c.record_at-f3.ensures.0 c.wide-n.ensures.0, omega (arith, c.requires.0.heads_most)); all = all-proper (geometry_of c.args.g) c.args.table.now c.args.k c.link-slot3.result c.record_at-f1.result.now c.requires.3 c.record_at-f1.ensures.0 c.link-slot3.ensures.0 c.link-slot3.ensures.1 c.record_at-f3.result.now c.wide-n.result c.record_at-f3.ensures.0 c.wide-n.ensures.0 }
 
 pub put_data-requires : goal.put_data-requires
 put_data-requires c =

@@ -14,9 +14,9 @@ pub tracks_in-sum-requires : goal.tracks_in-sum-requires
 tracks_in-sum-requires c =
     let x = c.extent_part.result.now in
     let e = c.loop-e.e in (
-      ten-bytes c.args.heads c.args.f1.now c.args.f3.now x e c.extent_part.ensures c.args.n c.requires.0.0 c.requires.0.1 c.requires.0.2 c.loop-e-test.true,
-      c.requires.0.3,
-      proper-ten c.args.heads c.args.f1.now c.args.f3.now x e c.extent_part.ensures c.args.n c.requires.1 c.loop-e-test.true,
+      ten-bytes c.args.heads c.args.f1.now c.args.f3.now x e c.extent_part.ensures c.args.n c.requires.f1_len.0 c.requires.f1_len.1 c.requires.f1_len.2 c.loop-e-test.true,
+      c.requires.f1_len.3,
+      proper-ten c.args.heads c.args.f1.now c.args.f3.now x e c.extent_part.ensures c.args.n c.requires.all c.loop-e-test.true,
     )
 
 pub loop-e-preserved : goal.loop-e-preserved

@@ -15,8 +15,8 @@ look_up-requires c =
 
 pub returns-in_default : goal.returns-in_default
 returns-in_default c =
-    opened-absent _ _ _ _ _ _ _ _ _ c.open_named-opening.ensures.0 c.open_named-opening.ensures.1 c.if-opening-ne0.false (ap answer_of (sym c.enum_told-1.given.1) ∙ c.look_up.ensures) _ refl
+    opened-absent _ _ _ _ _ _ _ _ _ c.open_named-opening.ensures.0 c.open_named-opening.ensures.1 c.if-opening-ne0.false (ap answer_of (sym c.in_default.is) ∙ c.look_up.ensures) _ refl
 
 pub returns : goal.returns
 returns c =
-    opened-there _ _ _ _ _ _ _ _ _ c.open_named-opening.ensures.0 c.open_named-opening.ensures.1 c.if-opening-ne0.false _ refl refl (ap answer_of (sym c.slot-1.given.1) ∙ c.look_up.ensures)
+    opened-there _ _ _ _ _ _ _ _ _ c.open_named-opening.ensures.0 c.open_named-opening.ensures.1 c.if-opening-ne0.false _ refl refl (ap answer_of (sym c.in-Slot.is) ∙ c.look_up.ensures)

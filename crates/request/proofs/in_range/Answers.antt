@@ -1,0 +1,13 @@
+use Rattle.request.proofs.Laws.{on-volume}
+use Rattle.request.proofs.in_range.Goals as goal
+
+pub returns-in-Tracks : goal.returns-in-Tracks
+returns-in-Tracks c = rw c.in-Tracks.is c.counts_ok.ensures
+
+pub returns-in-Cylinders : goal.returns-in-Cylinders
+returns-in-Cylinders c = rw c.in-Cylinders.is c.counts_ok-in-Cylinders.ensures
+
+pub returns-in-Absolute : goal.returns-in-Absolute
+returns-in-Absolute c =
+    let held = c.amount-in-Absolute-1.given in
+    rw held.1 (on-volume held.0.0 held.0.1.0 c.args.request.secondary c.tracks.result _ c.place_ok.result c.tracks.ensures.0 c.place_ok.ensures)
