@@ -319,12 +319,12 @@ def turn(path, d, p, text, it, lib, dashed, own, clauses):
             say(f"need {old}: not in names.json")
             continue
         new, i = hit
-        m = re.match(rf"^{re.escape(name)} c(?: κs)? =\s*(.*)$", rest, re.S)
+        m = re.match(rf"^{re.escape(name)} c(?: κs)?((?: {NAME})*) =\s*(.*)$", rest, re.S)
         if not m:
             say(f"need {old}: clause {rest[:60]!r}")
             continue
-        body = m[1].strip()
-        if body == "search rules":
+        more, body = m[1], m[2].strip()
+        if body == "search rules" and not unfold:
             continue
         b = body_of(body, asked[i][0])
         callee = re.match(r"(\w+)(?:-.*)?-requires", new)
@@ -334,10 +334,10 @@ def turn(path, d, p, text, it, lib, dashed, own, clauses):
                 say(f"{new}: write the clauses {clauses[callee[1]]}")
             else:
                 b = r
-        if re.fullmatch(r"search rules|omega arith", b.strip()):
+        if re.fullmatch(r"search rules|omega arith", b.strip()) and not unfold:
             continue
         one = "\n" not in b and len(b) < 120
-        answers.append(f"pub {new} : goal.{new}\n{unfold}{new} c =" + (" " if one else "\n    ") + b.strip())
+        answers.append(f"pub {new} : goal.{new}\n{unfold}{new} c{more} =" + (" " if one else "\n    ") + b.strip())
     keep = [u for u in uses if not re.search(r"\.(Statement|Tie)(\.|\s|$)", u)]
     if not any("rules" in TOKEN.findall(x) for x in answers + invs + helpers):
         keep = [u for u in keep if "borrow.Author.Rules.{rules}" not in u]

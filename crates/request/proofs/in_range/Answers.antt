@@ -9,5 +9,4 @@ returns-in-Cylinders c = rw c.in-Cylinders.is c.counts_ok-in-Cylinders.ensures
 
 pub returns-in-Absolute : goal.returns-in-Absolute
 returns-in-Absolute c =
-    let held = c.amount-in-Absolute-1.given in
-    rw held.1 (on-volume held.0.0 held.0.1.0 c.args.request.secondary c.tracks.result _ c.place_ok.result c.tracks.ensures.0 c.place_ok.ensures)
+    rw c.in-Absolute.is (on-volume c.in-Absolute.start c.in-Absolute.n c.args.request.secondary c.tracks.result _ c.place_ok.result c.tracks.ensures.0 c.place_ok.ensures)

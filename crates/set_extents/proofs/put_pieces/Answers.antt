@@ -18,7 +18,7 @@ lengthen_last-requires c =
     let five : length a.pieces ≡ 5 = let known = c.well_formed.1.1.1.1.1.1.0 in search rules in
     let p = piece-in 65535 a.count a.pieces five c.requires.3 c.requires.5 0 (omega (arith, c.requires.2)) in
     let s = c.piece_at-touching.ensures.0 in
-    let c = c.piece_at-touching.ensures.1 in
+    let n = c.piece_at-touching.ensures.1 in
     (c.requires.0, omega (arith, p.1), told es es _ _ _ true refl s c.requires.1 c.if-joins.true)
 
 pub add_pieces-requires : goal.add_pieces-requires

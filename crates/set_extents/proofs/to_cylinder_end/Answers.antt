@@ -36,7 +36,7 @@ returns-then-stay-x c =
     let a = c.args in
     let l = c.loop-e in
     let x = at_read (geometry_of a.g) a.f1.now a.f3.now a.n c.requires.good l.e c.extent_at-x.result.start c.extent_at-x.result.count c.loop-e-test.true c.extent_at-x.ensures in
-    along-stop (geometry_of a.g) a.g.heads a.keep (read_extents a.g.heads a.f1.now a.f3.now a.n) l.e l.auto l.left l.last c.extent_at-x.result.start c.extent_at-x.result.count c.stays_of-stay.result x l.invariant.1 c.stays_of-stay.ensures c.if-stay-x.true
+    along-stop (geometry_of a.g) a.g.heads a.keep (read_extents a.g.heads a.f1.now a.f3.now a.n) l.e l.kept l.left l.last c.extent_at-x.result.start c.extent_at-x.result.count c.stays_of-stay.result x l.invariant.1 c.stays_of-stay.ensures c.if-stay-x.true
 
 pub overflow_add-last : goal.overflow_add-last
 overflow_add-last c =
@@ -59,11 +59,11 @@ loop-e-preserved c =
     let es = read_extents a.g.heads a.f1.now a.f3.now a.n in
     let x = at_read (geometry_of a.g) a.f1.now a.f3.now a.n c.requires.good l.e c.extent_at-x.result.start c.extent_at-x.result.count c.loop-e-test.true c.extent_at-x.ensures in
     let stays = c.stays_of-stay in
-    (omega arith, along-next (geometry_of a.g) a.g.heads a.keep es l.e l.auto l.left l.last c.extent_at-x.result.start c.extent_at-x.result.count stays.result x l.invariant.1 stays.ensures (omega (arith, c.if-stay-x.false)) (tracks-within (geometry_of a.g) es l.e _ _ c.requires.limits x) (omega (arith, x.ends, c.requires.limits.tracks_most)) _ (omega (arith, c.lesser-left.ensures)))
+    (omega arith, along-next (geometry_of a.g) a.g.heads a.keep es l.e l.kept l.left l.last c.extent_at-x.result.start c.extent_at-x.result.count stays.result x l.invariant.1 stays.ensures (omega (arith, c.if-stay-x.false)) (tracks-within (geometry_of a.g) es l.e _ _ c.requires.limits x) (omega (arith, x.ends, c.requires.limits.tracks_most)) _ (omega (arith, c.lesser-left.ensures)))
 
 pub returns : goal.returns
 returns c =
     let a = c.args in
     let l = c.loop-e in
     let n = read_length (geometry_of a.g) a.f1.now a.f3.now a.n in
-    along-all a.g.heads a.keep (read_extents a.g.heads a.f1.now a.f3.now a.n) l.e l.auto l.left l.last (omega arith) l.invariant.1
+    along-all a.g.heads a.keep (read_extents a.g.heads a.f1.now a.f3.now a.n) l.e l.kept l.left l.last (omega arith) l.invariant.1
