@@ -1,7 +1,7 @@
 /*
  * host.c: a week on a survey volume, its last day on two, as an emulator would live it with the VTOC space manager.
  *
- *   rt staticlib vtoc && cc -std=c99 -Iinclude examples/host.c target/staticlib/libvtoc.a -o target/host
+ *   tools/build vtoc && cc -std=c99 -Iinclude examples/host.c target/staticlib/libvtoc.a -o target/host
  *   target/host target/week.vtoc && target/bin/vtlist < target/week.vtoc
  *
  * A volume is a 3330 pack: 404 cylinders of 19 tracks, a VTOC of two tracks with 39 records each from track 1. The week is the last

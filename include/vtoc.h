@@ -82,7 +82,7 @@
  *       memcpy(table + slot * VTOC_RECORD_LENGTH + VTOC_LABEL_EXPIRY, answer, VTOC_STORED_LENGTH);
  *
  * BUILD
- *   rt staticlib vtoc && cc -Iinclude examples/host.c target/staticlib/libvtoc.a -o target/host
+ *   tools/build vtoc && cc -Iinclude examples/host.c target/staticlib/libvtoc.a -o target/host
  * The archive is for x86-64 Linux and needs no other library than C's own.
  */
 #ifndef VTOC_H

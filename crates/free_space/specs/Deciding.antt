@@ -11,7 +11,7 @@ use Rattle.free_space.specs.Shorter.{CutPlans}
 abbrev pub release_of : {g : Geometry} {t m s : List ℕ} {k : ℕ} → At g t m s k → (ttr : ℕ) → Outcome
 release_of d ttr = release_set d.volume d.name ttr d.it.label
 
--- the result_of and the answer are those of the outcome, on a copy of the table; a is the answer before
+-- the result and the answer are those of the outcome, on a copy of the table; a is the answer before
 abbrev pub ForeseesAt : {g : Geometry} {t m s : List ℕ} {k : ℕ} → At g t m s k → Outcome → (a : List ℕ) (r : ℕ) (a' : List ℕ) → Type 0
 ForeseesAt {t = t} d o a r a' = result_of r (lent t a' []) ≡ written (lent t a []) (on_copy d.volume o)
 
@@ -27,7 +27,7 @@ pub record CutPlanned {g : Geometry} {t m s : List ℕ} {k : ℕ} (d : At g t m 
   pub fits : r.cut.plan.fits ≡ true
   pub answered : a' ≡ answer (given_back (r.set.tracks - n))
 
--- and where the result_of is 0 the change is planned
+-- and where the result is 0 the change is planned
 pub record Decides {g : Geometry} {t m s : List ℕ} {k : ℕ} (d : At g t m s k) (ttr : ℕ) (a m' c a' : List ℕ) (r : Decision) : Type 0 where
   pub replied : ForeseesAt d (release_of d ttr) a r.refusal a'
   pub planned : r.refusal ≡ 0 → CutPlanned d ttr m' c a' r

@@ -32,7 +32,7 @@ abbrev pub choice : (t name at : List ℕ) (option : SpaceOption) (amount : Amou
 choice t name at option amount secondary =
     given (grant (read t).geometry (read t).labels option amount) 9 (allocate_pieces (read t) (asking name at secondary) amount)
 
--- the result_of, the table and the answer are those of the rule
+-- the result, the table and the answer are those of the rule
 abbrev pub Chooses : (t name at a : List ℕ) (option : SpaceOption) (amount : Amount) (secondary r : ℕ) (t' a' : List ℕ) → Type 0
 Chooses t name at a option amount secondary r t' a' =
     result_of r (lent t' a' []) ≡ written (lent t a []) (choice t name at option amount secondary)

@@ -72,7 +72,7 @@ pub record Planned {g : Geometry} {t m s : List ℕ} {h : Holder} {p : List (Lis
   pub outcome : settled (granted grants.pieces) (grown grants) ≡ sought d
   pub answered : a' ≡ answer (granted grants.pieces)
 
--- a is the answer before: result_of and answer are those of the rule, on a copy; and where it is 0 the change is planned
+-- a is the answer before: result and answer are those of the rule, on a copy; and where it is 0 the change is planned
 pub record Decides {g : Geometry} {t m s : List ℕ} {h : Holder} {p : List (List ℕ)} (d : Seeks g t m s h p) (a m' c a' : List ℕ) (r : Decision) : Type 0 where
   pub replied : result_of r.refusal (lent t a' []) ≡ written (lent t a []) (on_copy d.volume (sought d))
   pub planned : r.refusal ≡ 0 → Planned d m' c a' r

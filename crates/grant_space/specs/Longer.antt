@@ -21,7 +21,7 @@ pub record Longer (t m s a : List ℕ) (g : Geometry) (k : ℕ) : Type 0 where
   pub long_answer : length a ≡ 24
   pub there : FoundAt t (read t) name k
 
--- the result_of, the table and the answer are those of the rule
+-- the result, the table and the answer are those of the rule
 abbrev pub Extended : {t m s a : List ℕ} {g : Geometry} {k : ℕ} → Longer t m s a g k → (r : ℕ) (t' a' : List ℕ) → Type 0
 Extended {t = t} {a = a} d r t' a' =
     result_of r (lent t' a' []) ≡ written (lent t a []) (extend_set (read t) d.name d.there.label)

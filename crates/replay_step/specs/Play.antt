@@ -1,4 +1,4 @@
--- What is done with a record (docs/REPLAY.md): its result_of, the buffers after it, and its line. `Lent` holds the three
+-- What is done with a record (docs/REPLAY.md): its result, the buffers after it, and its line. `Lent` holds the three
 -- buffers whole here: the table, the answer and the labels. Assumes nothing.
 use Rattle.std.specs.Prelude.{◌≡◌, ℕ, Bool, cond, List, [], ◌++◌, eqb, get_or, take, drop, replicate}
 use Rattle.model.specs.Basics.{within}
@@ -42,7 +42,7 @@ with_labels r b p = whole_table r b p (p.after.extra ++ drop (labels_lent r) b.e
 unfoldable pub obtained : List ℕ → Lent → Result
 obtained r b = with_labels r b (perform (lent_of r b (take (labels_lent r) b.extra)) (obtain (name_asked r)))
 
--- r is the result_of and t', a' are table and answer after it, whatever the labels are; these stay
+-- r is the result and t', a' are table and answer after it, whatever the labels are; these stay
 abbrev pub Does : (Lent → Result) → (t a : List ℕ) (r : ℕ) (t' a' : List ℕ) → Type 0
 Does f t a r t' a' = (l : List ℕ) → result_of r (lent t' a' l) ≡ f (lent t a l)
 
@@ -107,7 +107,7 @@ fresh_answer = replicate 32 0xA5
 unfoldable pub fresh_labels : List ℕ
 fresh_labels = replicate 288 0x5A
 
--- the result_of and the buffers after it
+-- the result and the buffers after it
 unfoldable pub play_done : List ℕ → List ℕ → Result
 play_done r t = operated (get_or r 0 0) r (lent t fresh_answer fresh_labels)
 

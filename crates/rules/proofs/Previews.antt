@@ -55,7 +55,7 @@ module _ (v : Volume) (b b' : Lent) (n : ℕ) (nz : n ≡ 0 → ⊥) where
 
 -- ---- preview, then call
 
--- the same result_of; where it is 0 the same answer, where it is not both buffers as they were
+-- the same result; where it is 0 the same answer, where it is not both buffers as they were
 abbrev Alike : (b d : Lent) (p q : Result) → Type 0
 Alike b d p q =
     (q.number ≡ p.number) × (p.number ≡ 0 → q.after.answer ≡ p.after.answer)

@@ -18,7 +18,7 @@ AsOnCopy = (b : Lent) (c : Call) → perform b (preview c) ≡ with_table b.tabl
 
 -- ---- a preview, and then its call, on the table that the preview left
 
--- a and a₂ are the answers before the two, a' and a₂' after them; r and r₂ are their results. The result_of is the same; if it is 0, so
+-- a and a₂ are the answers before the two, a' and a₂' after them; r and r₂ are their results. The result is the same; if it is 0, so
 -- is the answer; if it is not, both buffers are as they were
 abbrev pub SameReply : (a a₂ : List ℕ) (r r₂ : ℕ) (a' a₂' : List ℕ) → Type 0
 SameReply a a₂ r r₂ a' a₂' = (r₂ ≡ r) × (r ≡ 0 → a₂' ≡ a') × ((n : ℕ) → r ≡ suc n → (a' ≡ a) × (a₂' ≡ a₂))

@@ -1,4 +1,4 @@
--- What each entry point ensures: one equation, from the lent buffers and numbers before the call to the result_of and the
+-- What each entry point ensures: one equation, from the lent buffers and numbers before the call to the result and the
 -- lent buffers after it. The entry points cite these, and so does demand 3. Assumes nothing.
 use Rattle.std.specs.Prelude.{◌≡◌, ℕ, List, []}
 use Rattle.model.specs.Model.{Geometry}
@@ -8,7 +8,7 @@ use Rattle.rules.specs.Entries.{convert_date, initialise, lent, perform, result_
 abbrev pub geometry : (c h d s v : ℕ) → Geometry
 geometry c h d s v = record { cylinders = c; heads = h; records = d; vtoc_start = s; vtoc_tracks = v }
 
--- t, a and x are the table, the answer and the third buffer, and with a prime after the call; r is the result_of
+-- t, a and x are the table, the answer and the third buffer, and with a prime after the call; r is the result
 
 -- initialise
 abbrev pub Begins : Geometry → (t a x : List ℕ) (r : ℕ) (t' a' x' : List ℕ) → Type 0
