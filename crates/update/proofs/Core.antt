@@ -10,7 +10,8 @@ use native.Mathlib.Omega.{arith}
 use lib.ListN.{length, take, drop}
 use lib.Dec.{eqb, leb}
 use borrow.Author.Tests.{eq-eqb, eqb-true}
-use Rattle.model.specs.Basics.{bit, flat}
+use Rattle.model.specs.Basics.{bit, flat, zeros}
+use Rattle.dscb.specs.Records.{put_record}
 use Rattle.model.specs.Model.{Geometry, Label, Run, Volume, fives_for, format0s, free, slots, slots_of, tally, unused, used}
 use Rattle.model.proofs.Lists.{by, some_is, sum-append, sum-take}
 use Rattle.model.specs.Predicates.{All}
@@ -153,4 +154,4 @@ finished w hw from f t empty e k p = four-done w hw _ empty k (chain-pending w h
 pub cleared_both : (t xs ys : List ℕ) → cleared (cleared t xs) ys ≡ cleared t (xs ++ ys)
 unfolding cleared
 cleared_both t [] ys = refl
-cleared_both t (x ∷ xs) ys = cleared_both _ xs ys
+cleared_both t (x ∷ xs) ys = cleared_both (put_record t x (zeros 140)) xs ys
