@@ -314,7 +314,7 @@ def turn(path, d, p, text, it, lib, dashed, own, clauses):
             helpers.append(decl)
             continue
         old = kind[5:]
-        hit = needs.get(norm(old)) or needs.get(norm(re.sub(r"^overflow-", "", old)))
+        hit = needs.get(norm(old)) or needs.get(norm(re.sub(r"^overflow-", "", old))) or needs.get(norm(re.sub(r"^slice-bounds-", "part-", old)))
         if not hit:
             say(f"need {old}: not in names.json")
             continue

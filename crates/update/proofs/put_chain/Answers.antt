@@ -24,6 +24,10 @@ pub slice_bounds-five-count : goal.slice_bounds-five-count
 slice_bounds-five-count c = let b =
     entry-below (slots (geometry_of c.args.g)) (take c.args.n c.args.chain.now) c.loop-i.i (omega (arith, c.requires.limits.0.least)) c.requires.n_in_bounds.1 in let e = c.member-a.ensures in let l = c.loop-i.invariant.long in let m = c.requires.limits.1 in let o = c.requires.limits.0.most in search rules
 
+pub slice_bounds-five-end : goal.slice_bounds-five-end
+slice_bounds-five-end c = let b =
+    entry-below (slots (geometry_of c.args.g)) (take c.args.n c.args.chain.now) c.loop-i.i (omega (arith, c.requires.limits.0.least)) c.requires.n_in_bounds.1 in let e = c.member-a.ensures in let l = c.loop-i.invariant.long in let m = c.requires.limits.1 in let o = c.requires.limits.0.most in search rules
+
 pub five-at-requires : goal.five-at-requires
 five-at-requires c =
     let p = c.requires in
@@ -33,7 +37,7 @@ five-at-requires c =
     (search rules, omega (arith, t.0, c.loop-i.invariant.at_up), omega (arith, t.0, p.limits.2), t.1, omega arith, p.limits.0)
 
 pub loop-i-smaller : goal.loop-i-smaller
-loop-i-smaller c = let l = length-take c.before.before.before.before.before.before.before.before.before.before.before.before.args.n c.before.before.before.before.before.before.before.before.before.before.before.before.args.chain.now in let u = c.loop-i.invariant.up_to in omega arith
+loop-i-smaller c = let l = length-take c.args.n c.args.chain.now in let u = c.loop-i.invariant.up_to in omega arith
 
 pub loop-i-preserved : goal.loop-i-preserved
 loop-i-preserved c =
