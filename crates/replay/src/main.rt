@@ -2,107 +2,174 @@
 // make: the table that the last record left is written there. START is a file with the table before the first record.
 #![tactic(auto)]
 
-ghost use Rattle.std.specs.Prelude.{◌≡◌, ◌<◌, length};
+ghost use Rattle.std.specs.Prelude.{◌≡◌, ◌<◌, ◌≤◌, length};
 
-use libc::{STDERR_FILENO, STDIN_FILENO, STDOUT_FILENO};
+use std::env::FillError;
+use std::fmt::InlineText;
+use std::fs::{File, OpenOptions};
+use std::io::{Read, Write};
+use std::rt::{Env, Files};
+use std::{io, str};
+
+// Reads until buf is full, the input ends or a read fails; answers how many bytes came.
+fn read_full(input: &mut impl Read, buf: &mut [u8]) -> usize
+    ensures { result ≤ length buf.new }
+{
+    let mut done = 0;
+    while done < buf.len() {
+        match input.read(&mut buf[done..]) {
+            Ok(0) | Err(_) => break,
+            Ok(n) => done += n,
+        }
+    }
+    done
+}
+
+// Says on standard error why nothing is played. Where that fails too, nobody can be told.
+fn complain(rt: &HostRuntime, why: &str) {
+    let _ = rt.eprintln(why);
+}
+
+// The reason in the text of an error, less the number that std puts behind it.
+fn reason(text: &str) -> &str {
+    match text.split_once(" (os error ") {
+        Some((reason, _)) => reason,
+        None => text,
+    }
+}
+
+// Says on standard error what failed, and why.
+fn fail(rt: &HostRuntime, what: &str, error: io::Error) {
+    let text = InlineText::<256>::of(error);
+    let why = reason(text.as_str());
+    let _ = eprintln!(rt; "{what}: {why}");
+}
 
 // Reads a record, plays it and prints its line; answers whether to go on. A record cut short at the end is left out. `lent` is how
 // many bytes of the table the last record lends; 0 where its line could not be printed, since the run then ends too early.
-fn play_one(table: &mut [u8], lent: &mut usize) -> bool
+fn play_one(rt: &HostRuntime, input: &mut impl Read, table: &mut [u8], lent: &mut usize) -> bool
     requires { (length table.old ≡ 65536) × (lent.old < 65536) }
     ensures { lent.new < 65536 }
 {
     let mut asked = [0u8; 136];
     let mut line = [0u8; 73];
-    let n = io::read_full(STDIN_FILENO, &mut asked);
+    let n = read_full(input, &mut asked);
     if n < 136 {
         return false;
     }
     replay_step::step(&asked, table, &mut line);
     *lent = replay_record::table_lent(&asked);
-    if io::write_all(STDOUT_FILENO, &line) {
-        return true;
+    match rt.write_all(&line) {
+        Ok(()) => true,
+        Err(e) => {
+            fail(rt, "replay: a line", e);
+            *lent = 0;
+            false
+        }
     }
-    os::fail(b"replay: a line");
-    *lent = 0;
-    false
 }
 
 // Plays the whole input; answers how many bytes of the table the last record lent, 0 where there is none. A proved loop has to
-// end, and nothing says that the input does: it counts down from a number that no run uses up.
-fn play_all(table: &mut [u8]) -> usize
+// end, and nothing says that the input does: so there is a number of turns, one that no run uses up.
+fn play_all(rt: &HostRuntime, input: &mut impl Read, table: &mut [u8]) -> usize
     requires { length table.old ≡ 65536 }
     ensures { result < 65536 }
 {
     let mut lent = 0;
-    let mut turns = u64::MAX;
-    while turns > 0 && play_one(table, &mut lent) {
-        turns -= 1;
+    for _ in 0..u64::MAX {
+        if !play_one(rt, input, table, &mut lent) {
+            break;
+        }
     }
     lent
 }
 
-// Says on standard error why nothing is played.
-fn complain(why: &[u8]) {
-    io::write_all(STDERR_FILENO, why);
+// Whether there is an argument i.
+fn has_word(rt: &HostRuntime, i: usize) -> bool {
+    match rt.arg(i, &mut []) {
+        Ok(_) => true,
+        Err(FillError::TooLong) => true,
+        Err(FillError::NotPresent) => false,
+    }
+}
+
+// Puts argument i, the path of a file, into buf; none, with a complaint, where it is not UTF-8: std takes no other. One that does
+// not fit counts as empty: no file has an empty path.
+fn path_at<'a>(rt: &HostRuntime, i: usize, buf: &'a mut [u8]) -> Option<&'a str> {
+    let n = rt.arg(i, buf).unwrap_or(0);
+    match str::from_utf8(&buf[..n]) {
+        Ok(path) => Some(path),
+        Err(_) => {
+            complain(rt, "replay: the path of a file is not UTF-8");
+            None
+        }
+    }
 }
 
 // Reads START, the first argument; answers whether there was something in it.
-fn load(table: &mut [u8]) -> bool {
-    let mut path = io::buffer();
-    let n = os::arg(1, &mut path);
-    let fd = os::open_read(&path[..n]);
-    if fd < 0 {
-        os::fail(&path[..n]);
+fn load(rt: &HostRuntime, table: &mut [u8]) -> bool {
+    let mut buf = [0u8; 4096];
+    let Some(path) = path_at(rt, 1, &mut buf) else {
         return false;
-    }
-    let got = io::read_full(fd, table);
-    libc::close(fd);
+    };
+    let mut file = match rt.open_file(OpenOptions::new().read(true), path) {
+        Ok(file) => file,
+        Err(e) => {
+            fail(rt, path, e);
+            return false;
+        }
+    };
+    let got = read_full(&mut file, table);
     if got == 0 {
-        complain(b"replay: START is empty or cannot be read\n");
+        complain(rt, "replay: START is empty or cannot be read");
     }
     got > 0
 }
 
-// Writes the first bytes of the table to a file and closes it; answers whether both went well.
-fn leave(fd: i32, table: &[u8], lent: usize) -> bool
+// Writes the first bytes of the table to a file and closes it. What the system may tell only when the file is closed is asked for
+// before, since std's close tells nothing.
+fn leave(mut file: File, table: &[u8], lent: usize) -> io::Result<()>
     requires { (length table.now ≡ 65536) × (lent < 65536) }
 {
-    let is_written = io::write_all(fd, &table[..lent]);
-    libc::close(fd) == 0 && is_written
+    file.write_all(&table[..lent])?;
+    file.sync_all()
 }
 
 // Makes END, argument i, plays the input and writes the table there. It is made before anything is played and never
 // written over: an older copy of a table stays as it is. A part of a table is not left: it could be taken for one.
-fn play_to(i: usize, table: &mut [u8])
+fn play_to(rt: &HostRuntime, input: &mut impl Read, i: usize, table: &mut [u8])
     requires { length table.old ≡ 65536 }
 {
-    let mut path = io::buffer();
-    let n = os::arg(i, &mut path);
-    let fd = os::create(&path[..n]);
-    if fd < 0 {
-        os::fail(&path[..n]);
+    let mut buf = [0u8; 4096];
+    let Some(path) = path_at(rt, i, &mut buf) else {
         return;
-    }
-    let lent = play_all(table);
-    if !leave(fd, table, lent) {
-        os::fail(&path[..n]);
-        os::unlink(&path[..n]);
+    };
+    let file = match rt.open_file(OpenOptions::new().write(true).create_new(true), path) {
+        Ok(file) => file,
+        Err(e) => {
+            fail(rt, path, e);
+            return;
+        }
+    };
+    let lent = play_all(rt, input, table);
+    if let Err(e) = leave(file, table, lent) {
+        fail(rt, path, e);
+        let _ = rt.remove_file(path);
     }
 }
 
-fn main() {
-    let mut table = io::large_buffer();
-    let words = os::arg_count();
-    if words > 3 {
-        complain(b"usage: replay [[START] END] < RECORDING\n");
-    } else if words == 3 {
-        if load(&mut table) {
-            play_to(2, &mut table);
+fn main(rt: HostRuntime) {
+    let mut input = rt.stdin();
+    let mut table = [0u8; 65536];
+    if has_word(&rt, 3) {
+        complain(&rt, "usage: replay [[START] END] < RECORDING");
+    } else if has_word(&rt, 2) {
+        if load(&rt, &mut table) {
+            play_to(&rt, &mut input, 2, &mut table);
         }
-    } else if words == 2 {
-        play_to(1, &mut table);
+    } else if has_word(&rt, 1) {
+        play_to(&rt, &mut input, 1, &mut table);
     } else {
-        play_all(&mut table);
+        play_all(&rt, &mut input, &mut table);
     }
 }
