@@ -1,0 +1,14 @@
+use Rattle.call_initialise.proofs.Laws.{fresh-written}
+use Rattle.dscb.specs.Forms.{geometry_of}
+use lib.ListN.{length}
+use mathlib.Core.Path.{◌≡◌, ap}
+use Prim.Native.Nat.{ℕ, ◌-◌}
+use borrow.Author.Rules.{rules}
+use Rattle.call_initialise.proofs.write_fresh.Goals as goal
+
+pub returns : goal.returns
+returns c =
+    let n : length c.fresh_five-five.result ≡ 140 = search rules in
+    let m : length c.four-four.result ≡ 140 = search rules in
+    fresh-written (geometry_of c.args.g) c.requires.0 c.args.table.now _ _ _ c.fresh_five-five.result c.four-four.result _ c.requires.1 c.erase.ensures c.fresh_five-five.ensures n c.put_record.ensures
+    (ap (λ (k : ℕ). k - 2) c.slots.ensures.0) c.four-four.ensures m c.put_record-2.ensures

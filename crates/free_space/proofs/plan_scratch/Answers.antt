@@ -1,0 +1,34 @@
+use Rattle.free_space.proofs.Laws.{slot-inside, slot3-inside}
+use native.Mathlib.Omega.{arith}
+use mathlib.Core.Path.{◌∙◌}
+use Rattle.free_space.proofs.plan_scratch.Goals as goal
+
+pub give_back-requires : goal.give_back-requires
+give_back-requires c =
+    let p = c.requires.limits in
+    let y = c.measure-set.ensures _ _ c.requires.at in
+    record { table_len = (p.1, slot-inside y p.5, slot3-inside _ _ _ _ _ c.requires.at _ y, p.2); set_in = y.stored.set }
+
+pub free_slot-requires-2 : goal.free_slot-requires-2
+free_slot-requires-2 c =
+    let a = slot3-inside _ _ _ _ _ c.requires.at _ (c.measure-set.ensures _ _ c.requires.at) in
+    let e = c.requires.limits.0.most in
+    (c.free_slot.ensures.long ∙ c.requires.limits.3, omega arith)
+
+pub plan_slots-plan-requires : goal.plan_slots-plan-requires
+plan_slots-plan-requires c =
+    let p = c.requires.limits in
+    let h = c.give_back.ensures.0.long in
+    (p.0, p.1, omega (arith, p.2, h), c.free_slot-2.ensures.long ∙ (c.free_slot.ensures.long ∙ p.3), p.4, omega arith)
+
+pub returns : goal.returns
+returns c =
+    λ d. record {
+      one_freed = _;
+      both_freed = _;
+      measured = c.measure-set.ensures _ _ d;
+      tail = c.give_back.ensures.0;
+      first = c.free_slot.ensures;
+      third = c.free_slot-2.ensures;
+      plan = c.plan_slots-plan.ensures;
+    }
