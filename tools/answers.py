@@ -56,7 +56,7 @@ def requires_of(root):
                 for m in re.finditer(r"(?m)^ *(?:pub )?(?:extern \"C\" )?fn (\w+)(.*?)^\{", read(os.path.join(d, f)), re.S):
                     names = re.findall(r"(?m)^ *requires (\w+) \{", m[2])
                     if len(names) > 1:
-                        found[m[1]] = names
+                        found.setdefault(m[1], {})[os.path.relpath(d, root).split("/")[0]] = names
     return found
 
 
@@ -134,6 +134,7 @@ def main():
 
 
 def turn(path, d, p, text, it, lib, dashed, own, clauses):
+    clauses = {f: at.get(lib) or list(at.values())[0] for f, at in clauses.items()}
     uses, decls = blocks(text)
     needs = {norm(old): (new, i) for i, (old, new) in enumerate(it["needs"])}
     places = {}
@@ -196,12 +197,12 @@ def turn(path, d, p, text, it, lib, dashed, own, clauses):
             return ("PLACE", at)
         f = rest[0]
         # what an arm of a match binds and tells
-        up = at if at is not None else env["c"]
-        while up is not None:
-            for field, old, below in arms.get(up, []):
-                if norm(old) == norm(f) and rest[1 : 1 + len(below)] == below and below:
-                    return "c." + field + fields(rest[1 + len(below) :])
-            up = places[up][0]
+        for up in (at, env["c"]):
+            while up is not None:
+                for field, old, below in arms.get(up, []):
+                    if norm(old) == norm(f) and rest[1 : 1 + len(below)] == below and below:
+                        return "c." + field + fields(rest[1 + len(below) :])
+                up = places[up][0]
         if at is not None and norm(places[at][1]) == norm(f) and f != "":
             return "c." + places[at][2] + later(f, rest[1:])
         # the steps between were others in the older Rattle: by the step's name

@@ -8,9 +8,9 @@ put_some-requires c =
     let lim = c.requires in
     let i = lim.ends in
     let j = lim.tracks_most in
-    let e = room (geometry_of c.args.g) c.blank-rec.result _ c.put_some_lem.result _ _ c.blank-rec.ensures c.put_some_lem.ensures in
+    let e = room (geometry_of c.args.g) c.blank-rec.result _ c.put_some-j.result _ _ c.blank-rec.ensures c.put_some-j.ensures in
     (e.0, e.1, omega arith, lim)
 
 pub returns : goal.returns
 returns c =
-    both_runs (geometry_of c.args.g) c.requires c.blank-rec.result _ _ c.put_some_lem.result c.put_some.result c.tracks.result c.blank-rec.ensures c.put_some_lem.ensures c.tracks.ensures.0 c.put_some.ensures
+    both_runs (geometry_of c.args.g) c.requires c.blank-rec.result _ _ c.put_some-j.result c.put_some.result c.tracks.result c.blank-rec.ensures c.put_some-j.ensures c.tracks.ensures.0 c.put_some.ensures

@@ -25,12 +25,12 @@ on_volume-requires c =
 
 pub returns-then-on_volume : goal.returns-then-on_volume
 returns-then-on_volume c =
-    duplicate c.args.table.now c.args.old.now c.args.new.now c.args.answer.now _ c.and_another-lengths.ensures (and-named (and-named c.open_to_read.ensures c.and_named-named.ensures) c.and_named-opened.ensures) c.if-opened-ne0.false _ (ap answer_of (sym c.k-1.given.1) ∙ c.look_up.ensures) _ c.on_volume.ensures c.if-on_volume.true
+    duplicate c.args.table.now c.args.old.now c.args.new.now c.args.answer.now _ c.and_another-lengths.ensures (and-named (and-named c.open_to_read.ensures c.and_named-named.ensures) c.and_named-opened.ensures) c.if-opened-ne0.false _ (ap answer_of (sym c.in-Slot.is) ∙ c.look_up.ensures) _ c.on_volume.ensures c.if-on_volume.true
 
 pub put_name-requires : goal.put_name-requires
 put_name-requires c =
     let x = and-named (and-named c.open_to_read.ensures c.and_named-named.ensures) c.and_named-opened.ensures in (
-      record-inside (renames c.args.table.now c.args.old.now c.args.new.now c.args.answer.now _ c.and_another-lengths.ensures) x c.if-opened-ne0.false _ (ap answer_of (sym c.k-1.given.1) ∙ c.look_up.ensures),
+      record-inside (renames c.args.table.now c.args.old.now c.args.new.now c.args.answer.now _ c.and_another-lengths.ensures) x c.if-opened-ne0.false _ (ap answer_of (sym c.in-Slot.is) ∙ c.look_up.ensures),
       new-long c.args.table.now c.args.old.now c.args.new.now c.args.answer.now _ c.and_another-lengths.ensures x c.if-opened-ne0.false,
     )
 
@@ -40,4 +40,4 @@ put_nothing-requires c =
 
 pub returns : goal.returns
 returns c =
-    name-put c.args.table.now c.args.old.now c.args.new.now c.args.answer.now _ c.and_another-lengths.ensures (and-named (and-named c.open_to_read.ensures c.and_named-named.ensures) c.and_named-opened.ensures) c.if-opened-ne0.false _ (ap answer_of (sym c.k-1.given.1) ∙ c.look_up.ensures) _ c.on_volume.ensures c.if-on_volume.false _ _ c.put_name.ensures c.put_nothing.ensures
+    name-put c.args.table.now c.args.old.now c.args.new.now c.args.answer.now _ c.and_another-lengths.ensures (and-named (and-named c.open_to_read.ensures c.and_named-named.ensures) c.and_named-opened.ensures) c.if-opened-ne0.false _ (ap answer_of (sym c.in-Slot.is) ∙ c.look_up.ensures) _ c.on_volume.ensures c.if-on_volume.false _ _ c.put_name.ensures c.put_nothing.ensures

@@ -13,15 +13,15 @@ returns-else-good_ttr c =
 pub kept_of-keep-requires : goal.kept_of-keep-requires
 kept_of-keep-requires c =
     let p = c.requires.limits in
-    let y = c.measure-set.ensures _ _ c.requires.seeks in
+    let y = c.measure-set.ensures _ _ c.requires.at in
     let fits = ttr-fits c.args.ttr c.measure-set.result.tracks (sym c.good_ttr.ensures ∙ c.if-good_ttr.true) in
-    record { table_len = (p.1, slot-inside y p.5, slot3-inside _ _ _ _ _ c.requires.seeks _ y, all_there y (c.args.ttr / 256 + 1) fits.1); set_in = y.stored.set }
+    record { table_len = (p.1, slot-inside y p.5, slot3-inside _ _ _ _ _ c.requires.at _ y, all_there y (c.args.ttr / 256 + 1) fits.1); set_in = y.stored.set }
 
 pub plan_release-cut-requires : goal.plan_release-cut-requires
 plan_release-cut-requires c =
     let p = c.requires.limits in
-    let y = c.measure-set.ensures _ _ c.requires.seeks in
-    record { limits = (p.0, p.1, p.2, p.3, p.4, slot-inside y p.5, slot3-inside _ _ _ _ _ c.requires.seeks _ y); set_in = y.stored.set }
+    let y = c.measure-set.ensures _ _ c.requires.at in
+    record { limits = (p.0, p.1, p.2, p.3, p.4, slot-inside y p.5, slot3-inside _ _ _ _ _ c.requires.at _ y); set_in = y.stored.set }
 
 pub returns-else-plan : goal.returns-else-plan
 returns-else-plan c =
@@ -29,14 +29,14 @@ returns-else-plan c =
 
 pub overflow_sub-back : goal.overflow_sub-back
 overflow_sub-back c =
-    let y = c.measure-set.ensures _ _ c.requires.seeks in
+    let y = c.measure-set.ensures _ _ c.requires.at in
     let fits = ttr-fits c.args.ttr c.measure-set.result.tracks (sym c.good_ttr.ensures ∙ c.if-good_ttr.true) in
     kept-inside y c.requires.limits.0.heads c.args.ttr _ fits.1 c.kept_of-keep.ensures
 
 pub put_back-requires : goal.put_back-requires
 put_back-requires c =
-    let a = set-small _ _ _ _ _ c.requires.seeks in
-    let b = (c.measure-set.ensures _ _ c.requires.seeks).spread.sum in
+    let a = set-small _ _ _ _ _ c.requires.at in
+    let b = (c.measure-set.ensures _ _ c.requires.at).spread.sum in
     (c.requires.limits.6, omega arith)
 
 pub returns : goal.returns

@@ -31,6 +31,6 @@ write_grant-requires c =
 
 pub returns : goal.returns
 returns c =
-    let long1 : length c.new_label.result ≡ 140 = let known = c.new_label.type-inv in search rules in
-    let long3 : length c.empty_three.result ≡ 140 = let known = c.empty_three.type-inv in search rules in
+    let long1 : length c.new_label.result ≡ 140 = let known = c.new_label.type_inv in search rules in
+    let long3 : length c.empty_three.result ≡ 140 = let known = c.empty_three.type_inv in search rules in
     placed c.requires c.fulfil-pieces.ensures _ c.seeker_of-seeker.ensures c.decide-decision.ensures c.if-decision-ne0.false _ c.unit_byte-unit.ensures _ _ c.new_label.ensures c.empty_three.ensures long1 long3 _ c.write_grant.ensures
