@@ -8,7 +8,6 @@ use Prim.Native.Nat.{ℕ, suc, ◌-◌, ◌%◌, ◌≤◌, ◌<◌}
 use borrow.Author.Tests.{eq-eqb, ne_eqb}
 use lib.Dec.{T}
 use lib.ListN.{get_or, length, take}
-use Rattle.model.specs.Basics.{same}
 use Rattle.model.specs.Model.{Extent, Geometry, Label, Volume, overs, runs_of, total}
 use Rattle.model.specs.Tracks.{tracks_of}
 use Rattle.model.proofs.Cylinders.{KeptCount}

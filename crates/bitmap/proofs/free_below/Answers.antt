@@ -9,8 +9,7 @@ pub loop-w-init : goal.loop-w-init
 loop-w-init c = (omega arith, refl, λ t u. absurd (omega arith))
 
 pub loop-w-preserved : goal.loop-w-preserved
-loop-w-preserved c =
-    (
+loop-w-preserved c = (
   omega arith,
   length-set c.loop-w.map c.loop-w.w _ ∙ c.loop-w.invariant.1,
   upto-more c.loop-w.map c.loop-w.w (64 * length c.args.map.now) 0xffff_ffff_ffff_ffff (omega arith) c.loop-w.invariant.2 (word-all (c.loop-w.w * 64) (64 * length c.args.map.now) (omega arith)),

@@ -8,7 +8,6 @@ use borrow.Author.Rules.{rules}
 use Rattle.call_lspace.proofs.space.Goals as goal
 
 -- the sums fit two bytes
-
 pub overflow_cast-result : goal.overflow_cast-result
 overflow_cast-result c =
     let w = c.requires.3 in

@@ -24,12 +24,7 @@ pub piece-all-requires : goal.piece-all-requires
 piece-all-requires c =
     part-within c.args.u c.args.five c.loop-next.k c.loop-next.next (get_or c.loop-next.next 1 0) c.requires.4 c.loop-next.invariant.0 (omega arith)
 
-pub offset_bounds-five-k : goal.offset_bounds-five-k
-offset_bounds-five-k c =
-    search rules
-
 -- a candidate taken whole
-
 pub bounds-five-k : goal.bounds-five-k
 bounds-five-k c =
     (turn c.args.u c.args.amount c.args.five c.loop-next.rest c.loop-next.pieces c.loop-next.k c.loop-next.next c.piece-all.result (search rules) c.loop-next.invariant.0 c.loop-next.invariant.1 c.piece-all.ensures c.loop-next-test.true).few

@@ -1,8 +1,6 @@
 use Prim.Native.Nat.{◌+◌}
 use mathlib.Core.Path.{sym, ◌∙◌}
-use mathlib.Core.Bool.{true}
 use native.Mathlib.Omega.{arith}
-use Rattle.rules.specs.Table.{starts_part}
 use Rattle.ebcdic.proofs.Pairs.{at_last, no_name, sixteen-more, sixteen-no, upto-blank}
 use Rattle.rows.proofs.Rows.{from_place}
 use Rattle.ebcdic.proofs.name_ok.Goals as goal

@@ -6,7 +6,6 @@ use lib.Arith.{digits_div, digits_mod}
 use Rattle.free_extents.proofs.hole_of.Goals as goal
 
 -- a count of tracks stays far below 32 bits
-
 most : (cylinders h : ℕ) → cylinders ≤ 65535 → h ≤ 255 → cylinders * h ≤ 65535 * 255
 most cylinders h = mul-le-mul
 

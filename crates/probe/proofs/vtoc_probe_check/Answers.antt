@@ -4,7 +4,6 @@ use mathlib.Core.Path.{refl, sym, ◌∙◌}
 use Rattle.probe.proofs.vtoc_probe_check.Goals as goal
 
 -- `probe::vtoc_probe_check` meets its contract: each return gives the number that the tests before it leave. Assumes nothing.
-
 pub returns-else-good_length : goal.returns-else-good_length
 returns-else-good_length c = probe-wrong-length c.args.table.now (sym c.good_length.ensures ∙ c.if-good_length.false)
 
