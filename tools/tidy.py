@@ -18,7 +18,7 @@ LONG = 3  # so many `.before` are worth a name
 PLACE = re.compile(r"(?<![\w.-])(?P<var>[\w'-]+)(?P<row>(?:\.before)+)(?:\.(?P<next>[\w-]+))?")
 # They look through every record in scope, up to a bound, and a bound place is one more.
 TACTICS = re.compile(r"\b(?:search|omega|simp|cc)\b")
-BOUND = re.compile(r"let (?:top|at-\S+) =")
+BOUND = re.compile(r"let (?:top|at[-_]\S+) =")
 SOURCE = re.compile(r"^-- src/\w+\.rt:\d+:\d+\n", re.M)
 ANSWER = re.compile(r"^(?P<head>[\w'-]+(?: [\w'κ-]+)+) =(?P<body>(?:[ \n].*)?)\Z", re.S)
 
