@@ -1,5 +1,5 @@
-//! Links what the features ask for: `proved` libprobe.a and `library` libvtoc.a, which `rt staticlib
-//! probe` and `rt staticlib vtoc` make; `floor` floor.c, which is compiled here.
+//! Links what the features ask for: `proved` libprobe.a and `library` libvtoc.a, which `tools/build
+//! probe` and `tools/build vtoc` make; `floor` floor.c, which is compiled here.
 
 use std::env::var;
 use std::path::{Path, PathBuf};
@@ -39,7 +39,7 @@ fn run(command: &mut Command) {
 
 fn link(directory: &Path, name: &str) {
     let archive = directory.join(format!("lib{name}.a"));
-    assert!(archive.exists(), "{} is missing: run `rt staticlib {name}`", archive.display());
+    assert!(archive.exists(), "{} is missing: run `tools/build {name}`", archive.display());
     println!("cargo:rerun-if-changed={}", archive.display());
     link_from(directory, name);
 }

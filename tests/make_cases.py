@@ -6,20 +6,19 @@ and one theorem for each sequence.
 """
 import re, sys
 
-IMPORTS = """use mathlib.Core.List.{List, [], _∷_}
-use lib.Dec.{T}
-use Rattle·model.specs.Choice.{choose}
-use Rattle·model.specs.Model.{format0s, free, gaps, held, unused, used}
-use Rattle·model.specs.Tracks.{tracks_kept}
-use Rattle·rules.specs.Calls.{allocate, date_to_packed, date_to_stored, extend, grant, lspace, obtain, preview, release, rename, request, rule, scratch}
-use Rattle·rules.specs.Dates.{expiry_from, to_packed, to_stored, with_expiry}
-use Rattle·rules.specs.Entries.{convert_date, good_lengths, initialise, perform}
-use Rattle·rules.specs.Layout.{encode, extent_part, format1, format3, format4, format5, records}
-use Rattle·rules.specs.Listing.{listing, printable}
-use Rattle·rules.specs.Reading.{read, read_extents, read_geometry, read_label, read_records}
-use Rattle·rules.specs.Slots.{settle}
-use Rattle·rules.specs.Table.{good_label, good_length, good_name, limits, taken, valid}
-use Rattle·case_rows.specs.Check.{Row, attr, attr_n, begin, begin_sized, build, convert_sized, date, hurt, listed, nm, no, no_date, ok, ok_labels, parts, put, raw, right, sized, told, untold}"""
+IMPORTS = """use Rattle.std.specs.Prelude.{List, [], ◌∷◌, T}
+use Rattle.model.specs.Choice.{choose}
+use Rattle.model.specs.Model.{format0s, free, gaps, held, unused, used}
+use Rattle.model.specs.Tracks.{tracks_kept}
+use Rattle.rules.specs.Calls.{allocate, date_to_packed, date_to_stored, extend, grant, lspace, obtain, preview, release, rename, request, rule, scratch}
+use Rattle.rules.specs.Dates.{expiry_from, to_packed, to_stored, with_expiry}
+use Rattle.rules.specs.Entries.{convert_date, good_lengths, initialise, perform}
+use Rattle.rules.specs.Layout.{encode, extent_part, format1, format3, format4, format5, records}
+use Rattle.rules.specs.Listing.{listing, printable}
+use Rattle.rules.specs.Reading.{read, read_extents, read_geometry, read_label, read_records}
+use Rattle.rules.specs.Slots.{settle}
+use Rattle.rules.specs.Table.{good_label, good_length, good_name, limits, taken, valid}
+use Rattle.case_rows.specs.Check.{Row, attr, attr_n, begin, begin_sized, build, convert_sized, date, hurt, listed, nm, no, no_date, ok, ok_labels, parts, put, raw, right, sized, told, untold}"""
 UNFOLDED = """held gaps free used unused format0s choose extent_part format4 format5 format1 format3 records encode
 read_geometry read_extents read_label read_records read good_name limits good_label valid taken good_length settle grant tracks_kept
 to_stored to_packed expiry_from with_expiry rule good_lengths perform initialise convert_date printable listing""".replace("\n", " ")
@@ -55,12 +54,12 @@ def crate_of(number):
 def imports(text):
     """The imports, without names that the text does not use."""
     used = set(re.findall(r"[^\s(){},]+", text))
-    lines = [(head, [name for name in names.split(", ") if name in used or name.startswith("_")]) for head, names in re.findall(r"(.*)\{(.*)\}", IMPORTS)]
+    lines = [(head, [name for name in names.split(", ") if name in used or name.startswith("◌")]) for head, names in re.findall(r"(.*)\{(.*)\}", IMPORTS)]
     return "\n".join(f"{head}{{{', '.join(names)}}}" for head, names in lines if names)
 
 
 def main():
-    text = open(sys.argv[1] + "/Sample.antt").read().replace(" , ", ", ")
+    text = open(sys.argv[1] + "/Sample.antt").read()
     head, *blocks = re.split(r"\n\n(?=(?:-- [^\n]*\n)+abbrev pub sequence)", text)
     samples = {"cases": "", "chain_cases": "", "request_cases": ""}
     for block in blocks:

@@ -1,5 +1,6 @@
 #!/usr/bin/env python3
 """facts.py CRATE FN [WORD..]: after `rt goals CRATE`, in the repository's root.
+Of the older kit: it reads what `rt goals` wrote. Today `rt check --allow-holes` prints, for each open goal, the facts by their names.
 
 Prints, for each need of the function (whose name has one of the words), every path into c that leads to a fact, nearest
 first: what an answer in FN's Proof.antt may use.

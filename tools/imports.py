@@ -1,5 +1,6 @@
 #!/usr/bin/env python3
 """imports.py CRATE [FILE..]: rewrite the `use` lines of a crate's .antt files (default: all of specs/ and proofs/*.antt).
+Of the older kit: it reads its spelling (Rattle·model.specs). Today `rt check --fix-imports` writes `use` lines, and `rt tidy` drops some.
 
 Names of our own crates are found by an index of what each module exports; of a library's `use` line only the names that
 the file still mentions are kept. A name that the file defines itself is not imported. Run it in the repository's root.

@@ -1,5 +1,6 @@
 #!/usr/bin/env python3
 """lets.py CRATE FN: after `rt goals CRATE`, in the repository's root.
+Of the older kit: it reads what `rt goals` wrote. Today an answer names its facts (Answers.antt), and `rt check --start FN` writes the file.
 
 In FN's Proof.antt a line `@lets if1,decide,top` becomes the `let` lines that name these places, nearest first: `at-if1` is the record
 with the field `if1`, and `top` the function's start.

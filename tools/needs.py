@@ -1,5 +1,6 @@
 #!/usr/bin/env python3
 """needs.py CRATE [FN..]: after `rt goals CRATE`, in the repository's root.
+Of the older kit: it reads what `rt goals` wrote. Today `rt check` names the goals without an answer; `--generated DIR` lists all of them.
 
 Brings each Proof.antt of the crate (or of these functions) to the needs that its function has now, in their order: a need without an
 answer gets `search needs`, an answer without a need goes, the list behind `tie.spec` is made anew. A change of a number's type adds such

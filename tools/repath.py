@@ -1,5 +1,6 @@
 #!/usr/bin/env python3
 """repath.py OLD CRATE [FN..]: in the repository's root, after `rt goals CRATE` here and in OLD, a clone of the tree before the change.
+Of the older kit: it reads what `rt goals` wrote. Today facts are named and not counted (Answers.antt), so that no path moves.
 
 A statement that the code gains moves every path of an answer behind it: `c .before .before .limits` becomes `c .before .before .before
 .limits`. This writes the paths of each Proof.antt anew, so that each leads to the record with the same field as before. It prints the

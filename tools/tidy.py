@@ -4,10 +4,10 @@
     tools/tidy.py [CRATE..]      all crates without a word
     tools/tidy.py --check        says which files it would change
 
-Places: in an answer (proofs/FN/Proof.antt) a place that is named by a long row of `.before` is bound once, by the name of what is known
-there (`let at-settle = c .before .before .. in`, `top` for the start of the function). Comments that name a line and column of the
-source are dropped: they point at other lines as soon as the source moves.
-Uses: names that a file imports and does not use are dropped.
+Places: in an answer of a proof that walks the code by hand (proofs/FN/Proof.antt) a place that is named by a long row of `.before` is
+bound once, by the name of what is known there (`let at-settle = c.before.before.. in`, `top` for the start of the function). Comments
+that name a line and column of the source are dropped: they point at other lines as soon as the source moves.
+Uses: names that a file imports and does not use are dropped; `rt tidy` does that too, in one crate that proves.
 """
 import re
 import sys
@@ -15,12 +15,12 @@ from pathlib import Path
 
 ROOT = Path(__file__).resolve().parent.parent
 LONG = 3  # so many `.before` are worth a name
-PLACE = re.compile(r"(?<![\w·.-])(?P<var>[\w′-]+)(?P<row>(?:\s+\.before)+)(?:\s+\.(?P<next>«?[\w·-]+»?))?")
+PLACE = re.compile(r"(?<![\w.-])(?P<var>[\w'-]+)(?P<row>(?:\.before)+)(?:\.(?P<next>[\w-]+))?")
 # They look through every record in scope, up to a bound, and a bound place is one more.
 TACTICS = re.compile(r"\b(?:search|omega|simp|cc)\b")
-BOUND = re.compile(r"let (?:top|at-\S+) =")
+BOUND = re.compile(r"let (?:top|at[-_]\S+) =")
 SOURCE = re.compile(r"^-- src/\w+\.rt:\d+:\d+\n", re.M)
-ANSWER = re.compile(r"^(?P<head>[\w′-]+(?: [\w′κ-]+)+) =(?P<body>(?:[ \n].*)?)\Z", re.S)
+ANSWER = re.compile(r"^(?P<head>[\w'-]+(?: [\w'κ-]+)+) =(?P<body>(?:[ \n].*)?)\Z", re.S)
 
 
 # ---- places
@@ -43,9 +43,9 @@ def names_of(text, var):
     for depth in sorted(fields):
         name = "top" if "top" in fields[depth] else max(fields[depth], key=fields[depth].count)
         while name in names.values():
-            name += "′"
+            name += "'"
         names[depth] = name
-        lets.append(f"    let {name} = {before}{' .before' * (depth - last)} in\n")
+        lets.append(f"    let {name} = {before}{'.before' * (depth - last)} in\n")
         before, last = name, depth
     return names, lets
 
@@ -65,7 +65,7 @@ def bound(head, body):
         depth = place["row"].count(".before")
         if place["var"] != var or depth < LONG:
             return place.group(0)
-        return names[depth] + (f" .{place['next']}" if place["next"] else "")
+        return names[depth] + (f".{place['next']}" if place["next"] else "")
 
     return "\n" + "".join(lets) + "    " + PLACE.sub(put, text).strip() + ("\n" + rest if rest else "")
 
@@ -94,9 +94,9 @@ def is_used(name, words):
     name = name.split(" as ")[-1].strip()
     if name in words:
         return True
-    parts = [part for part in name.split("_") if part]
+    parts = [part for part in name.split("◌") if part]
     # an operator stands between its arguments, or within a longer sign
-    return "_" in name and any(part in word for part in parts for word in words if part == word or not word.isalnum())
+    return "◌" in name and any(part in word for part in parts for word in words if part == word or not word.isalnum())
 
 
 def without_unused(text):
@@ -123,7 +123,8 @@ def main():
     check = "--check" in sys.argv
     stale = False
     for path in sorted((ROOT / "crates").rglob("*")):
-        if path.suffix not in (".antt", ".rt") or (crates and path.relative_to(ROOT / "crates").parts[0] not in crates):
+        crate, part, *_ = [*path.relative_to(ROOT / "crates").parts, ""]
+        if path.suffix not in (".antt", ".rt") or part == "out" or (crates and crate not in crates):
             continue
         text = path.read_text()
         new = without_unused(with_places(text) if path.name == "Proof.antt" else text)

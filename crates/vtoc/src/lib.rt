@@ -1,5 +1,5 @@
-// The fourteen calls for hosts in C (include/vtoc.h). A slice is a pointer and a length; the result is 0 or the number of the
-// refusal. No call asks anything of its arguments. What each ensures is one equation of rules/specs/Promises.antt: the
+// The fourteen calls for hosts in C (include/vtoc.h), which crate vtoc_c exports. A slice is a pointer and a length; the result is 0 or
+// the number of the refusal. No call asks anything of its arguments. What each ensures is one equation of rules/specs/Promises.antt: the
 // result and every lent byte afterwards are those that `initialise`, `convert_date`, or `perform` with the call, gives for the lent bytes
 // and numbers before. It leaves nothing free. Where the result is not 0, these definitions leave every lent byte as it was.
 #![tactic(auto)]
