@@ -4,7 +4,6 @@ use Rattle.model.specs.Model.{tracks}
 use Rattle.dscb.specs.Forms.{geometry_of}
 use Rattle.call_lspace.specs.Totals.{Below}
 use Rattle.call_lspace.proofs.Laws.{all_small, six-numbers, six-small}
-use borrow.Author.Rules.{rules}
 use Rattle.call_lspace.proofs.space.Goals as goal
 
 -- the sums fit two bytes

@@ -1,7 +1,6 @@
 use Rattle.names.proofs.Laws.{tag-hit, tag-miss, tag-end}
 use native.Mathlib.Omega.{arith}
 use mathlib.Core.Path.{sym, ◌∙◌}
-use borrow.Author.Rules.{rules}
 use Rattle.names.proofs.has_tag.Goals as goal
 use Rattle.names.proofs.has_tag.Goals.{then-tags-i, else-tags-i}
 

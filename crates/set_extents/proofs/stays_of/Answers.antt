@@ -1,4 +1,3 @@
-use Prim.Native.Nat.{◌+◌}
 use native.Mathlib.Omega.{arith}
 use Rattle.model.proofs.Cylinders.{stay_all, stay-cut, stay_none}
 use Rattle.set_extents.proofs.stays_of.Goals as goal
