@@ -22,6 +22,8 @@ use Rattle.case_rows.specs.Check.{Row, attr, attr_n, begin, begin_sized, build, 
 UNFOLDED = """held gaps free used unused format0s choose extent_part format4 format5 format1 format3 records encode
 read_geometry read_extents read_label read_records read good_name limits good_label valid taken good_length settle grant tracks_kept
 to_stored to_packed expiry_from with_expiry rule good_lengths perform initialise convert_date printable listing""".replace("\n", " ")
+# the program prints names of definitions as they were spelled when it was written
+SPELLED = {word: re.sub("[A-Z]", lambda m: "_" + m[0].lower(), word) for word in "attrN beginSized convertSized dateToPacked dateToStored noDate okLabels".split()}
 LONG = 45  # rows: more would pass the checker's limit of steps, so the first calls of such a sequence become one row
 CHAINS = [20]  # the sequences are in three crates, so that each is computed within a minute
 REQUESTS = 31  # the first one of document 02
@@ -59,7 +61,8 @@ def imports(text):
 
 
 def main():
-    text = open(sys.argv[1] + "/Sample.antt").read()
+    text = open(sys.argv[1] + "/Sample.antt").read().replace(" , ", ", ")
+    text = re.sub("|".join(SPELLED), lambda m: SPELLED[m[0]], text)
     head, *blocks = re.split(r"\n\n(?=(?:-- [^\n]*\n)+abbrev pub sequence)", text)
     samples = {"cases": "", "chain_cases": "", "request_cases": ""}
     for block in blocks:

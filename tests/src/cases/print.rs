@@ -35,7 +35,7 @@ fn print_row(row: &Row) -> String {
             match call {
                 Call::Obtain { .. } => {
                     let labels = digest(&outcome.labels);
-                    format!("ok_labels {} {answer} {digest_after:#X} {labels:#X}", print_call(call))
+                    format!("okLabels {} {answer} {digest_after:#X} {labels:#X}", print_call(call))
                 }
                 _ => format!("ok {} {answer} {digest_after:#X}", print_call(call)),
             }
@@ -47,7 +47,7 @@ fn print_row(row: &Row) -> String {
         }
         Row::Sized { table, answer, call: Call::Initialise { c, h, d, s, v }, result, .. } => {
             assert_ne!(*result, 0, "the row says nothing of a table that is made");
-            format!("begin_sized {c} {h} {d} {s} {v} {table} {answer} {result}")
+            format!("beginSized {c} {h} {d} {s} {v} {table} {answer} {result}")
         }
         Row::Sized { table, answer, labels, call, result } => {
             format!("sized {table} {answer} {labels} {} {result}", print_call(call))
@@ -76,7 +76,7 @@ fn print_conversion(row: &Row) -> Option<String> {
         }
         Row::Made { outcome, .. } => format!("untold {call} {}", outcome.result),
         Row::Sized { table, answer, result, .. } => {
-            format!("convert_sized {table} {answer} {call} {result}")
+            format!("convertSized {table} {answer} {call} {result}")
         }
         _ => unreachable!("no table to damage"),
     })
@@ -100,13 +100,13 @@ fn print_call(call: &Call) -> String {
         Call::Obtain { name } => format!("(obtain {})", print_name(name)),
         Call::Lspace => "lspace".into(),
         Call::Preview(call) => format!("(preview {})", print_call(call)),
-        Call::DateToStored { packed } => format!("(date_to_stored {})", print_date(packed)),
-        Call::DateToPacked { stored } => format!("(date_to_packed {})", print_date(stored)),
+        Call::DateToStored { packed } => format!("(dateToStored {})", print_date(packed)),
+        Call::DateToPacked { stored } => format!("(dateToPacked {})", print_date(stored)),
     }
 }
 
 fn print_patches(patches: &[(usize, u8)]) -> String {
-    list(patches.iter().map(|(at, byte)| format!("({at}, {byte:#04X})")))
+    list(patches.iter().map(|(at, byte)| format!("({at} , {byte:#04X})")))
 }
 
 /// The name up to the blanks that pad it, and its length where that is not 44.
@@ -125,7 +125,7 @@ fn print_attributes(bytes: &[u8]) -> String {
     assert_eq!(bytes, attributes_of(bytes.len(), k), "attributes made by hand");
     match bytes.len() {
         52 => format!("(attr {k})"),
-        other => format!("(attr_n {other} {k})"),
+        other => format!("(attrN {other} {k})"),
     }
 }
 
@@ -133,7 +133,7 @@ fn print_attributes(bytes: &[u8]) -> String {
 fn print_date(bytes: &[u8]) -> String {
     let digits: String = bytes.iter().map(|byte| format!("{byte:02X}")).collect();
     match bytes.len() {
-        4 if *bytes == NO_DATE => "no_date".into(),
+        4 if *bytes == NO_DATE => "noDate".into(),
         0 => "(date 0 0x0)".into(),
         length => format!("(date {length} 0x{digits})"),
     }
