@@ -19,28 +19,28 @@ use Rattle.answers.specs.Bytes24.{piece_bytes}
 -- ---- one after the other
 
 module _ {A : Type 0} (f : A → List ℕ) where
-  flat-snoc : (xs : List A) (x : A) → flat f (xs ++ x ∷ []) ≡ flat f xs ++ f x
-  flat-snoc [] x = append-nil (f x)
-  flat-snoc (y ∷ ys) x = ap (λ (l : List ℕ). f y ++ l) (flat-snoc ys x) ∙ sym (append_assoc (f y) (flat f ys) (f x))
+  flat_snoc : (xs : List A) (x : A) → flat f (xs ++ x ∷ []) ≡ flat f xs ++ f x
+  flat_snoc [] x = append-nil (f x)
+  flat_snoc (y ∷ ys) x = ap (λ (l : List ℕ). f y ++ l) (flat_snoc ys x) ∙ sym (append_assoc (f y) (flat f ys) (f x))
 
   module _ (w : ℕ) (wide : (x : A) → length (f x) ≡ w) where
-    flat-length : (xs : List A) → length (flat f xs) ≡ w * length xs
-    flat-length [] = sym (mul-zero w)
-    flat-length (x ∷ xs) = length-append (f x) (flat f xs) ∙ ap₂ (λ (a b : ℕ). a + b) (wide x) (flat-length xs) ∙ omega (arith, mul-suc w (length xs))
+    flat_length : (xs : List A) → length (flat f xs) ≡ w * length xs
+    flat_length [] = sym (mul-zero w)
+    flat_length (x ∷ xs) = length-append (f x) (flat f xs) ∙ ap₂ (λ (a b : ℕ). a + b) (wide x) (flat_length xs) ∙ omega (arith, mul-suc w (length xs))
 
     -- THE NEXT ONE, behind `front` and i of them
-    flat-put : (n : ℕ) (front : List ℕ) (xs : List A) (d : A) (i at : ℕ) → i < length xs → at ≡ length front + w * i → at + w ≤ n
+    flat_put : (n : ℕ) (front : List ℕ) (xs : List A) (d : A) (i at : ℕ) → i < length xs → at ≡ length front + w * i → at + w ≤ n
         → put_at (fill n (front ++ flat f (take i xs))) at (f (get_or xs i d)) ≡ fill n (front ++ flat f (take (i + 1) xs))
-    flat-put n front xs d i at u e h =
+    flat_put n front xs d i at u e h =
         let a = length-take i xs in
         let m : length (take i xs) ≡ i = omega arith in
-        let l : length (front ++ flat f (take i xs)) ≡ at = length-append front (flat f (take i xs)) ∙ ap (λ (k : ℕ). length front + k) (flat-length (take i xs) ∙ ap (λ (k : ℕ). w * k) m) ∙ sym e in
+        let l : length (front ++ flat f (take i xs)) ≡ at = length-append front (flat f (take i xs)) ∙ ap (λ (k : ℕ). length front + k) (flat_length (take i xs) ∙ ap (λ (k : ℕ). w * k) m) ∙ sym e in
         let k = wide (get_or xs i d) in
         ap (λ (o : ℕ). put_at (fill n (front ++ flat f (take i xs))) o (f (get_or xs i d))) (sym l)
         ∙ put_fill n (front ++ flat f (take i xs)) (f (get_or xs i d)) (omega arith)
         ∙ ap (fill n)
         (append_assoc front (flat f (take i xs)) (f (get_or xs i d))
-        ∙ ap (λ (x : List ℕ). front ++ x) (sym (flat-snoc (take i xs) (get_or xs i d)) ∙ ap (flat f) (sym (take-suc xs i d u) ∙ ap (λ (k : ℕ). take k xs) (sym (add-one i)))))
+        ∙ ap (λ (x : List ℕ). front ++ x) (sym (flat_snoc (take i xs) (get_or xs i d)) ∙ ap (flat f) (sym (take-suc xs i d u) ∙ ap (λ (k : ℕ). take k xs) (sym (add-one i)))))
 
 -- ---- numbers
 
@@ -48,17 +48,17 @@ module _ {A : Type 0} (f : A → List ℕ) where
 unfoldable pub numbers_to : List ℕ → ℕ → List ℕ
 numbers_to ns i = fill 24 ([] ++ flat be2 (take i ns))
 
-pub numbers-none : (ns : List ℕ) → zeros 24 ≡ numbers_to ns 0
+pub numbers_none : (ns : List ℕ) → zeros 24 ≡ numbers_to ns 0
 unfolding numbers_to
-numbers-none ns = refl
+numbers_none ns = refl
 
-pub numbers-next : (ns : List ℕ) (i : ℕ) → i < length ns → length ns ≡ 6 → put_at (numbers_to ns i) (2 * i) (be2 (get_or ns i 0)) ≡ numbers_to ns (i + 1)
+pub numbers_next : (ns : List ℕ) (i : ℕ) → i < length ns → length ns ≡ 6 → put_at (numbers_to ns i) (2 * i) (be2 (get_or ns i 0)) ≡ numbers_to ns (i + 1)
 unfolding numbers_to
-numbers-next ns i u e = flat-put be2 2 (λ x. refl) 24 [] ns 0 i (2 * i) u (omega arith) (omega arith)
+numbers_next ns i u e = flat_put be2 2 (λ x. refl) 24 [] ns 0 i (2 * i) u (omega arith) (omega arith)
 
-pub numbers-all : (ns : List ℕ) (i : ℕ) → length ns ≡ 6 → 6 ≤ i → numbers_to ns i ≡ answer (numbers ns)
+pub numbers_all : (ns : List ℕ) (i : ℕ) → length ns ≡ 6 → 6 ≤ i → numbers_to ns i ≡ answer (numbers ns)
 unfolding numbers_to
-numbers-all ns i e h = ap (λ (x : List ℕ). fill 24 (flat be2 x)) (lib.Seq.take_all i ns (omega arith))
+numbers_all ns i e h = ap (λ (x : List ℕ). fill 24 (flat be2 x)) (lib.Seq.take_all i ns (omega arith))
 
 pub back_is : (n : ℕ) → put_at (zeros 24) 0 (be2 n) ≡ answer (given_back n)
 unfolding put_at
@@ -74,34 +74,34 @@ pub pieces_none : (t k : ℕ) (ps : List (List ℕ)) → lib.ListN.set (put_at (
 unfolding pieces_to put_at
 pieces_none t k ps = refl
 
-pub pieces-next : (t k : ℕ) (ps : List (List ℕ)) (i : ℕ) → i < length ps → length ps ≡ 5 → put_at (pieces_to t k ps i) (3 + 4 * i) (piece_bytes (get_or ps i [])) ≡ pieces_to t k ps (i + 1)
+pub pieces_next : (t k : ℕ) (ps : List (List ℕ)) (i : ℕ) → i < length ps → length ps ≡ 5 → put_at (pieces_to t k ps i) (3 + 4 * i) (piece_bytes (get_or ps i [])) ≡ pieces_to t k ps (i + 1)
 unfolding pieces_to
-pieces-next t k ps i u e = flat-put piece_bytes 4 (λ x. refl) 24 (t / 256 ∷ t % 256 ∷ k ∷ []) ps [] i (3 + 4 * i) u (omega arith) (omega arith)
+pieces_next t k ps i u e = flat_put piece_bytes 4 (λ x. refl) 24 (t / 256 ∷ t % 256 ∷ k ∷ []) ps [] i (3 + 4 * i) u (omega arith) (omega arith)
 
 flat_rows : (ps : List Run) → flat piece_bytes (map row ps) ≡ flat (λ p. be2 p.start ++ be2 p.count) ps
 flat_rows [] = refl
 flat_rows (p ∷ ps) = ap (λ (x : List ℕ). be2 p.start ++ be2 p.count ++ x) (flat_rows ps)
 
-pub pieces-all : (t k : ℕ) (gs : List (List ℕ)) (i : ℕ) → i ≤ k → k ≤ i → (ps : List Run) → length ps ≡ k → total ps ≡ t → take k gs ≡ map row ps → pieces_to t k gs i ≡ answer (granted ps)
+pub pieces_all : (t k : ℕ) (gs : List (List ℕ)) (i : ℕ) → i ≤ k → k ≤ i → (ps : List Run) → length ps ≡ k → total ps ≡ t → take k gs ≡ map row ps → pieces_to t k gs i ≡ answer (granted ps)
 unfolding pieces_to
-pieces-all t k gs i u w ps l e h =
+pieces_all t k gs i u w ps l e h =
     let q : i ≡ k = omega arith in
     let r : flat piece_bytes (take i gs) ≡ flat (λ p. be2 p.start ++ be2 p.count) ps = ap (λ (x : ℕ). flat piece_bytes (take x gs)) q ∙ ap (flat piece_bytes) h ∙ flat_rows ps in
     rw (r, ← e, ← l)
 
 -- ---- some bytes first
 
-zeros-fill : (n : ℕ) → zeros n ≡ fill n []
-zeros-fill zero = refl
-zeros-fill (suc n) = ap (λ (l : List ℕ). 0 ∷ l) (zeros-fill n)
+zeros_fill : (n : ℕ) → zeros n ≡ fill n []
+zeros_fill zero = refl
+zeros_fill (suc n) = ap (λ (l : List ℕ). 0 ∷ l) (zeros_fill n)
 
 over_zeros : (n : ℕ) (bs : List ℕ) → length bs ≤ n → take (length bs) bs ++ drop (length bs) (zeros n) ≡ fill n bs
-over_zeros n [] h = zeros-fill n
+over_zeros n [] h = zeros_fill n
 over_zeros zero (b ∷ bs) h = absurd (omega arith)
 over_zeros (suc n) (b ∷ bs) h = ap (λ (l : List ℕ). b ∷ l) (over_zeros n bs (omega arith))
 
 -- o is 24 zeros first, and then has these bytes on them
-pub first-is : (bs o o' o'' : List ℕ) → length bs ≤ 24 → length o ≡ 24 → o' ≡ take 24 (zeros 24) ++ drop 24 o
+pub first_is : (bs o o' o'' : List ℕ) → length bs ≤ 24 → length o ≡ 24 → o' ≡ take 24 (zeros 24) ++ drop 24 o
     → o'' ≡ take (length bs) bs ++ drop (length bs) o' → o'' ≡ answer (date_bytes bs)
-first-is bs o o' o'' h l e q =
+first_is bs o o' o'' h l e q =
     q ∙ ap (λ (x : List ℕ). take (length bs) bs ++ drop (length bs) x) (e ∙ copied (zeros 24) o l) ∙ over_zeros 24 bs h

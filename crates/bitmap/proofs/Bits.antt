@@ -14,40 +14,40 @@ use Rattle.model.specs.Basics.{bit}
 use Rattle.bitmap.specs.Map.{bit_at}
 use Rattle.bitmap.specs.Steps.{block}
 
-pub le-or-lt : (a b : ℕ) → (a ≤ b) ⊎ (b < a)
-le-or-lt a b = elim (dec_le a b) [ yes h ↦ inl h | no h ↦ inr (lt_of_not-le h) ]
+pub le_or_lt : (a b : ℕ) → (a ≤ b) ⊎ (b < a)
+le_or_lt a b = elim (dec_le a b) [ yes h ↦ inl h | no h ↦ inr (lt_of_not-le h) ]
 
 -- ---- the operations
 
 pub zero_bit : (j : ℕ) → bit_at 0 j ≡ 0
 zero_bit j = ap (λ (x : ℕ). x % 2) (zero-div (2 ^ j))
 
-pub and-bit : (a b j : ℕ) → bit_at (bit_and a b) j ≡ min (bit_at a j) (bit_at b j)
-and-bit a b j = ap (λ (x : ℕ). x % 2) (and_shr a b j) ∙ omega (arith, and_step (a / 2 ^ j) (b / 2 ^ j))
+pub and_bit : (a b j : ℕ) → bit_at (bit_and a b) j ≡ min (bit_at a j) (bit_at b j)
+and_bit a b j = ap (λ (x : ℕ). x % 2) (and_shr a b j) ∙ omega (arith, and_step (a / 2 ^ j) (b / 2 ^ j))
 
-pub or-bit : (a b j : ℕ) → bit_at (bit_or a b) j ≡ max (bit_at a j) (bit_at b j)
-or-bit a b j = ap (λ (x : ℕ). x % 2) (or_shr a b j) ∙ omega (arith, or_step (a / 2 ^ j) (b / 2 ^ j))
+pub or_bit : (a b j : ℕ) → bit_at (bit_or a b) j ≡ max (bit_at a j) (bit_at b j)
+or_bit a b j = ap (λ (x : ℕ). x % 2) (or_shr a b j) ∙ omega (arith, or_step (a / 2 ^ j) (b / 2 ^ j))
 
 -- two digits that differ, in sums, so that omega can use it
-differ-sum : (x y : ℕ) → x < 2 → y < 2 → differ x y + min x y * 2 ≡ x + y
-differ-sum zero zero u v = refl
-differ-sum zero (suc zero) u v = refl
-differ-sum zero (suc (suc y)) u v = absurd (omega arith)
-differ-sum (suc zero) zero u v = refl
-differ-sum (suc zero) (suc zero) u v = refl
-differ-sum (suc zero) (suc (suc y)) u v = absurd (omega arith)
-differ-sum (suc (suc x)) y u v = absurd (omega arith)
+differ_sum : (x y : ℕ) → x < 2 → y < 2 → differ x y + min x y * 2 ≡ x + y
+differ_sum zero zero u v = refl
+differ_sum zero (suc zero) u v = refl
+differ_sum zero (suc (suc y)) u v = absurd (omega arith)
+differ_sum (suc zero) zero u v = refl
+differ_sum (suc zero) (suc zero) u v = refl
+differ_sum (suc zero) (suc (suc y)) u v = absurd (omega arith)
+differ_sum (suc (suc x)) y u v = absurd (omega arith)
 
-pub xor-bit : (a b j : ℕ) → bit_at (bit_xor a b) j + min (bit_at a j) (bit_at b j) * 2 ≡ bit_at a j + bit_at b j
-xor-bit a b j =
+pub xor_bit : (a b j : ℕ) → bit_at (bit_xor a b) j + min (bit_at a j) (bit_at b j) * 2 ≡ bit_at a j + bit_at b j
+xor_bit a b j =
     let e : bit_at (bit_xor a b) j ≡ bit_xor (a / 2 ^ j) (b / 2 ^ j) % 2 = ap (λ (x : ℕ). x % 2) (xor_shr a b j) in
-    omega (arith, xor_step (a / 2 ^ j) (b / 2 ^ j), differ-sum (a / 2 ^ j % 2) (b / 2 ^ j % 2) (omega arith) (omega arith))
+    omega (arith, xor_step (a / 2 ^ j) (b / 2 ^ j), differ_sum (a / 2 ^ j % 2) (b / 2 ^ j % 2) (omega arith) (omega arith))
 
 -- ---- shifts
 
 -- a number shifted up has clear bits below
-shl-low : (x s j : ℕ) → j < s → bit_at (x * 2 ^ s) j ≡ 0
-shl-low x s j h =
+shl_low : (x s j : ℕ) → j < s → bit_at (x * 2 ^ s) j ≡ 0
+shl_low x s j h =
     let d = s - suc j in
     let e : s ≡ suc d + j = omega arith in
     ap (λ (k : ℕ). bit_at (x * 2 ^ k) j) e
@@ -57,32 +57,32 @@ shl-low x s j h =
     ∙ shifted_even x d
 
 -- and its own bits above those
-shl-bit : (x s j : ℕ) → bit_at (x * 2 ^ s) (s + j) ≡ bit_at x j
-shl-bit x s j = ap (λ (y : ℕ). y % 2) (sym (shr-shr (x * 2 ^ s) s j)) ∙ ap (λ (y : ℕ). bit_at y j) (shl-shr x s)
+shl_bit : (x s j : ℕ) → bit_at (x * 2 ^ s) (s + j) ≡ bit_at x j
+shl_bit x s j = ap (λ (y : ℕ). y % 2) (sym (shr-shr (x * 2 ^ s) s j)) ∙ ap (λ (y : ℕ). bit_at y j) (shl-shr x s)
 
 -- the lower bits of a number that is cut to a word
-word-bit : (x j : ℕ) → j < 64 → bit_at (x % 2 ^ 64) j ≡ bit_at x j
-word-bit x j h =
+word_bit : (x j : ℕ) → j < 64 → bit_at (x % 2 ^ 64) j ≡ bit_at x j
+word_bit x j h =
     let d = 63 - j in
     let e : 64 ≡ d + 1 + j = omega arith in
     ap (λ (k : ℕ). bit_at (x % 2 ^ k) j) e ∙ ap (λ (y : ℕ). y % 2) (field x (d + 1) j) ∙ mod-mod-pow (x / 2 ^ j) d 1
 
 -- a number shifted down has its own bits, lower
-pub shr-bit : (x s j : ℕ) → bit_at (x / 2 ^ s) j ≡ bit_at x (s + j)
-shr-bit x s j = ap (λ (y : ℕ). y % 2) (shr-shr x s j)
+pub shr_bit : (x s j : ℕ) → bit_at (x / 2 ^ s) j ≡ bit_at x (s + j)
+shr_bit x s j = ap (λ (y : ℕ). y % 2) (shr-shr x s j)
 
 -- a word shifted up by s: clear bits below, its own bits from bit s on
-pub up-low : (x s j : ℕ) → s < 64 → j < s → bit_at (x * 2 ^ s % 2 ^ 64) j ≡ 0
-up-low x s j g h = word-bit (x * 2 ^ s) j (omega arith) ∙ shl-low x s j h
+pub up_low : (x s j : ℕ) → s < 64 → j < s → bit_at (x * 2 ^ s % 2 ^ 64) j ≡ 0
+up_low x s j g h = word_bit (x * 2 ^ s) j (omega arith) ∙ shl_low x s j h
 
-pub up-bit : (x s j : ℕ) → s + j < 64 → bit_at (x * 2 ^ s % 2 ^ 64) (s + j) ≡ bit_at x j
-up-bit x s j h = word-bit (x * 2 ^ s) (s + j) h ∙ shl-bit x s j
+pub up_bit : (x s j : ℕ) → s + j < 64 → bit_at (x * 2 ^ s % 2 ^ 64) (s + j) ≡ bit_at x j
+up_bit x s j h = word_bit (x * 2 ^ s) (s + j) h ∙ shl_bit x s j
 
 -- ---- a block of n ones from bit lo on: its bits below, inside, above
 
-pub block-low : (lo n j : ℕ) → j < lo → bit_at (block lo n) j ≡ 0
+pub block_low : (lo n j : ℕ) → j < lo → bit_at (block lo n) j ≡ 0
 unfolding block
-block-low lo n j h = shl-low (2 ^ n - 1) lo j h
+block_low lo n j h = shl_low (2 ^ n - 1) lo j h
 
 odd : (q : ℕ) → (2 ^ suc q - 1) % 2 ≡ 1
 odd q = omega (arith, pow_pos q, pow-suc 2 q)
@@ -102,20 +102,20 @@ block_in lo n j h k =
     ∙ ap (λ (x : ℕ). x % 2) (high (2 ^ suc q - 1) p (ones_lt p))
     ∙ odd q
 
-pub block-high : (lo n j : ℕ) → lo + n ≤ j → bit_at (block lo n) j ≡ 0
+pub block_high : (lo n j : ℕ) → lo + n ≤ j → bit_at (block lo n) j ≡ 0
 unfolding block
-block-high lo n j h =
+block_high lo n j h =
     let e : n + lo ≤ j = omega arith in
     ap (λ (x : ℕ). x % 2) (div-eq_of_lt (lt_of_lt_of_le (shl_lt n lo (ones_lt n)) (pow_mono e)))
 
-pub block-lt : (lo n : ℕ) → lo + n ≤ 64 → block lo n < 2 ^ 64
+pub block_lt : (lo n : ℕ) → lo + n ≤ 64 → block lo n < 2 ^ 64
 unfolding block
-block-lt lo n h = lt_of_lt_of_le (shl_lt n lo (ones_lt n)) (pow_mono {i = n + lo} {j = 64} (omega arith))
+block_lt lo n h = lt_of_lt_of_le (shl_lt n lo (ones_lt n)) (pow_mono {i = n + lo} {j = 64} (omega arith))
 
 -- a word of ones, shifted down and up again, is a block
-pub ones-block : (lo n : ℕ) → lo + n ≤ 64 → (0xffff_ffff_ffff_ffff / 2 ^ (64 - n) * 2 ^ lo) % 2 ^ 64 ≡ block lo n
+pub ones_block : (lo n : ℕ) → lo + n ≤ 64 → (0xffff_ffff_ffff_ffff / 2 ^ (64 - n) * 2 ^ lo) % 2 ^ 64 ≡ block lo n
 unfolding block
-ones-block lo n h =
+ones_block lo n h =
     let k = 64 - n in
     let s : 64 ≡ n + k = omega arith in
     let e : 0xffff_ffff_ffff_ffff ≡ 2 ^ (n + k) - 1 = ap (λ (i : ℕ). 2 ^ i - 1) s in
@@ -138,12 +138,12 @@ two_cases x = go (x % 2) refl
     go (suc (suc r)) e = absurd (omega arith)
 
 -- a number that is not 0 has a bit that is set
-some-bit : (k y : ℕ) → y < 2 ^ k → (y ≡ 0 → ⊥) → (j : ℕ) × (j < k) × (bit_at y j ≡ 1)
-some-bit zero y h n = absurd (n (omega arith))
-some-bit (suc k) y h n =
+some_bit : (k y : ℕ) → y < 2 ^ k → (y ≡ 0 → ⊥) → (j : ℕ) × (j < k) × (bit_at y j ≡ 1)
+some_bit zero y h n = absurd (n (omega arith))
+some_bit (suc k) y h n =
     ⊎_elim
     (λ e.
-    let r : (j : ℕ) × (j < k) × (bit_at (y / 2) j ≡ 1) = some-bit k (y / 2) (omega (arith, pow-suc 2 k)) (λ z. n (omega arith)) in
+    let r : (j : ℕ) × (j < k) × (bit_at (y / 2) j ≡ 1) = some_bit k (y / 2) (omega (arith, pow-suc 2 k)) (λ z. n (omega arith)) in
     (1 + r.0, omega (arith, r.1), ap (λ (x : ℕ). x % 2) (sym (shr-shr y 1 r.0)) ∙ r.2))
     (λ e. (0, omega arith, ap (λ (x : ℕ). x % 2) (div-one y) ∙ e))
     (two_cases y)
@@ -156,9 +156,9 @@ lacks x m f n =
     let l = and_le_l (bit_and x m) m in
     let l' = and_le_r (bit_and x m) m in
     let d : y ≡ 0 → ⊥ = λ z. n (omega arith) in
-    let r = some-bit 64 y (xor_lt 64 (bit_and x m) m (lt_of_le_of_lt (and_le_r x m) f) f) d in
-    let b = xor-bit (bit_and x m) m r.0 in
-    let a = and-bit x m r.0 in
+    let r = some_bit 64 y (xor_lt 64 (bit_and x m) m (lt_of_le_of_lt (and_le_r x m) f) f) d in
+    let b = xor_bit (bit_and x m) m r.0 in
+    let a = and_bit x m r.0 in
     let o = r.2 in
     (r.0, r.1, omega arith, omega arith)
 
@@ -168,72 +168,72 @@ above_word x j h k = ap (λ (y : ℕ). y % 2) (div-eq_of_lt (lt_of_lt_of_le h (p
 
 -- ---- the complement
 
-pub not-bit : (x j : ℕ) → j < 64 → bit_at (bit_xor x 0xffff_ffff_ffff_ffff) j ≡ 1 - bit_at x j
-not-bit x j h = omega (arith, xor-bit x 0xffff_ffff_ffff_ffff j, all_ones j h)
+pub not_bit : (x j : ℕ) → j < 64 → bit_at (bit_xor x 0xffff_ffff_ffff_ffff) j ≡ 1 - bit_at x j
+not_bit x j h = omega (arith, xor_bit x 0xffff_ffff_ffff_ffff j, all_ones j h)
 
 -- ---- trailing zeros, bit by bit from the lowest
 
-half-bit : (y i : ℕ) → bit_at (y / 2) i ≡ bit_at y (suc i)
-half-bit y i = let e : 1 + i ≡ suc i = omega arith in shr-bit y 1 i ∙ ap (bit_at y) e
+half_bit : (y i : ℕ) → bit_at (y / 2) i ≡ bit_at y (suc i)
+half_bit y i = let e : 1 + i ≡ suc i = omega arith in shr_bit y 1 i ∙ ap (bit_at y) e
 
-lowest-bit : (y : ℕ) → bit_at y 0 ≡ y % 2
-lowest-bit y = ap (λ (x : ℕ). x % 2) (div-one y)
+lowest_bit : (y : ℕ) → bit_at y 0 ≡ y % 2
+lowest_bit y = ap (λ (x : ℕ). x % 2) (div-one y)
 
 -- below the first bit that is set all are clear
-pub trailing-zero : (k y i : ℕ) → i < count_trailing_zeros k y → bit_at y i ≡ 0
+pub trailing_zero : (k y i : ℕ) → i < count_trailing_zeros k y → bit_at y i ≡ 0
 unfolding count_trailing_zeros
-trailing-zero zero y i h = absurd (omega arith)
-trailing-zero (suc k) y i h = go (y % 2) (count_trailing_zeros k (y / 2)) i refl (trailing-zero k (y / 2)) h
+trailing_zero zero y i h = absurd (omega arith)
+trailing_zero (suc k) y i h = go (y % 2) (count_trailing_zeros k (y / 2)) i refl (trailing_zero k (y / 2)) h
   where
     go : (d t i : ℕ) → y % 2 ≡ d → ((j : ℕ) → j < t → bit_at (y / 2) j ≡ 0) → i < under d t → bit_at y i ≡ 0
-    go zero t zero e f h = lowest-bit y ∙ e
-    go zero t (suc i) e f h = sym (half-bit y i) ∙ f i (omega arith)
+    go zero t zero e f h = lowest_bit y ∙ e
+    go zero t (suc i) e f h = sym (half_bit y i) ∙ f i (omega arith)
     go (suc d) t i e f h = absurd (omega arith)
 
-pub trailing-one : (k y : ℕ) → count_trailing_zeros k y < k → bit_at y (count_trailing_zeros k y) ≡ 1
+pub trailing_one : (k y : ℕ) → count_trailing_zeros k y < k → bit_at y (count_trailing_zeros k y) ≡ 1
 unfolding count_trailing_zeros
-trailing-one zero y h = absurd (omega arith)
-trailing-one (suc k) y h = go (y % 2) (count_trailing_zeros k (y / 2)) refl (trailing-one k (y / 2)) h
+trailing_one zero y h = absurd (omega arith)
+trailing_one (suc k) y h = go (y % 2) (count_trailing_zeros k (y / 2)) refl (trailing_one k (y / 2)) h
   where
     go : (d t : ℕ) → y % 2 ≡ d → (t < k → bit_at (y / 2) t ≡ 1) → under d t < suc k → bit_at y (under d t) ≡ 1
-    go zero t e f h = sym (half-bit y t) ∙ f (omega arith)
-    go (suc d) t e f h = lowest-bit y ∙ omega arith
+    go zero t e f h = sym (half_bit y t) ∙ f (omega arith)
+    go (suc d) t e f h = lowest_bit y ∙ omega arith
 
 -- a word that is not 0 has a first bit that is set
-pub trailing-small : (k y : ℕ) → y < 2 ^ k → (y ≡ 0 → ⊥) → count_trailing_zeros k y < k
-trailing-small k y h n =
-    let r = some-bit k y h n in
+pub trailing_small : (k y : ℕ) → y < 2 ^ k → (y ≡ 0 → ⊥) → count_trailing_zeros k y < k
+trailing_small k y h n =
+    let r = some_bit k y h n in
     let u = r.1 in
     let o = r.2 in
-    ⊎_elim (λ g. absurd (omega (arith, trailing-zero k y r.0 (omega arith)))) (λ g. g) (le-or-lt k (count_trailing_zeros k y))
+    ⊎_elim (λ g. absurd (omega (arith, trailing_zero k y r.0 (omega arith)))) (λ g. g) (le_or_lt k (count_trailing_zeros k y))
 
 -- ---- one less
 
 -- where a is the first bit that is set in x, x - 1 has ones below it, a zero there, and the bits of x above
 pub one_less : (a y x : ℕ) → y + 1 ≡ x → ((i : ℕ) → i < a → bit_at x i ≡ 0) → bit_at x a ≡ 1 → (j : ℕ)
     → (j < a → bit_at y j ≡ 1) × (j ≡ a → bit_at y j ≡ 0) × (a < j → bit_at y j ≡ bit_at x j)
-one_less zero y x e f g zero = (λ h. absurd (omega arith), λ h. omega (arith, lowest-bit x, lowest-bit y), λ h. absurd (omega arith))
+one_less zero y x e f g zero = (λ h. absurd (omega arith), λ h. omega (arith, lowest_bit x, lowest_bit y), λ h. absurd (omega arith))
 one_less zero y x e f g (suc j) =
-    let q : y / 2 ≡ x / 2 = omega (arith, lowest-bit x) in
-    (λ h. absurd (omega arith), λ h. absurd (omega arith), λ h. sym (half-bit y j) ∙ ap (λ (u : ℕ). bit_at u j) q ∙ half-bit x j)
+    let q : y / 2 ≡ x / 2 = omega (arith, lowest_bit x) in
+    (λ h. absurd (omega arith), λ h. absurd (omega arith), λ h. sym (half_bit y j) ∙ ap (λ (u : ℕ). bit_at u j) q ∙ half_bit x j)
 one_less (suc a) y x e f g zero =
     let o = f 0 (omega arith) in
-    (λ h. omega (arith, lowest-bit x, lowest-bit y), λ h. absurd (omega arith), λ h. absurd (omega arith))
+    (λ h. omega (arith, lowest_bit x, lowest_bit y), λ h. absurd (omega arith), λ h. absurd (omega arith))
 one_less (suc a) y x e f g (suc j) =
     let o = f 0 (omega arith) in
-    let q : y / 2 + 1 ≡ x / 2 = omega (arith, lowest-bit x) in
-    let r = one_less a (y / 2) (x / 2) q (λ i h. half-bit x i ∙ f (suc i) (omega arith)) (half-bit x a ∙ g) j in
-    let u = half-bit y j in
-    let v = half-bit x j in
+    let q : y / 2 + 1 ≡ x / 2 = omega (arith, lowest_bit x) in
+    let r = one_less a (y / 2) (x / 2) q (λ i h. half_bit x i ∙ f (suc i) (omega arith)) (half_bit x a ∙ g) j in
+    let u = half_bit y j in
+    let v = half_bit x j in
     (λ h. omega (arith, r.0 (omega arith)), λ h. omega (arith, r.1 (omega arith)), λ h. omega (arith, r.2 (omega arith)))
 
 -- ---- words compared by what is left of them
 
-pub or-none : (a b : ℕ) → bit_or a b ≡ 0 → (a ≡ 0) × (b ≡ 0)
-or-none a b z = let s = or_add_and a b in let u = and_le_l a b in let v = and_le_r a b in (omega arith, omega arith)
+pub or_none_lem : (a b : ℕ) → bit_or a b ≡ 0 → (a ≡ 0) × (b ≡ 0)
+or_none_lem a b z = let s = or_add_and a b in let u = and_le_l a b in let v = and_le_r a b in (omega arith, omega arith)
 
-pub xor-none : (a b : ℕ) → bit_xor a b ≡ 0 → a ≡ b
-xor-none a b z = omega (arith, xor_add_and a b, and_le_l a b, and_le_r a b)
+pub xor_none : (a b : ℕ) → bit_xor a b ≡ 0 → a ≡ b
+xor_none a b z = omega (arith, xor_add_and a b, and_le_l a b, and_le_r a b)
 
 -- the highest bit of a word
 pub top_bit : (x : ℕ) → x < 2 ^ 64 → bit_at x 63 ≡ 1 - bit (ltb x 0x8000_0000_0000_0000)
@@ -241,4 +241,4 @@ top_bit x h =
     ⊎_elim
     (λ g. let e = ap bit (le-ltb x 0x8000_0000_0000_0000 g) in omega arith)
     (λ g. let e = ap bit (lt-ltb x 0x8000_0000_0000_0000 g) in omega arith)
-    (le-or-lt 0x8000_0000_0000_0000 x)
+    (le_or_lt 0x8000_0000_0000_0000 x)

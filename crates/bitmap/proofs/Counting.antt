@@ -13,12 +13,12 @@ use lib.Pow.{low, mod-pow-add, pow_pos, shl-shr}
 use lib.Count.{ones, ones_cat, ones-le, ones_step}
 use Rattle.model.specs.Basics.{bit}
 use Rattle.model.specs.Model.{Run, Separate, join, join_if, run, runs, touch}
-use Rattle.model.proofs.Runs.{runs-separate}
+use Rattle.model.proofs.Runs.{runs_separate}
 use Rattle.bitmap.specs.Map.{bit_at, free_bit, free_from, is_free}
 use Rattle.bitmap.specs.Steps.{WordsAlike, Counts, Starts, bit_before, flipped, runs_below}
-use Rattle.bitmap.proofs.Bits.{above_word, and-bit, not-bit, or-bit, shr-bit, top_bit, up-bit, up-low}
-use Rattle.bitmap.proofs.Walk.{free-from-zero}
-use Rattle.bitmap.proofs.Words.{in-word, plain-tracks}
+use Rattle.bitmap.proofs.Bits.{above_word, and_bit, not_bit, or_bit, shr_bit, top_bit, up_bit, up_low}
+use Rattle.bitmap.proofs.Walk.{free_from_zero}
+use Rattle.bitmap.proofs.Words.{in_word, plain_tracks}
 
 -- ---- joining a track to the runs behind it
 
@@ -52,77 +52,77 @@ at_most false a rs = omega arith
 -- ---- one track more at either end
 
 module _ (p : ℕ → Bool) where
-  pub runs-length : (a n : ℕ) → length (runs p a n) ≤ n
-  runs-length a zero = le_refl 0
-  runs-length a (suc n) = let e = runs-length (suc a) n in let k = at_most (p a) a (runs p (suc a) n) in omega arith
+  pub runs_length : (a n : ℕ) → length (runs p a n) ≤ n
+  runs_length a zero = le_refl 0
+  runs_length a (suc n) = let e = runs_length (suc a) n in let k = at_most (p a) a (runs p (suc a) n) in omega arith
 
-  first-track : (a n : ℕ) → length (runs p a (suc (suc n))) + min (bit (p a)) (bit (p (suc a))) ≡ length (runs p (suc a) (suc n)) + bit (p a)
-  first-track a n = two (p a) (p (suc a)) a (suc (suc a) + n) (runs p (suc (suc a)) n) (runs-separate p (suc (suc a)) n)
+  first_track : (a n : ℕ) → length (runs p a (suc (suc n))) + min (bit (p a)) (bit (p (suc a))) ≡ length (runs p (suc a) (suc n)) + bit (p a)
+  first_track a n = two (p a) (p (suc a)) a (suc (suc a) + n) (runs p (suc (suc a)) n) (runs_separate p (suc (suc a)) n)
 
-  pub one-track : (a : ℕ) → length (runs p a 1) ≡ bit (p a)
-  one-track a = go (p a)
+  pub one_track : (a : ℕ) → length (runs p a 1) ≡ bit (p a)
+  one_track a = go (p a)
     where
       go : (b : Bool) → length (join_if b a []) ≡ bit b
       go true = refl
       go false = refl
 
-  last-track : (n a t : ℕ) → a + n ≡ t → length (runs p a (suc (suc n))) + min (bit (p t)) (bit (p (suc t))) ≡ length (runs p a (suc n)) + bit (p (suc t))
-  last-track zero a t e =
+  last_track : (n a t : ℕ) → a + n ≡ t → length (runs p a (suc (suc n))) + min (bit (p t)) (bit (p (suc t))) ≡ length (runs p a (suc n)) + bit (p (suc t))
+  last_track zero a t e =
       let q : a ≡ t = omega arith in
       subst (λ (x : ℕ). length (runs p a 2) + min (bit (p x)) (bit (p (suc x))) ≡ length (runs p a 1) + bit (p (suc x))) q
-      (omega (arith, first-track a 0, one-track a, one-track (suc a)))
-  last-track (suc n) a t e =
-      let i = last-track n (suc a) t (omega arith) in
-      omega (arith, first-track a (suc n), first-track a n)
+      (omega (arith, first_track a 0, one_track a, one_track (suc a)))
+  last_track (suc n) a t e =
+      let i = last_track n (suc a) t (omega arith) in
+      omega (arith, first_track a (suc n), first_track a n)
 
 -- ---- the map's bits
 
-pub free-le : (m : List ℕ) (t : ℕ) → free_bit m t ≤ 1
+pub free_le : (m : List ℕ) (t : ℕ) → free_bit m t ≤ 1
 unfolding free_bit
-free-le m t = omega arith
+free_le m t = omega arith
 
-pub bit-of : (m : List ℕ) (t : ℕ) → bit (is_free m t) ≡ free_bit m t
+pub bit_of : (m : List ℕ) (t : ℕ) → bit (is_free m t) ≡ free_bit m t
 unfolding is_free
-bit-of m t = go (free_bit m t) (free-le m t)
+bit_of m t = go (free_bit m t) (free_le m t)
   where
     go : (x : ℕ) → x ≤ 1 → bit (eqb x 1) ≡ x
     go zero h = ap bit (ne_eqb 0 1 (λ e. absurd (omega arith)))
     go (suc zero) h = ap bit (eq-eqb 1 1 refl)
     go (suc (suc x)) h = absurd (omega arith)
 
-count-track : (m : List ℕ) (t : ℕ) → length (runs (is_free m) 0 (suc t)) ≡ length (runs (is_free m) 0 t) + min (free_bit m t) (1 - bit_before m t)
-count-track m zero = omega (arith, one-track (is_free m) 0, bit-of m 0, free-le m 0)
-count-track m (suc t) = omega (arith, last-track (is_free m) t 0 t (omega arith), bit-of m t, bit-of m (suc t), free-le m t, free-le m (suc t))
+count_track : (m : List ℕ) (t : ℕ) → length (runs (is_free m) 0 (suc t)) ≡ length (runs (is_free m) 0 t) + min (free_bit m t) (1 - bit_before m t)
+count_track m zero = omega (arith, one_track (is_free m) 0, bit_of m 0, free_le m 0)
+count_track m (suc t) = omega (arith, last_track (is_free m) t 0 t (omega arith), bit_of m t, bit_of m (suc t), free_le m t, free_le m (suc t))
 
 -- ---- a word
 
-pub starts-law : (y x : ℕ) → y < 2 ^ 64 → x < 2 ^ 64 → Starts y x (bit_and x (bit_xor (bit_or (x * 2 % 2 ^ 64) (y / 2 ^ 63)) 0xffff_ffff_ffff_ffff))
-starts-law y x g h =
+pub starts_law : (y x : ℕ) → y < 2 ^ 64 → x < 2 ^ 64 → Starts y x (bit_and x (bit_xor (bit_or (x * 2 % 2 ^ 64) (y / 2 ^ 63)) 0xffff_ffff_ffff_ffff))
+starts_law y x g h =
     let u = x * 2 % 2 ^ 64 in
     let z = y / 2 ^ 63 in
     let b = bit_or u z in
     record {
       small = lt_of_le_of_lt (and_le_l x (bit_xor b 0xffff_ffff_ffff_ffff)) h;
-      first = omega (arith, and-bit x (bit_xor b 0xffff_ffff_ffff_ffff) 0, not-bit b 0 (omega arith), or-bit u z 0, up-low x 1 0 (omega arith) (omega arith), shr-bit y 63 0);
+      first = omega (arith, and_bit x (bit_xor b 0xffff_ffff_ffff_ffff) 0, not_bit b 0 (omega arith), or_bit u z 0, up_low x 1 0 (omega arith) (omega arith), shr_bit y 63 0);
       rest = λ j k.
           let e : 1 + j ≡ suc j = omega arith in
-          let v : bit_at u (suc j) ≡ bit_at x j = ap (bit_at u) (sym e) ∙ up-bit x 1 j (omega arith) in
-          let l : bit_at z (suc j) ≡ 0 = shr-bit y 63 (suc j) ∙ above_word y (63 + suc j) g (omega arith) in
-          omega (arith, and-bit x (bit_xor b 0xffff_ffff_ffff_ffff) (suc j), not-bit b (suc j) (omega arith), or-bit u z (suc j));
+          let v : bit_at u (suc j) ≡ bit_at x j = ap (bit_at u) (sym e) ∙ up_bit x 1 j (omega arith) in
+          let l : bit_at z (suc j) ≡ 0 = shr_bit y 63 (suc j) ∙ above_word y (63 + suc j) g (omega arith) in
+          omega (arith, and_bit x (bit_xor b 0xffff_ffff_ffff_ffff) (suc j), not_bit b (suc j) (omega arith), or_bit u z (suc j));
     }
 
-ones-digit : (x : ℕ) → ones (x % 2) ≡ x % 2
+ones_digit : (x : ℕ) → ones (x % 2) ≡ x % 2
 unfolding ones
-ones-digit x =
+ones_digit x =
     let e : x % 2 / 2 ≡ 0 = omega arith in
     let o : ones (x % 2 / 2) ≡ 0 = ap ones e in
     omega (arith, ones_step (x % 2))
 
 -- the ones among the lowest bits, one bit more
-ones-more : (r k : ℕ) → ones (r % 2 ^ suc k) ≡ ones (r % 2 ^ k) + bit_at r k
-ones-more r k =
+ones_more : (r k : ℕ) → ones (r % 2 ^ suc k) ≡ ones (r % 2 ^ k) + bit_at r k
+ones_more r k =
     let e : suc k ≡ 1 + k = omega arith in
-    ap (λ (i : ℕ). ones (r % 2 ^ i)) e ∙ ap ones (mod-pow-add r 1 k) ∙ omega (arith, ones_cat k (bit_at r k) (r % 2 ^ k) (mod-lt r (pow_pos k)), ones-digit (r / 2 ^ k))
+    ap (λ (i : ℕ). ones (r % 2 ^ i)) e ∙ ap ones (mod-pow-add r 1 k) ∙ omega (arith, ones_cat k (bit_at r k) (r % 2 ^ k) (mod-lt r (pow_pos k)), ones_digit (r / 2 ^ k))
 
 -- they are left by a shift that pushes the others out of the word
 ones_low : (r k : ℕ) → k ≤ 64 → ones (r * 2 ^ (64 - k) % 2 ^ 64) ≡ ones (r % 2 ^ k)
@@ -139,17 +139,17 @@ ones_low r k h =
     ∙ add-zero (ones (r % 2 ^ k))
 
 module _ (m : List ℕ) (y r t : ℕ) (e : t % 64 ≡ 0) (q : bit_at y 63 ≡ bit_before m t) (s : Starts y (get_or m (t / 64) 0) r) where
-  start-bit : (k : ℕ) → k < 64 → bit_at r k ≡ min (free_bit m (t + k)) (1 - bit_before m (t + k))
-  start-bit zero h =
+  start_bit : (k : ℕ) → k < 64 → bit_at r k ≡ min (free_bit m (t + k)) (1 - bit_before m (t + k))
+  start_bit zero h =
       let z : t + 0 ≡ t = omega arith in
-      let x = ap (bit_at (get_or m (t / 64) 0)) (sym e) ∙ in-word m (t / 64) t refl in
+      let x = ap (bit_at (get_or m (t / 64) 0)) (sym e) ∙ in_word m (t / 64) t refl in
       subst (λ (i : ℕ). bit_at r 0 ≡ min (free_bit m i) (1 - bit_before m i)) (sym z) (omega (arith, s.first))
-  start-bit (suc k) h =
+  start_bit (suc k) h =
       let z : t + suc k ≡ suc (t + k) = omega arith in
       let u : suc (t + k) % 64 ≡ suc k = omega arith in
       let v : (t + k) % 64 ≡ k = omega arith in
-      let a = ap (bit_at (get_or m (t / 64) 0)) (sym u) ∙ in-word m (t / 64) (suc (t + k)) (omega arith) in
-      let b = ap (bit_at (get_or m (t / 64) 0)) (sym v) ∙ in-word m (t / 64) (t + k) (omega arith) in
+      let a = ap (bit_at (get_or m (t / 64) 0)) (sym u) ∙ in_word m (t / 64) (suc (t + k)) (omega arith) in
+      let b = ap (bit_at (get_or m (t / 64) 0)) (sym v) ∙ in_word m (t / 64) (t + k) (omega arith) in
       subst (λ (i : ℕ). bit_at r (suc k) ≡ min (free_bit m i) (1 - bit_before m i)) (sym z) (omega (arith, s.rest k (omega arith)))
 
   -- the starts among the first k tracks of the word
@@ -162,10 +162,10 @@ module _ (m : List ℕ) (y r t : ℕ) (e : t % 64 ≡ 0) (q : bit_at y 63 ≡ bi
       ap (λ (i : ℕ). length (runs (is_free m) 0 i)) z ∙ omega arith
   count_turn (suc k) h =
       let z : t + suc k ≡ suc (t + k) = omega arith in
-      ap (λ (i : ℕ). length (runs (is_free m) 0 i)) z ∙ omega (arith, count-track m (t + k), count_turn k (omega arith), ones-more r k, start-bit k (omega arith))
+      ap (λ (i : ℕ). length (runs (is_free m) 0 i)) z ∙ omega (arith, count_track m (t + k), count_turn k (omega arith), ones_more r k, start_bit k (omega arith))
 
-  pub count-part : (k : ℕ) → k ≤ 64 → length (runs (is_free m) 0 (t + k)) ≡ length (runs (is_free m) 0 t) + ones (r * 2 ^ (64 - k) % 2 ^ 64)
-  count-part k h = omega (arith, count_turn k h, ones_low r k h)
+  pub count_part : (k : ℕ) → k ≤ 64 → length (runs (is_free m) 0 (t + k)) ≡ length (runs (is_free m) 0 t) + ones (r * 2 ^ (64 - k) % 2 ^ 64)
+  count_part k h = omega (arith, count_turn k h, ones_low r k h)
 
   pub count_word : length (runs (is_free m) 0 (t + 64)) ≡ length (runs (is_free m) 0 t) + ones r
   count_word =
@@ -177,7 +177,7 @@ last_bit : (m : List ℕ) (t : ℕ) → t % 64 ≡ 0 → bit_at (get_or m (t / 6
 last_bit m t e =
     let z : t + 64 ≡ suc (t + 63) = omega arith in
     let w : (t + 63) % 64 ≡ 63 = omega arith in
-    ap (bit_at (get_or m (t / 64) 0)) (sym w) ∙ in-word m (t / 64) (t + 63) (omega arith) ∙ sym (ap (bit_before m) z)
+    ap (bit_at (get_or m (t / 64) 0)) (sym w) ∙ in_word m (t / 64) (t + 63) (omega arith) ∙ sym (ap (bit_before m) z)
 
 -- ---- tracks that are as the one before them: no run starts there
 
@@ -191,52 +191,52 @@ count_same m b (suc d) t l q f =
     let r = count_same m b d t l q (λ j u v. f j u (omega arith)) in
     let o = f (t + d) (omega arith) (omega arith) in
     let p = r.1 in (
-      ap (λ (i : ℕ). length (runs (is_free m) 0 i)) z ∙ omega (arith, count-track m (t + d), r.0),
+      ap (λ (i : ℕ). length (runs (is_free m) 0 i)) z ∙ omega (arith, count_track m (t + d), r.0),
       ap (bit_before m) z ∙ o,
     )
 
 -- ---- by words
 
 module _ (m : List ℕ) (w y r : ℕ) (q : bit_at y 63 ≡ bit_before m (64 * w)) (s : Starts y (get_or m w 0) r) where
-  at-word : Starts y (get_or m (64 * w / 64) 0) r
-  at-word = let e : 64 * w / 64 ≡ w = omega arith in rw e s
+  at_word : Starts y (get_or m (64 * w / 64) 0) r
+  at_word = let e : 64 * w / 64 ≡ w = omega arith in rw e s
 
-  pub word-runs : runs_below m (64 * w + 64) ≡ runs_below m (64 * w) + ones r
+  pub word_runs : runs_below m (64 * w + 64) ≡ runs_below m (64 * w) + ones r
   unfolding runs_below
-  word-runs = count_word m y r (64 * w) (omega arith) q at-word
+  word_runs = count_word m y r (64 * w) (omega arith) q at_word
 
-  pub part-runs : (k : ℕ) → k ≤ 64 → runs_below m (64 * w + k) ≡ runs_below m (64 * w) + ones (r * 2 ^ (64 - k) % 2 ^ 64)
+  pub part_runs : (k : ℕ) → k ≤ 64 → runs_below m (64 * w + k) ≡ runs_below m (64 * w) + ones (r * 2 ^ (64 - k) % 2 ^ 64)
   unfolding runs_below
-  part-runs = count-part m y r (64 * w) (omega arith) q at-word
+  part_runs = count_part m y r (64 * w) (omega arith) q at_word
 
-pub word-last : (m : List ℕ) (w : ℕ) → bit_at (get_or m w 0) 63 ≡ bit_before m (64 * w + 64)
-word-last m w =
+pub word_last : (m : List ℕ) (w : ℕ) → bit_at (get_or m w 0) 63 ≡ bit_before m (64 * w + 64)
+word_last m w =
     let e : 64 * w / 64 ≡ w = omega arith in
     ap (λ (i : ℕ). bit_at (get_or m i 0) 63) (sym e) ∙ last_bit m (64 * w) (omega arith)
 
-pub few-runs : (m : List ℕ) (t : ℕ) → runs_below m t ≤ t
+pub few_runs : (m : List ℕ) (t : ℕ) → runs_below m t ≤ t
 unfolding runs_below
-few-runs m t = runs-length (is_free m) 0 t
+few_runs m t = runs_length (is_free m) 0 t
 
-pub counts-none : (m : List ℕ) → Counts m 0 0 0
+pub counts_none : (m : List ℕ) → Counts m 0 0 0
 unfolding runs_below
-counts-none m = record { runs = refl; last = refl }
+counts_none m = record { runs = refl; last = refl }
 
 -- words that are as the last track before them
-pub counts-plain : (m : List ℕ) (w v c y p : ℕ) → w ≤ v → y < 2 ^ 64 → p ≡ flipped (ltb y 0x8000_0000_0000_0000) 0 → WordsAlike m p w v → Counts m (64 * w) c y → Counts m (64 * v) c y
+pub counts_plain : (m : List ℕ) (w v c y p : ℕ) → w ≤ v → y < 2 ^ 64 → p ≡ flipped (ltb y 0x8000_0000_0000_0000) 0 → WordsAlike m p w v → Counts m (64 * w) c y → Counts m (64 * v) c y
 unfolding runs_below
-counts-plain m w v c y p l fits q h k =
+counts_plain m w v c y p l fits q h k =
     let e : 64 * w + 64 * (v - w) ≡ 64 * v = omega arith in
-    let o = count_same m (bit_at y 63) (64 * (v - w)) (64 * w) (omega arith) (sym k.last) (λ j a b. plain-tracks m _ p w v q h j a (omega arith) ∙ sym (top_bit y fits)) in
+    let o = count_same m (bit_at y 63) (64 * (v - w)) (64 * w) (omega arith) (sym k.last) (λ j a b. plain_tracks m _ p w v q h j a (omega arith) ∙ sym (top_bit y fits)) in
     record {
       runs = k.runs ∙ sym (ap (λ (i : ℕ). length (runs (is_free m) 0 i)) (sym e) ∙ o.0);
       last = sym o.1 ∙ ap (bit_before m) e;
     }
 
-pub eight-plain : (m : List ℕ) (w c y p : ℕ) → y < 2 ^ 64 → p ≡ flipped (ltb y 0x8000_0000_0000_0000) 0 → WordsAlike m p w (w + 8) → Counts m (64 * w) c y → Counts m (64 * w + 512) c y
-eight-plain m w c y p fits q h k =
+pub eight_plain : (m : List ℕ) (w c y p : ℕ) → y < 2 ^ 64 → p ≡ flipped (ltb y 0x8000_0000_0000_0000) 0 → WordsAlike m p w (w + 8) → Counts m (64 * w) c y → Counts m (64 * w + 512) c y
+eight_plain m w c y p fits q h k =
     let e : 64 * (w + 8) ≡ 64 * w + 512 = omega arith in
-    subst (λ (t : ℕ). Counts m t c y) e (counts-plain m w (w + 8) c y p (omega arith) fits q h k)
+    subst (λ (t : ℕ). Counts m t c y) e (counts_plain m w (w + 8) c y p (omega arith) fits q h k)
 
 -- a word more
 pub starts_more : (m : List ℕ) (w i c r : ℕ) → 1 ≤ i → runs_below m (64 * w + 64 * i) ≡ runs_below m (64 * w) + c → Starts (get_or m (w + i - 1) 0) (get_or m (w + i) 0) r
@@ -245,36 +245,36 @@ starts_more m w i c r l k s =
     let a : 64 * (w + i - 1) + 64 ≡ 64 * (w + i) = omega arith in
     let b : 64 * (w + i) ≡ 64 * w + 64 * i = omega arith in
     let d : 64 * (w + i) + 64 ≡ 64 * w + 64 * (i + 1) = omega arith in
-    let o = word-runs m (w + i) (get_or m (w + i - 1) 0) r (word-last m (w + i - 1) ∙ ap (bit_before m) a) s in
+    let o = word_runs m (w + i) (get_or m (w + i - 1) 0) r (word_last m (w + i - 1) ∙ ap (bit_before m) a) s in
     omega (arith, o, ap (runs_below m) b, ap (runs_below m) d)
 
-pub counts-more : (m : List ℕ) (w c y r : ℕ) → Counts m (64 * w) c y → Starts y (get_or m w 0) r → Counts m (64 * (w + 1)) (c + ones r) (get_or m w 0)
-counts-more m w c y r k s =
+pub counts_more : (m : List ℕ) (w c y r : ℕ) → Counts m (64 * w) c y → Starts y (get_or m w 0) r → Counts m (64 * (w + 1)) (c + ones r) (get_or m w 0)
+counts_more m w c y r k s =
     let e : 64 * w + 64 ≡ 64 * (w + 1) = omega arith in
     record {
-      runs = omega (arith, k.runs, word-runs m w y r k.last s, ap (runs_below m) e);
-      last = word-last m w ∙ ap (bit_before m) e;
+      runs = omega (arith, k.runs, word_runs m w y r k.last s, ap (runs_below m) e);
+      last = word_last m w ∙ ap (bit_before m) e;
     }
 
-pub counts-eight : (m : List ℕ) (w c y d : ℕ) → Counts m (64 * w) c y → runs_below m (64 * w + 512) ≡ runs_below m (64 * w) + d → Counts m (64 * w + 512) (c + d) (get_or m (w + 7) 0)
-counts-eight m w c y d k o =
+pub counts_eight : (m : List ℕ) (w c y d : ℕ) → Counts m (64 * w) c y → runs_below m (64 * w + 512) ≡ runs_below m (64 * w) + d → Counts m (64 * w + 512) (c + d) (get_or m (w + 7) 0)
+counts_eight m w c y d k o =
     let e : 64 * (w + 7) + 64 ≡ 64 * w + 512 = omega arith in
-    record { runs = omega (arith, k.runs, o); last = word-last m (w + 7) ∙ ap (bit_before m) e }
+    record { runs = omega (arith, k.runs, o); last = word_last m (w + 7) ∙ ap (bit_before m) e }
 
-pub starts-few : (y x r : ℕ) → Starts y x r → ones r ≤ 64
-starts-few y x r s = ones-le 64 r s.small
+pub starts_few : (y x r : ℕ) → Starts y x r → ones r ≤ 64
+starts_few y x r s = ones-le 64 r s.small
 
 -- all of it: whole words, and the first tracks of one more
 module _ (m : List ℕ) (n c y : ℕ) (k : Counts m (64 * (n / 64)) c y) where
   counted : (d : ℕ) → d ≡ runs_below m n → (d ≡ length (free_from m n 0)) × (d ≤ n)
   unfolding runs_below
-  counted d e = (e ∙ sym (ap length (free-from-zero m n)), omega (arith, runs-length (is_free m) 0 n))
+  counted d e = (e ∙ sym (ap length (free_from_zero m n)), omega (arith, runs_length (is_free m) 0 n))
 
   pub whole_words : n % 64 ≡ 0 → (c ≡ length (free_from m n 0)) × (c ≤ n)
   whole_words z = let e : 64 * (n / 64) ≡ n = omega arith in counted c (k.runs ∙ ap (runs_below m) e)
 
-  pub and-part : (r : ℕ) → Starts y (get_or m (n / 64) 0) r
+  pub and_part : (r : ℕ) → Starts y (get_or m (n / 64) 0) r
       → (c + ones (r * 2 ^ (64 - n % 64) % 2 ^ 64) ≡ length (free_from m n 0)) × (c + ones (r * 2 ^ (64 - n % 64) % 2 ^ 64) ≤ n)
-  and-part r s =
+  and_part r s =
       let e : 64 * (n / 64) + n % 64 ≡ n = omega arith in
-      counted _ (omega (arith, k.runs, part-runs m (n / 64) y r k.last s (n % 64) (omega arith), ap (runs_below m) e))
+      counted _ (omega (arith, k.runs, part_runs m (n / 64) y r k.last s (n % 64) (omega arith), ap (runs_below m) e))

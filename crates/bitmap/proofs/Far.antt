@@ -11,15 +11,15 @@ use lib.Bits.{bit_and, bit_or}
 use lib.Count.{count_trailing_zeros}
 use Rattle.bitmap.specs.Map.{NextRun, bit_at, free_bit}
 use Rattle.bitmap.specs.Steps.{Ending, First, RestOfWord, FirstUnlike, Word}
-use Rattle.bitmap.proofs.Bits.{all_ones, and-bit, le-or-lt, one_less, trailing-one, trailing-small, trailing-zero, zero_bit}
-use Rattle.bitmap.proofs.Near.{filled-high, upto-start}
-use Rattle.bitmap.proofs.Walk.{next-run-law}
-use Rattle.bitmap.proofs.Words.{in-word}
+use Rattle.bitmap.proofs.Bits.{all_ones, and_bit, le_or_lt, one_less, trailing_one, trailing_small, trailing_zero, zero_bit}
+use Rattle.bitmap.proofs.Near.{filled_high, upto_start}
+use Rattle.bitmap.proofs.Walk.{next_run_law}
+use Rattle.bitmap.proofs.Words.{in_word}
 
 -- ---- the word of the first free track
 
-pub word-own : (m : List ℕ) (n t e x : ℕ) → t / 64 < e → (x ≡ 0 → ⊥) → RestOfWord m n t x → Word m n t e (t / 64) x
-word-own m n t e x l s r =
+pub word_own : (m : List ℕ) (n t e x : ℕ) → t / 64 < e → (x ≡ 0 → ⊥) → RestOfWord m n t x → Word m n t e (t / 64) x
+word_own m n t e x l s r =
     record {
       part = record { clear = λ j h. r.clear j (omega arith); shown = r.shown };
       before = λ i u v w. absurd (omega arith);
@@ -32,12 +32,12 @@ module _ (m : List ℕ) (n t e v y x : ℕ) (p : FirstUnlike m 0 (t / 64 + 1) e 
   zeros : (i : ℕ) → t ≤ i → i < n → i < 64 * v → free_bit m i ≡ 0
   zeros i u l h =
       ⊎_elim
-      (λ g. sym (in-word m (i / 64) i refl) ∙ ap (λ (y : ℕ). bit_at y (i % 64)) (p.before (i / 64) g (omega arith)) ∙ zero_bit (i % 64))
+      (λ g. sym (in_word m (i / 64) i refl) ∙ ap (λ (y : ℕ). bit_at y (i % 64)) (p.before (i / 64) g (omega arith)) ∙ zero_bit (i % 64))
       (λ g. sym (r.shown i u l (omega arith)) ∙ ap (λ (y : ℕ). bit_at y (i % 64)) z ∙ zero_bit (i % 64))
-      (le-or-lt (t / 64 + 1) (i / 64))
+      (le_or_lt (t / 64 + 1) (i / 64))
 
-  pub word-later : n ≤ 64 * e → Word m n t e v y
-  word-later k =
+  pub word_later : n ≤ 64 * e → Word m n t e v y
+  word_later k =
       let f = p.from in
       record {
         part = record {
@@ -45,7 +45,7 @@ module _ (m : List ℕ) (n t e v y x : ℕ) (p : FirstUnlike m 0 (t / 64 + 1) e 
           shown = λ i u l g.
               elim (ℕ_discrete y 0) [
                 | yes q ↦ (let w = p.none q in absurd (omega arith))
-                | no q ↦ ap (λ (x : ℕ). bit_at x (i % 64)) (p.found q).1 ∙ in-word m v i g
+                | no q ↦ ap (λ (x : ℕ). bit_at x (i % 64)) (p.found q).1 ∙ in_word m v i g
               ];
         };
         before = zeros;
@@ -57,14 +57,14 @@ module _ (m : List ℕ) (n t e v y x : ℕ) (p : FirstUnlike m 0 (t / 64 + 1) e 
 
 pub no_run : (m : List ℕ) (n t : ℕ) → First m true t n n → NextRun m n t n n
 no_run m n t f =
-    next-run-law m n t n n f
+    next_run_law m n t n n f
     (record { from = le_refl n; to = le_refl n; before = λ i u v. absurd (omega arith); here = λ h. absurd (omega arith) })
 
-pub first-end : (m : List ℕ) (n t : ℕ) → n ≤ t → t ≤ n → First m true t n n
-first-end m n t h l = record { from = l; to = le_refl n; before = λ i u v. absurd (omega arith); here = λ g. absurd (omega arith) }
+pub first_end : (m : List ℕ) (n t : ℕ) → n ≤ t → t ≤ n → First m true t n n
+first_end m n t h l = record { from = l; to = le_refl n; before = λ i u v. absurd (omega arith); here = λ g. absurd (omega arith) }
 
-pub first-none : (m : List ℕ) (n t e w y : ℕ) → Word m n t e w y → y ≡ 0 → t ≤ n → First m true t n n
-first-none m n t e w y p z l =
+pub first_none : (m : List ℕ) (n t e w y : ℕ) → Word m n t e w y → y ≡ 0 → t ≤ n → First m true t n n
+first_none m n t e w y p z l =
     let k = p.none z in
     record { from = l; to = le_refl n; before = λ i u v. p.before i u v (omega arith); here = λ g. absurd (omega arith) }
 
@@ -72,45 +72,45 @@ module _ (m : List ℕ) (n t e w y : ℕ) (p : Word m n t e w y) (some : y ≡ 0
   abbrev start : ℕ
   start = count_trailing_zeros 64 y
 
-  start-lt : start < 64
-  start-lt = trailing-small 64 y fits some
+  start_lt : start < 64
+  start_lt = trailing_small 64 y fits some
 
-  from-t : t ≤ 64 * w + start
-  from-t =
+  from_t : t ≤ 64 * w + start
+  from_t =
       ⊎_elim
       (λ g. g)
-      (λ g. absurd (omega (arith, p.part.clear start g, trailing-one 64 y start-lt)))
-      (le-or-lt t (64 * w + start))
+      (λ g. absurd (omega (arith, p.part.clear start g, trailing_one 64 y start_lt)))
+      (le_or_lt t (64 * w + start))
 
-  before-run : (i : ℕ) → t ≤ i → i < n → i < 64 * w + start → free_bit m i ≡ 0
-  before-run i u l h =
-      let s = start-lt in
-      ⊎_elim (λ g. sym (p.part.shown i u l (omega arith)) ∙ trailing-zero 64 y (i % 64) (omega arith)) (λ g. p.before i u l g) (le-or-lt (64 * w) i)
+  before_run : (i : ℕ) → t ≤ i → i < n → i < 64 * w + start → free_bit m i ≡ 0
+  before_run i u l h =
+      let s = start_lt in
+      ⊎_elim (λ g. sym (p.part.shown i u l (omega arith)) ∙ trailing_zero 64 y (i % 64) (omega arith)) (λ g. p.before i u l g) (le_or_lt (64 * w) i)
 
   pub first_on : 64 * w + start < n → First m true t n (64 * w + start)
   first_on h =
-      let s = start-lt in
+      let s = start_lt in
       let q : (64 * w + start) % 64 ≡ start = omega arith in
       record {
-        from = from-t;
+        from = from_t;
         to = omega arith;
-        before = λ i u v. before-run i u (omega arith) v;
-        here = λ _. sym (p.part.shown (64 * w + start) from-t h (omega arith)) ∙ ap (bit_at y) q ∙ trailing-one 64 y start-lt;
+        before = λ i u v. before_run i u (omega arith) v;
+        here = λ _. sym (p.part.shown (64 * w + start) from_t h (omega arith)) ∙ ap (bit_at y) q ∙ trailing_one 64 y start_lt;
       }
 
   pub first_off : n ≤ 64 * w + start → t ≤ n → First m true t n n
-  first_off h l = record { from = l; to = le_refl n; before = λ i u v. before-run i u v (omega arith); here = λ g. absurd (omega arith) }
+  first_off h l = record { from = l; to = le_refl n; before = λ i u v. before_run i u v (omega arith); here = λ g. absurd (omega arith) }
 
   -- ---- the run ends in the word in which it starts,
 
-  pub ending-own : Ending m n (64 * w + start) w y (bit_or y (y - 1))
-  ending-own =
-      let f = from-t in
+  pub ending_own : Ending m n (64 * w + start) w y (bit_or y (y - 1))
+  ending_own =
+      let f = from_t in
       record {
         before = λ i u v h. absurd (omega arith);
         shown = λ i u v h. p.part.shown i (omega arith) v h;
-        same = λ j h. filled-high y some fits j (omega arith);
-        filled = λ j h. upto-start y some fits j (omega arith);
+        same = λ j h. filled_high y some fits j (omega arith);
+        filled = λ j h. upto_start y some fits j (omega arith);
       }
 
   -- or in a later one: all tracks of the words between are free
@@ -118,27 +118,27 @@ module _ (m : List ℕ) (n t e w y : ℕ) (p : Word m n t e w y) (some : y ≡ 0
   module _ (full : bit_or y (y - 1) ≡ 0xffff_ffff_ffff_ffff) (v z : ℕ) (q : FirstUnlike m 0xffff_ffff_ffff_ffff (w + 1) e v z) where
     ones : (i : ℕ) → 64 * w + start ≤ i → i < n → i < 64 * v → free_bit m i ≡ 1
     ones i u l h =
-        let f = from-t in
+        let f = from_t in
         ⊎_elim
-        (λ g. sym (in-word m (i / 64) i refl) ∙ ap (λ (x : ℕ). bit_at x (i % 64)) (q.before (i / 64) g (omega arith)) ∙ all_ones (i % 64) (omega arith))
+        (λ g. sym (in_word m (i / 64) i refl) ∙ ap (λ (x : ℕ). bit_at x (i % 64)) (q.before (i / 64) g (omega arith)) ∙ all_ones (i % 64) (omega arith))
         (λ g.
-        sym (p.part.shown i (omega arith) l (omega arith)) ∙ sym (filled-high y some fits (i % 64) (omega arith))
+        sym (p.part.shown i (omega arith) l (omega arith)) ∙ sym (filled_high y some fits (i % 64) (omega arith))
         ∙ ap (λ (x : ℕ). bit_at x (i % 64)) full ∙ all_ones (i % 64) (omega arith))
-        (le-or-lt (w + 1) (i / 64))
+        (le_or_lt (w + 1) (i / 64))
 
-    pub ending-later : (z ≡ 0xffff_ffff_ffff_ffff → ⊥) → Ending m n (64 * w + start) v z z
-    ending-later o =
-        let s = start-lt in
+    pub ending_later : (z ≡ 0xffff_ffff_ffff_ffff → ⊥) → Ending m n (64 * w + start) v z z
+    ending_later o =
+        let s = start_lt in
         let f = q.from in
         record {
           before = ones;
-          shown = λ i u l h. ap (λ (x : ℕ). bit_at x (i % 64)) (q.found o).1 ∙ in-word m v i h;
+          shown = λ i u l h. ap (λ (x : ℕ). bit_at x (i % 64)) (q.found o).1 ∙ in_word m v i h;
           same = λ j h. refl;
           filled = λ j h. absurd (omega arith);
         }
 
-    pub ending-none : z ≡ 0xffff_ffff_ffff_ffff → n ≤ 64 * e → 64 * w + start < n → First m false (64 * w + start) n n
-    ending-none o k l =
+    pub ending_none : z ≡ 0xffff_ffff_ffff_ffff → n ≤ 64 * e → 64 * w + start < n → First m false (64 * w + start) n n
+    ending_none o k l =
         let h = q.none o in
         record { from = omega arith; to = le_refl n; before = λ i u g. ones i u g (omega arith); here = λ g. absurd (omega arith) }
 
@@ -151,53 +151,53 @@ module _ (m : List ℕ) (n a w y low : ℕ) (d : Ending m n a w y low) (fits : l
   abbrev stop : ℕ
   stop = count_trailing_zeros 64 z
 
-  stop-lt : stop < 64
-  stop-lt = trailing-small 64 z (omega arith) (λ e. absurd (omega arith))
+  stop_lt : stop < 64
+  stop_lt = trailing_small 64 z (omega arith) (λ e. absurd (omega arith))
 
   ends : (j : ℕ) → (j < stop → bit_at low j ≡ 1) × (j ≡ stop → bit_at low j ≡ 0) × (stop < j → bit_at low j ≡ bit_at z j)
-  ends = one_less stop low z refl (trailing-zero 64 z) (trailing-one 64 z stop-lt)
+  ends = one_less stop low z refl (trailing_zero 64 z) (trailing_one 64 z stop_lt)
 
-  from-a : a ≤ 64 * w + stop
-  from-a = ⊎_elim (λ g. g) (λ g. absurd (omega (arith, d.filled stop g, (ends stop).1 refl))) (le-or-lt a (64 * w + stop))
+  from_a : a ≤ 64 * w + stop
+  from_a = ⊎_elim (λ g. g) (λ g. absurd (omega (arith, d.filled stop g, (ends stop).1 refl))) (le_or_lt a (64 * w + stop))
 
   run_on : (i : ℕ) → a ≤ i → i < n → i < 64 * w + stop → free_bit m i ≡ 1
   run_on i u l h =
-      let s = stop-lt in
+      let s = stop_lt in
       ⊎_elim
       (λ g. sym (d.shown i u l (omega arith)) ∙ sym (d.same (i % 64) (omega arith)) ∙ (ends (i % 64)).0 (omega arith))
       (λ g. d.before i u l g)
-      (le-or-lt (64 * w) i)
+      (le_or_lt (64 * w) i)
 
   off : bit_at y stop ≡ 0
-  off = sym (d.same stop from-a) ∙ (ends stop).1 refl
+  off = sym (d.same stop from_a) ∙ (ends stop).1 refl
 
-  pub stop-first : 64 * w + stop < n → First m false a n (64 * w + stop)
-  stop-first h =
-      let s = stop-lt in
+  pub stop_first : 64 * w + stop < n → First m false a n (64 * w + stop)
+  stop_first h =
+      let s = stop_lt in
       let q : (64 * w + stop) % 64 ≡ stop = omega arith in
       record {
-        from = from-a;
+        from = from_a;
         to = omega arith;
         before = λ i u v. run_on i u (omega arith) v;
-        here = λ _. sym (d.shown (64 * w + stop) from-a h (omega arith)) ∙ ap (bit_at y) q ∙ off;
+        here = λ _. sym (d.shown (64 * w + stop) from_a h (omega arith)) ∙ ap (bit_at y) q ∙ off;
       }
 
-  pub stop-end : n ≤ 64 * w + stop → a < n → First m false a n n
-  stop-end h l = record { from = omega arith; to = le_refl n; before = λ i u v. run_on i u v (omega arith); here = λ g. absurd (omega arith) }
+  pub stop_end : n ≤ 64 * w + stop → a < n → First m false a n n
+  stop_end h l = record { from = omega arith; to = le_refl n; before = λ i u v. run_on i u v (omega arith); here = λ g. absurd (omega arith) }
 
   left : (j : ℕ) → stop ≤ j → bit_at (bit_and y z) j ≡ bit_at y j
   left j h =
-      let f = from-a in
+      let f = from_a in
       ⊎_elim
-      (λ g. let q : stop ≡ j = omega arith in let o : bit_at y j ≡ 0 = ap (bit_at y) (sym q) ∙ off in omega (arith, and-bit y z j))
-      (λ g. omega (arith, and-bit y z j, (ends j).2 g, d.same j (omega arith)))
-      (le-or-lt j stop)
+      (λ g. let q : stop ≡ j = omega arith in let o : bit_at y j ≡ 0 = ap (bit_at y) (sym q) ∙ off in omega (arith, and_bit y z j))
+      (λ g. omega (arith, and_bit y z j, (ends j).2 g, d.same j (omega arith)))
+      (le_or_lt j stop)
 
-  pub stop-rest : RestOfWord m n (64 * w + stop) (bit_and y z)
-  stop-rest =
-      let s = stop-lt in
-      let f = from-a in
+  pub stop_rest : RestOfWord m n (64 * w + stop) (bit_and y z)
+  stop_rest =
+      let s = stop_lt in
+      let f = from_a in
       record {
-        clear = λ j h. omega (arith, and-bit y z j, trailing-zero 64 z j (omega arith));
+        clear = λ j h. omega (arith, and_bit y z j, trailing_zero 64 z j (omega arith));
         shown = λ i u v h. left (i % 64) (omega arith) ∙ d.shown i (omega arith) v (omega arith);
       }

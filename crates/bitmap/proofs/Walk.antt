@@ -9,10 +9,10 @@ use native.Mathlib.Omega.{arith}
 use borrow.Author.Tests.{eq-eqb, ne_eqb}
 use Rattle.model.specs.Basics.{bit}
 use Rattle.model.specs.Model.{Run, run, runs, join_if, covers, times, Separate}
-use Rattle.model.proofs.Runs.{canonical, runs-separate, runs-times, hit-in, hit-above, below}
+use Rattle.model.proofs.Runs.{canonical, runs_separate, runs_times, hit_in, hit_above, below}
 use Rattle.bitmap.specs.Map.{free_bit, is_free, free_from, NextRun}
 use Rattle.bitmap.specs.Steps.{First}
-use Rattle.bitmap.proofs.Bits.{le-or-lt}
+use Rattle.bitmap.proofs.Bits.{le_or_lt}
 
 module _ (p : ℕ → Bool) where
   -- tracks at the beginning that p passes over
@@ -33,7 +33,7 @@ module _ (p : ℕ → Bool) where
   later b (suc n) h =
       let e : runs p b (suc n) ≡ runs p (suc b) n = ap (λ (x : Bool). join_if x b (runs p (suc b) n)) (h (omega arith)) in
       let f : suc b + n ≡ b + suc n = omega arith in
-      subst (λ (x : ℕ). Separate (suc b) x (runs p b (suc n))) f (subst (λ (rs : List Run). Separate (suc b) (suc b + n) rs) (sym e) (runs-separate p (suc b) n))
+      subst (λ (x : ℕ). Separate (suc b) x (runs p b (suc n))) f (subst (λ (rs : List Run). Separate (suc b) (suc b + n) rs) (sym e) (runs_separate p (suc b) n))
 
   -- c tracks that pass, and one behind them that does not
   pub first_run : (a c n : ℕ) → 0 < c → ((j : ℕ) → a ≤ j → j < a + c → p j ≡ true) → (0 < n → p (a + c) ≡ false)
@@ -45,15 +45,15 @@ module _ (p : ℕ → Bool) where
       (le_refl a, pos, omega arith, subst (λ (x : ℕ). Separate (suc (a + c)) x (runs p (a + c) n)) f s)
       (λ t u v. ⊎_elim
       (λ g.
-      let x : bit (covers (run a c) t) ≡ 0 = hit-above (run a c) t g in
-      let y = runs-times p (a + c) n t g (omega arith) in
+      let x : bit (covers (run a c) t) ≡ 0 = hit_above (run a c) t g in
+      let y = runs_times p (a + c) n t g (omega arith) in
       omega arith)
       (λ g.
-      let x : bit (covers (run a c) t) ≡ 1 = hit-in (run a c) t u g in
+      let x : bit (covers (run a c) t) ≡ 1 = hit_in (run a c) t u g in
       let y = below (suc (a + c)) (a + c + n) (runs p (a + c) n) t s (omega arith) in
       let z = ap bit (h t u g) in
       omega arith)
-      (le-or-lt (a + c) t)))
+      (le_or_lt (a + c) t)))
 
 pub is_free_lem : (m : List ℕ) (t : ℕ) → free_bit m t ≡ 1 → is_free m t ≡ true
 unfolding is_free
@@ -63,9 +63,9 @@ pub not_free : (m : List ℕ) (t : ℕ) → free_bit m t ≡ 0 → is_free m t �
 unfolding is_free
 not_free m t e = ne_eqb (free_bit m t) 1 (λ z. absurd (omega arith))
 
-pub next-run-law : (m : List ℕ) (n s a b : ℕ) → First m true s n a → First m false a n b → NextRun m n s a b
+pub next_run_law : (m : List ℕ) (n s a b : ℕ) → First m true s n a → First m false a n b → NextRun m n s a b
 unfolding free_from
-next-run-law m n s a b f g =
+next_run_law m n s a b f g =
     let f1 = f.from in
     let f2 = f.to in
     let g1 = g.from in
@@ -83,7 +83,7 @@ next-run-law m n s a b f g =
       high = g2;
       more = λ h.
           let pos : a < b =
-          ⊎_elim (λ u. absurd (let x = f.here h in let e : a ≡ b = omega arith in let y = ap (free_bit m) e ∙ g.here (omega arith) in omega arith)) (λ u. u) (le-or-lt b a) in
+          ⊎_elim (λ u. absurd (let x = f.here h in let e : a ≡ b = omega arith in let y = ap (free_bit m) e ∙ g.here (omega arith) in omega arith)) (λ u. u) (le_or_lt b a) in
           let n3 : n - a ≡ c + (n - b) = omega arith in (
             pos,
             skipped ∙ ap (runs (is_free m) a) n3
@@ -100,28 +100,28 @@ pub goes_on : {m : List ℕ} {n s a b : ℕ} → NextRun m n s a b → s < n →
 goes_on {n} {a} r h =
     let f = r.from in
     let l = r.low in
-    ⊎_elim (λ u. omega arith) (λ u. let p = (r.more u).0 in omega arith) (le-or-lt n a)
+    ⊎_elim (λ u. omega arith) (λ u. let p = (r.more u).0 in omega arith) (le_or_lt n a)
 
-pub free-from-zero : (m : List ℕ) (n : ℕ) → free_from m n 0 ≡ runs (is_free m) 0 n
+pub free_from_zero : (m : List ℕ) (n : ℕ) → free_from m n 0 ≡ runs (is_free m) 0 n
 unfolding free_from
-free-from-zero m n = let e : n - 0 ≡ n = omega arith in ap (runs (is_free m) 0) e
+free_from_zero m n = let e : n - 0 ≡ n = omega arith in ap (runs (is_free m) 0) e
 
-pub free-from-end : (m : List ℕ) (n : ℕ) → free_from m n n ≡ []
+pub free_from_end : (m : List ℕ) (n : ℕ) → free_from m n n ≡ []
 unfolding free_from
-free-from-end m n = let e : n - n ≡ 0 = omega arith in ap (runs (is_free m) n) e
+free_from_end m n = let e : n - n ≡ 0 = omega arith in ap (runs (is_free m) n) e
 
 -- ---- where track 0, the label track, is not free, no run begins there
 
-label-missed : (m : List ℕ) (n b : ℕ) → NextRun m n 0 0 b → 0 < n → free_bit m 0 ≡ 0 → ⊥
+label_missed : (m : List ℕ) (n b : ℕ) → NextRun m n 0 0 b → 0 < n → free_bit m 0 ≡ 0 → ⊥
 unfolding free_from
-label-missed m n b r u off =
+label_missed m n b r u off =
     let e = ap (times 0) (r.more u).1 in
-    let free = runs-times (is_free m) 0 (n - 0) 0 (le_refl 0) (omega arith) in
-    let here = hit-in (run 0 (b - 0)) 0 (le_refl 0) (omega (arith, (r.more u).0)) in
+    let free = runs_times (is_free m) 0 (n - 0) 0 (le_refl 0) (omega arith) in
+    let here = hit_in (run 0 (b - 0)) 0 (le_refl 0) (omega (arith, (r.more u).0)) in
     let none = ap bit (not_free m 0 off) in
     absurd (omega arith)
 
-pub behind-label : (m : List ℕ) (n s a b : ℕ) → NextRun m n s a b → a < n → free_bit m 0 ≡ 0 → 1 ≤ a
-behind-label m n zero zero b r u off = absurd (label-missed m n b r u off)
-behind-label m n (suc s) zero b r u off = absurd (omega (arith, r.from))
-behind-label m n s (suc a) b r u off = omega arith
+pub behind_label : (m : List ℕ) (n s a b : ℕ) → NextRun m n s a b → a < n → free_bit m 0 ≡ 0 → 1 ≤ a
+behind_label m n zero zero b r u off = absurd (label_missed m n b r u off)
+behind_label m n (suc s) zero b r u off = absurd (omega (arith, r.from))
+behind_label m n s (suc a) b r u off = omega arith

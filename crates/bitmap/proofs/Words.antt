@@ -15,7 +15,7 @@ use Rattle.model.specs.Basics.{bit}
 use Rattle.model.proofs.Lists.{clash}
 use Rattle.bitmap.specs.Map.{AllFree, Hit, Made, Taken, bit_at, free_bit}
 use Rattle.bitmap.specs.Steps.{WordsAlike, FirstUnlike, WordAt, block, flipped}
-use Rattle.bitmap.proofs.Bits.{all_ones, and-bit, block-high, block_in, block-low, block-lt, lacks, le-or-lt, not-bit, or-bit, or-none, xor-bit, xor-none, zero_bit}
+use Rattle.bitmap.proofs.Bits.{all_ones, and_bit, block_high, block_in, block_low, block_lt, lacks, le_or_lt, not_bit, or_bit, or_none_lem, xor_bit, xor_none, zero_bit}
 
 -- the mask of the n tracks from t on, in t's word
 abbrev mask : ℕ → ℕ → ℕ
@@ -27,13 +27,13 @@ pub store_in : (m : List ℕ) (w v j : ℕ) → w < length m → j / 64 ≡ w �
 unfolding free_bit
 store_in m w v j h e = rw (e, get_or-set_same m w v 0 h)
 
-pub store-off : (m : List ℕ) (w v j : ℕ) → (j / 64 ≡ w → ⊥) → free_bit (set m w v) j ≡ free_bit m j
+pub store_off : (m : List ℕ) (w v j : ℕ) → (j / 64 ≡ w → ⊥) → free_bit (set m w v) j ≡ free_bit m j
 unfolding free_bit
-store-off m w v j n = rw (get_or-set_other m w (j / 64) v 0 n)
+store_off m w v j n = rw (get_or-set_other m w (j / 64) v 0 n)
 
-pub in-word : (m : List ℕ) (w j : ℕ) → j / 64 ≡ w → bit_at (get_or m w 0) (j % 64) ≡ free_bit m j
+pub in_word : (m : List ℕ) (w j : ℕ) → j / 64 ≡ w → bit_at (get_or m w 0) (j % 64) ≡ free_bit m j
 unfolding free_bit
-in-word m w j e = rw e
+in_word m w j e = rw e
 
 -- the word v is the old one but for the bits of the mask, which are b
 module _ (b : ℕ) (m : List ℕ) (t n v : ℕ) (h : t / 64 < length m) (k : t % 64 + n ≤ 64)
@@ -41,18 +41,18 @@ module _ (b : ℕ) (m : List ℕ) (t n v : ℕ) (h : t / 64 < length m) (k : t %
     (new : (p : ℕ) → bit_at (mask t n) p ≡ 1 → bit_at v p ≡ b) where
   out : (j : ℕ) → (j / 64 ≡ t / 64 → bit_at (mask t n) (j % 64) ≡ 0) → free_bit (set m (t / 64) v) j ≡ free_bit m j
   out j g = elim (ℕ_discrete (j / 64) (t / 64)) [
-    | yes e ↦ store_in m (t / 64) v j h e ∙ kept (j % 64) (g e) ∙ in-word m (t / 64) j e
-    | no d ↦ store-off m (t / 64) v j d
+    | yes e ↦ store_in m (t / 64) v j h e ∙ kept (j % 64) (g e) ∙ in_word m (t / 64) j e
+    | no d ↦ store_off m (t / 64) v j d
   ]
 
-  made-chunk : Made b m (set m (t / 64) v) t (t + n)
-  made-chunk =
+  made_chunk : Made b m (set m (t / 64) v) t (t + n)
+  made_chunk =
       let lo = t % 64 in
       record {
         long = length-set m (t / 64) v;
-        before = λ j a. out j (λ e. block-low lo n (j % 64) (omega arith));
+        before = λ j a. out j (λ e. block_low lo n (j % 64) (omega arith));
         inside = λ j a b. store_in m (t / 64) v j h (omega arith) ∙ new (j % 64) (block_in lo n (j % 64) (omega arith) (omega arith));
-        after = λ j a. out j (λ e. block-high lo n (j % 64) (omega arith));
+        after = λ j a. out j (λ e. block_high lo n (j % 64) (omega arith));
       }
 
 -- ---- one range after the other
@@ -64,41 +64,41 @@ pub made_more : (b : ℕ) (m m' m'' : List ℕ) (s t e : ℕ) → s ≤ t → t 
 made_more b m m' m'' s t e a c p q = record {
   long = q.long ∙ p.long;
   before = λ j g. q.before j (omega arith) ∙ p.before j g;
-  inside = λ j g k. ⊎_elim (λ c. q.inside j c k) (λ c. q.before j c ∙ p.inside j g c) (le-or-lt t j);
+  inside = λ j g k. ⊎_elim (λ c. q.inside j c k) (λ c. q.before j c ∙ p.inside j g c) (le_or_lt t j);
   after = λ j g. q.after j g ∙ p.after j (omega arith);
 }
 
 -- ---- taking
 
 module _ (m : List ℕ) (t n : ℕ) (h : t / 64 < length m) (k : t % 64 + n ≤ 64) where
-  pub all-free : bit_and (get_or m (t / 64) 0) (mask t n) ≡ mask t n → AllFree m t (t + n)
+  pub all_free_lem : bit_and (get_or m (t / 64) 0) (mask t n) ≡ mask t n → AllFree m t (t + n)
   unfolding free_bit
-  all-free z j a b =
+  all_free_lem z j a b =
       let w : j / 64 ≡ t / 64 = omega arith in
       let x = get_or m (t / 64) 0 in
       let p = j % 64 in
       let e : bit_at (bit_and x (mask t n)) p ≡ bit_at (mask t n) p = ap (λ (y : ℕ). bit_at y p) z in
       let one = block_in (t % 64) n p (omega arith) (omega arith) in
-      rw w (omega (arith, and-bit x (mask t n) p))
+      rw w (omega (arith, and_bit x (mask t n) p))
 
   pub take_chunk : bit_and (get_or m (t / 64) 0) (mask t n) ≡ mask t n → Made 0 m (set m (t / 64) (bit_xor (get_or m (t / 64) 0) (mask t n))) t (t + n)
   take_chunk z =
       let x = get_or m (t / 64) 0 in
-      made-chunk 0 m t n (bit_xor x (mask t n)) h k
-      (λ p o. omega (arith, xor-bit x (mask t n) p))
-      (λ p o. let e : bit_at (bit_and x (mask t n)) p ≡ bit_at (mask t n) p = ap (λ (y : ℕ). bit_at y p) z in omega (arith, xor-bit x (mask t n) p, and-bit x (mask t n) p))
+      made_chunk 0 m t n (bit_xor x (mask t n)) h k
+      (λ p o. omega (arith, xor_bit x (mask t n) p))
+      (λ p o. let e : bit_at (bit_and x (mask t n)) p ≡ bit_at (mask t n) p = ap (λ (y : ℕ). bit_at y p) z in omega (arith, xor_bit x (mask t n) p, and_bit x (mask t n) p))
 
-  pub hit-chunk : (e : ℕ) → t + n ≤ e → (bit_and (get_or m (t / 64) 0) (mask t n) ≡ mask t n → ⊥) → Hit m t e
+  pub hit_chunk : (e : ℕ) → t + n ≤ e → (bit_and (get_or m (t / 64) 0) (mask t n) ≡ mask t n → ⊥) → Hit m t e
   unfolding free_bit
-  hit-chunk e b z =
+  hit_chunk e b z =
       let x = get_or m (t / 64) 0 in
       let lo = t % 64 in
-      let r = lacks x (mask t n) (block-lt lo n (omega arith)) z in
+      let r = lacks x (mask t n) (block_lt lo n (omega arith)) z in
       let p = r.0 in
       let pl = r.1 in
       let on = r.2 in
-      let from : lo ≤ p = ⊎_elim (λ g. g) (λ g. absurd (omega (arith, block-low lo n p g))) (le-or-lt lo p) in
-      let to : p < lo + n = ⊎_elim (λ g. absurd (omega (arith, block-high lo n p g))) (λ g. g) (le-or-lt (lo + n) p) in
+      let from : lo ≤ p = ⊎_elim (λ g. g) (λ g. absurd (omega (arith, block_low lo n p g))) (le_or_lt lo p) in
+      let to : p < lo + n = ⊎_elim (λ g. absurd (omega (arith, block_high lo n p g))) (λ g. g) (le_or_lt (lo + n) p) in
       let j = 64 * (t / 64) + p in
       let w : j / 64 ≡ t / 64 = omega arith in
       let v : j % 64 ≡ p = omega arith in
@@ -106,42 +106,42 @@ module _ (m : List ℕ) (t n : ℕ) (h : t / 64 < length m) (k : t % 64 + n ≤ 
 
   -- ---- giving
 
-  pub give-chunk : Made 1 m (set m (t / 64) (bit_or (get_or m (t / 64) 0) (mask t n))) t (t + n)
-  give-chunk =
+  pub give_chunk : Made 1 m (set m (t / 64) (bit_or (get_or m (t / 64) 0) (mask t n))) t (t + n)
+  give_chunk =
       let x = get_or m (t / 64) 0 in
-      made-chunk 1 m t n (bit_or x (mask t n)) h k (λ p o. omega (arith, or-bit x (mask t n) p)) (λ p o. omega (arith, or-bit x (mask t n) p))
+      made_chunk 1 m t n (bit_or x (mask t n)) h k (λ p o. omega (arith, or_bit x (mask t n) p)) (λ p o. omega (arith, or_bit x (mask t n) p))
 
 pub free_more : (m m' : List ℕ) (s t e : ℕ) → AllFree m s t → Made 0 m m' s t → AllFree m' t e → AllFree m s e
-free_more m m' s t e p c q j a b = ⊎_elim (λ g. sym (c.after j g) ∙ q j g b) (λ g. p j a g) (le-or-lt t j)
+free_more m m' s t e p c q j a b = ⊎_elim (λ g. sym (c.after j g) ∙ q j g b) (λ g. p j a g) (le_or_lt t j)
 
-pub hit-before : (m m' : List ℕ) (s t e : ℕ) → s ≤ t → Made 0 m m' s t → Hit m' t e → Hit m s e
-hit-before m m' s t e a c h =
+pub hit_before : (m m' : List ℕ) (s t e : ℕ) → s ≤ t → Made 0 m m' s t → Hit m' t e → Hit m s e
+hit_before m m' s t e a c h =
     let f = h.from in
     record { at = h.at; from = omega arith; below = h.below; off = sym (c.after h.at f) ∙ h.off }
 
 -- ---- a word, whole
 
-pub word-free : (m : List ℕ) (i : ℕ) → get_or m i 0 ≡ 0xffff_ffff_ffff_ffff → AllFree m (64 * i) (64 * i + 64)
-word-free m i e j u v = sym (in-word m i j (omega arith)) ∙ ap (λ (x : ℕ). bit_at x (j % 64)) e ∙ all_ones (j % 64) (omega arith)
+pub word_free : (m : List ℕ) (i : ℕ) → get_or m i 0 ≡ 0xffff_ffff_ffff_ffff → AllFree m (64 * i) (64 * i + 64)
+word_free m i e j u v = sym (in_word m i j (omega arith)) ∙ ap (λ (x : ℕ). bit_at x (j % 64)) e ∙ all_ones (j % 64) (omega arith)
 
-pub word-taken : (m : List ℕ) (i : ℕ) → i < length m → Made 0 m (set m i 0) (64 * i) (64 * i + 64)
-word-taken m i h = record {
+pub word_taken : (m : List ℕ) (i : ℕ) → i < length m → Made 0 m (set m i 0) (64 * i) (64 * i + 64)
+word_taken m i h = record {
   long = length-set m i 0;
-  before = λ j u. store-off m i 0 j (λ e. absurd (omega arith));
+  before = λ j u. store_off m i 0 j (λ e. absurd (omega arith));
   inside = λ j u v. store_in m i 0 j h (omega arith) ∙ zero_bit (j % 64);
-  after = λ j u. store-off m i 0 j (λ e. absurd (omega arith));
+  after = λ j u. store_off m i 0 j (λ e. absurd (omega arith));
 }
 
 full_block : block 0 64 ≡ 0xffff_ffff_ffff_ffff
 unfolding block
 full_block = refl
 
-pub word-hit : (m : List ℕ) (i e : ℕ) → i < length m → 64 * i + 64 ≤ e → get_or m i 0 < 2 ^ 64 → (get_or m i 0 ≡ 0xffff_ffff_ffff_ffff → ⊥) → Hit m (64 * i) e
-word-hit m i e h l f n =
+pub word_hit : (m : List ℕ) (i e : ℕ) → i < length m → 64 * i + 64 ≤ e → get_or m i 0 < 2 ^ 64 → (get_or m i 0 ≡ 0xffff_ffff_ffff_ffff → ⊥) → Hit m (64 * i) e
+word_hit m i e h l f n =
     let w : 64 * i / 64 ≡ i = omega arith in
     let o : 64 * i % 64 ≡ 0 = omega arith in
     let b : mask (64 * i) 64 ≡ 0xffff_ffff_ffff_ffff = ap (λ (x : ℕ). block x 64) o ∙ full_block in
-    hit-chunk m (64 * i) 64 (omega arith) (omega arith) e l
+    hit_chunk m (64 * i) 64 (omega arith) (omega arith) e l
     (λ z.
     let y : bit_and (get_or m i 0) 0xffff_ffff_ffff_ffff ≡ 0xffff_ffff_ffff_ffff = ap (λ (x : ℕ). bit_and (get_or m x 0) 0xffff_ffff_ffff_ffff) (sym w) ∙ ap (bit_and (get_or m (64 * i / 64) 0)) (sym b) ∙ z ∙ b in
     n (omega (arith, and_le_l (get_or m i 0) 0xffff_ffff_ffff_ffff)))
@@ -153,27 +153,27 @@ module _ (m m₁ m₂ : List ℕ) (s a b e : ℕ) (l : s ≤ a) (g : a ≤ b) (h
   between : (t : ℕ) → a ≤ t → t < b → free_bit m₂ t ≡ free_bit m t
   between t u v = y.before t v ∙ x.after t u
 
-  ends-taken : (m₃ : List ℕ) → Made 0 m₂ m₃ a b → Made 0 m m₃ s e
-  ends-taken m₃ z = record {
+  ends_taken : (m₃ : List ℕ) → Made 0 m₂ m₃ a b → Made 0 m m₃ s e
+  ends_taken m₃ z = record {
     long = z.long ∙ y.long ∙ x.long;
     before = λ t u. z.before t (omega arith) ∙ y.before t (omega arith) ∙ x.before t u;
     inside = λ t u v.
         ⊎_elim
-        (λ c. ⊎_elim (λ d. z.after t d ∙ y.inside t d v) (λ d. z.inside t c d) (le-or-lt b t))
+        (λ c. ⊎_elim (λ d. z.after t d ∙ y.inside t d v) (λ d. z.inside t c d) (le_or_lt b t))
         (λ c. z.before t c ∙ y.before t (omega arith) ∙ x.inside t u c)
-        (le-or-lt a t);
+        (le_or_lt a t);
     after = λ t u. z.after t (omega arith) ∙ y.after t u ∙ x.after t (omega arith);
   }
 
-  pub taken-between : AllFree m s a → AllFree m₁ b e → (m₃ : List ℕ) (r : Bool) → Taken m₂ m₃ a b r → Taken m m₃ s e r
-  taken-between p q m₃ r z = record {
+  pub taken_between : AllFree m s a → AllFree m₁ b e → (m₃ : List ℕ) (r : Bool) → Taken m₂ m₃ a b r → Taken m m₃ s e r
+  taken_between p q m₃ r z = record {
     long = z.long ∙ y.long ∙ x.long;
     were = λ o t u v.
         ⊎_elim
-        (λ c. ⊎_elim (λ d. sym (x.after t c) ∙ q t d v) (λ d. sym (between t c d) ∙ z.were o t c d) (le-or-lt b t))
+        (λ c. ⊎_elim (λ d. sym (x.after t c) ∙ q t d v) (λ d. sym (between t c d) ∙ z.were o t c d) (le_or_lt b t))
         (λ c. p t u c)
-        (le-or-lt a t);
-    made = λ o. ends-taken m₃ (z.made o);
+        (le_or_lt a t);
+    made = λ o. ends_taken m₃ (z.made o);
     hit = λ o.
         let k = z.hit o in
         let f = k.from in
@@ -203,31 +203,31 @@ module _ (m : List ℕ) (s e a b : ℕ) (u : s < e) (c : s / 64 < (e - 1) / 64) 
   first_ends : s + (64 - s % 64) ≡ 64 * (w + 1)
   first_ends = omega arith
 
-  last-ends : 64 * v + ((e - 1) % 64 + 1) ≡ e
-  last-ends = omega arith
+  last_ends : 64 * v + ((e - 1) % 64 + 1) ≡ e
+  last_ends = omega arith
 
   last_word : 64 * v / 64 ≡ v
   last_word = omega arith
 
-  last-mask : mask (64 * v) ((e - 1) % 64 + 1) ≡ b
-  last-mask = let o : 64 * v % 64 ≡ 0 = omega arith in ap (λ (i : ℕ). block i ((e - 1) % 64 + 1)) o ∙ sym eb
+  last_mask : mask (64 * v) ((e - 1) % 64 + 1) ≡ b
+  last_mask = let o : 64 * v % 64 ≡ 0 = omega arith in ap (λ (i : ℕ). block i ((e - 1) % 64 + 1)) o ∙ sym eb
 
   -- the last word is not the first
-  y-stays : get_or m₁ v 0 ≡ y
-  y-stays = get_or-set_other m w v (bit_xor x a) 0 (λ z. absurd (omega arith))
+  y_stays : get_or m₁ v 0 ≡ y
+  y_stays = get_or-set_other m w v (bit_xor x a) 0 (λ z. absurd (omega arith))
 
   -- a test of the last word, where the number of the word is 64 * v / 64
-  last-is : (k : List ℕ) → get_or k v 0 ≡ y → bit_and y b ≡ b → bit_and (get_or k (64 * v / 64) 0) (mask (64 * v) ((e - 1) % 64 + 1)) ≡ mask (64 * v) ((e - 1) % 64 + 1)
-  last-is k q z = rw (last_word, last-mask, q) z
+  last_is : (k : List ℕ) → get_or k v 0 ≡ y → bit_and y b ≡ b → bit_and (get_or k (64 * v / 64) 0) (mask (64 * v) ((e - 1) % 64 + 1)) ≡ mask (64 * v) ((e - 1) % 64 + 1)
+  last_is k q z = rw (last_word, last_mask, q) z
 
-  pub far-hit : (bit_or (bit_xor (bit_and x a) a) (bit_xor (bit_and y b) b) ≡ 0 → ⊥) → Hit m s e
-  far-hit n =
+  pub far_hit : (bit_or (bit_xor (bit_and x a) a) (bit_xor (bit_and y b) b) ≡ 0 → ⊥) → Hit m s e
+  far_hit n =
       elim (ℕ_discrete (bit_and x a) a) [
-        | no p ↦ hit-chunk m s (64 - s % 64) (omega arith) (omega arith) e (omega arith) (λ z. p (rw ea z))
+        | no p ↦ hit_chunk m s (64 - s % 64) (omega arith) (omega arith) e (omega arith) (λ z. p (rw ea z))
         | yes p ↦
             elim (ℕ_discrete (bit_and y b) b) [
               | no q ↦
-                  let h = hit-chunk m (64 * v) ((e - 1) % 64 + 1) (omega arith) (omega arith) e (omega arith) (λ z. q (rw (last_word, last-mask) at z)) in
+                  let h = hit_chunk m (64 * v) ((e - 1) % 64 + 1) (omega arith) (omega arith) e (omega arith) (λ z. q (rw (last_word, last_mask) at z)) in
                   let f = h.from in
                   record { at = h.at; from = omega arith; below = h.below; off = h.off }
               | yes q ↦ absurd (n (rw (p, q, xor_self a, xor_self b)))
@@ -236,13 +236,13 @@ module _ (m : List ℕ) (s e a b : ℕ) (u : s < e) (c : s / 64 < (e - 1) / 64) 
 
   module _ (z : bit_or (bit_xor (bit_and x a) a) (bit_xor (bit_and y b) b) ≡ 0) where
     one : bit_and x a ≡ a
-    one = xor-none (bit_and x a) a (or-none (bit_xor (bit_and x a) a) (bit_xor (bit_and y b) b) z).0
+    one = xor_none (bit_and x a) a (or_none_lem (bit_xor (bit_and x a) a) (bit_xor (bit_and y b) b) z).0
 
     other : bit_and y b ≡ b
-    other = xor-none (bit_and y b) b (or-none (bit_xor (bit_and x a) a) (bit_xor (bit_and y b) b) z).1
+    other = xor_none (bit_and y b) b (or_none_lem (bit_xor (bit_and x a) a) (bit_xor (bit_and y b) b) z).1
 
-    first-free : AllFree m s (64 * (w + 1))
-    first-free = subst (AllFree m s) first_ends (all-free m s (64 - s % 64) (omega arith) (omega arith) (rw ea at one))
+    first_free : AllFree m s (64 * (w + 1))
+    first_free = subst (AllFree m s) first_ends (all_free_lem m s (64 - s % 64) (omega arith) (omega arith) (rw ea at one))
 
     first_made : Made 0 m m₁ s (64 * (w + 1))
     first_made = subst (Made 0 m m₁ s) first_ends (rw ea (take_chunk m s (64 - s % 64) (omega arith) (omega arith) (rw ea at one)))
@@ -250,94 +250,94 @@ module _ (m : List ℕ) (s e a b : ℕ) (u : s < e) (c : s / 64 < (e - 1) / 64) 
     long₁ : length m₁ ≡ length m
     long₁ = length-set m w (bit_xor x a)
 
-    last-free : AllFree m₁ (64 * v) e
-    last-free = subst (AllFree m₁ (64 * v)) last-ends (all-free m₁ (64 * v) ((e - 1) % 64 + 1) (let l = long₁ in omega arith) (omega arith) (last-is m₁ y-stays other))
+    last_free : AllFree m₁ (64 * v) e
+    last_free = subst (AllFree m₁ (64 * v)) last_ends (all_free_lem m₁ (64 * v) ((e - 1) % 64 + 1) (let l = long₁ in omega arith) (omega arith) (last_is m₁ y_stays other))
 
     last_made : Made 0 m₁ (set m₁ v (bit_xor y b)) (64 * v) e
     last_made =
-        let k = take_chunk m₁ (64 * v) ((e - 1) % 64 + 1) (let l = long₁ in omega arith) (omega arith) (last-is m₁ y-stays other) in
-        subst (Made 0 m₁ (set m₁ v (bit_xor y b)) (64 * v)) last-ends (rw (last_word, last-mask, y-stays) at k)
+        let k = take_chunk m₁ (64 * v) ((e - 1) % 64 + 1) (let l = long₁ in omega arith) (omega arith) (last_is m₁ y_stays other) in
+        subst (Made 0 m₁ (set m₁ v (bit_xor y b)) (64 * v)) last_ends (rw (last_word, last_mask, y_stays) at k)
 
-    pub far-took : (m₃ : List ℕ) (r : Bool) → Taken (set m₁ v (bit_xor y b)) m₃ (64 * (w + 1)) (64 * v) r → Taken m m₃ s e r
-    far-took m₃ r t =
-        taken-between m m₁ (set m₁ v (bit_xor y b)) s (64 * (w + 1)) (64 * v) e (omega arith) (omega arith) (omega arith) first_made last_made first-free last-free m₃ r t
+    pub far_took : (m₃ : List ℕ) (r : Bool) → Taken (set m₁ v (bit_xor y b)) m₃ (64 * (w + 1)) (64 * v) r → Taken m m₃ s e r
+    far_took m₃ r t =
+        taken_between m m₁ (set m₁ v (bit_xor y b)) s (64 * (w + 1)) (64 * v) e (omega arith) (omega arith) (omega arith) first_made last_made first_free last_free m₃ r t
 
 -- ---- words of zeros, or of ones where b is false
 
-plain-bit : (b : Bool) (i : ℕ) → i < 64 → bit_at (flipped b 0) i ≡ 1 - bit b
+plain_bit : (b : Bool) (i : ℕ) → i < 64 → bit_at (flipped b 0) i ≡ 1 - bit b
 unfolding flipped
-plain-bit true i h = zero_bit i
-plain-bit false i h = let n = not-bit 0 i h in let z = zero_bit i in omega arith
+plain_bit true i h = zero_bit i
+plain_bit false i h = let n = not_bit 0 i h in let z = zero_bit i in omega arith
 
-pub plain-tracks : (m : List ℕ) (b : Bool) (p w v : ℕ) → p ≡ flipped b 0 → WordsAlike m p w v → (j : ℕ) → 64 * w ≤ j → j < 64 * v → free_bit m j ≡ 1 - bit b
+pub plain_tracks : (m : List ℕ) (b : Bool) (p w v : ℕ) → p ≡ flipped b 0 → WordsAlike m p w v → (j : ℕ) → 64 * w ≤ j → j < 64 * v → free_bit m j ≡ 1 - bit b
 unfolding free_bit
-plain-tracks m b p w v q h j u z = rw (h (j / 64) (omega arith) (omega arith), q) (plain-bit b (j % 64) (omega arith))
+plain_tracks m b p w v q h j u z = rw (h (j / 64) (omega arith) (omega arith), q) (plain_bit b (j % 64) (omega arith))
 
 -- ---- words alike
 
 module _ (m : List ℕ) (p w : ℕ) where
-  pub alike-none : WordsAlike m p w w
-  alike-none i u v = absurd (omega arith)
+  pub alike_none : WordsAlike m p w w
+  alike_none i u v = absurd (omega arith)
 
-  pub alike-more : (r : ℕ) → WordsAlike m p w r → get_or m r 0 ≡ p → WordsAlike m p w (r + 1)
-  alike-more r h e i u v = elim (ℕ_discrete i r) [ yes q ↦ rw q e | no q ↦ h i u (omega arith) ]
+  pub alike_more : (r : ℕ) → WordsAlike m p w r → get_or m r 0 ≡ p → WordsAlike m p w (r + 1)
+  alike_more r h e i u v = elim (ℕ_discrete i r) [ yes q ↦ rw q e | no q ↦ h i u (omega arith) ]
 
   -- they differ from p in no bit
-  pub alike-turn : (i x : ℕ) → (x ≡ 0 → WordsAlike m p w (w + i)) → bit_or x (bit_xor (get_or m (w + i) 0) p) ≡ 0 → WordsAlike m p w (w + (i + 1))
-  alike-turn i x h z j u v =
-      let b = or-none x (bit_xor (get_or m (w + i) 0) p) z in
-      alike-more (w + i) (h b.0) (xor-none (get_or m (w + i) 0) p b.1) j u (omega arith)
+  pub alike_turn : (i x : ℕ) → (x ≡ 0 → WordsAlike m p w (w + i)) → bit_or x (bit_xor (get_or m (w + i) 0) p) ≡ 0 → WordsAlike m p w (w + (i + 1))
+  alike_turn i x h z j u v =
+      let b = or_none_lem x (bit_xor (get_or m (w + i) 0) p) z in
+      alike_more (w + i) (h b.0) (xor_none (get_or m (w + i) 0) p b.1) j u (omega arith)
 
-  pub alike-four : (r : ℕ) → WordsAlike m p w r
+  pub alike_four : (r : ℕ) → WordsAlike m p w r
       → bit_or (bit_or (bit_xor (get_or m r 0) p) (bit_xor (get_or m (r + 1) 0) p)) (bit_or (bit_xor (get_or m (r + 2) 0) p) (bit_xor (get_or m (r + 3) 0) p)) ≡ 0
       → WordsAlike m p w (r + 4)
-  alike-four r h z =
-      let both = or-none (bit_or (bit_xor (get_or m r 0) p) (bit_xor (get_or m (r + 1) 0) p)) (bit_or (bit_xor (get_or m (r + 2) 0) p) (bit_xor (get_or m (r + 3) 0) p)) z in
-      let low = or-none (bit_xor (get_or m r 0) p) (bit_xor (get_or m (r + 1) 0) p) both.0 in
-      let high = or-none (bit_xor (get_or m (r + 2) 0) p) (bit_xor (get_or m (r + 3) 0) p) both.1 in
-      let one = alike-more r h (xor-none _ p low.0) in
-      let two : WordsAlike m p w (r + 2) = λ i u v. alike-more (r + 1) one (xor-none _ p low.1) i u (omega arith) in
-      let three : WordsAlike m p w (r + 3) = λ i u v. alike-more (r + 2) two (xor-none _ p high.0) i u (omega arith) in
-      λ i u v. alike-more (r + 3) three (xor-none _ p high.1) i u (omega arith)
+  alike_four r h z =
+      let both = or_none_lem (bit_or (bit_xor (get_or m r 0) p) (bit_xor (get_or m (r + 1) 0) p)) (bit_or (bit_xor (get_or m (r + 2) 0) p) (bit_xor (get_or m (r + 3) 0) p)) z in
+      let low = or_none_lem (bit_xor (get_or m r 0) p) (bit_xor (get_or m (r + 1) 0) p) both.0 in
+      let high = or_none_lem (bit_xor (get_or m (r + 2) 0) p) (bit_xor (get_or m (r + 3) 0) p) both.1 in
+      let one = alike_more r h (xor_none _ p low.0) in
+      let two : WordsAlike m p w (r + 2) = λ i u v. alike_more (r + 1) one (xor_none _ p low.1) i u (omega arith) in
+      let three : WordsAlike m p w (r + 3) = λ i u v. alike_more (r + 2) two (xor_none _ p high.0) i u (omega arith) in
+      λ i u v. alike_more (r + 3) three (xor_none _ p high.1) i u (omega arith)
 
   -- the first that is not
-  pub unlike-here : (e r x : ℕ) → w ≤ r → r < e → WordsAlike m p w r → x ≡ get_or m r 0 → (x ≡ p → ⊥) → FirstUnlike m p w e r x
-  unlike-here e r x f l h q n = record { from = f; before = h; found = λ _. (l, q); none = λ z. absurd (n z) }
+  pub unlike_here : (e r x : ℕ) → w ≤ r → r < e → WordsAlike m p w r → x ≡ get_or m r 0 → (x ≡ p → ⊥) → FirstUnlike m p w e r x
+  unlike_here e r x f l h q n = record { from = f; before = h; found = λ _. (l, q); none = λ z. absurd (n z) }
 
-  pub unlike-none : (e : ℕ) → w ≤ e → WordsAlike m p w e → FirstUnlike m p w e e p
-  unlike-none e f h = record { from = f; before = h; found = λ n. absurd (n refl); none = λ _. refl }
+  pub unlike_none : (e : ℕ) → w ≤ e → WordsAlike m p w e → FirstUnlike m p w e e p
+  unlike_none e f h = record { from = f; before = h; found = λ n. absurd (n refl); none = λ _. refl }
 
-  pub unlike-on : (e v r x : ℕ) → w ≤ v → WordsAlike m p w v → FirstUnlike m p v e r x → FirstUnlike m p w e r x
-  unlike-on e v r x f h q =
+  pub unlike_on : (e v r x : ℕ) → w ≤ v → WordsAlike m p w v → FirstUnlike m p v e r x → FirstUnlike m p w e r x
+  unlike_on e v r x f h q =
       let g = q.from in
       record {
         from = omega arith;
-        before = λ i u z. ⊎_elim (λ k. q.before i k z) (λ k. h i u k) (le-or-lt v i);
+        before = λ i u z. ⊎_elim (λ k. q.before i k z) (λ k. h i u k) (le_or_lt v i);
         found = q.found;
         none = q.none;
       }
 
 -- ---- the map at the beginning
 
-pub word-all : (a n : ℕ) → a + 64 ≤ n → WordAt a n 0xffff_ffff_ffff_ffff
-word-all a n h j u = all_ones j (omega arith) ∙ sym (ap bit (lt-ltb (a + j) n (omega arith)))
+pub word_all : (a n : ℕ) → a + 64 ≤ n → WordAt a n 0xffff_ffff_ffff_ffff
+word_all a n h j u = all_ones j (omega arith) ∙ sym (ap bit (lt-ltb (a + j) n (omega arith)))
 
 -- the first w words say that the tracks below n are free
 abbrev pub Upto : List ℕ → ℕ → ℕ → Type 0
 Upto m w n = (t : ℕ) → t < 64 * w → free_bit m t ≡ bit (ltb t n)
 
-pub upto-more : (m : List ℕ) (w n r : ℕ) → w < length m → Upto m w n → WordAt (w * 64) n r → Upto (set m w r) (w + 1) n
-upto-more m w n r h p q t u =
+pub upto_more : (m : List ℕ) (w n r : ℕ) → w < length m → Upto m w n → WordAt (w * 64) n r → Upto (set m w r) (w + 1) n
+upto_more m w n r h p q t u =
     ⊎_elim
     (λ g.
     let e : w * 64 + t % 64 ≡ t = omega arith in
     store_in m w r t h (omega arith) ∙ q (t % 64) (omega arith) ∙ ap (λ (x : ℕ). bit (ltb x n)) e)
-    (λ g. store-off m w r t (λ z. absurd (omega arith)) ∙ p t g)
-    (le-or-lt (64 * w) t)
+    (λ g. store_off m w r t (λ z. absurd (omega arith)) ∙ p t g)
+    (le_or_lt (64 * w) t)
 
 -- w words of ones cover n tracks
-pub upto-ones : (m : List ℕ) (w l n : ℕ) → w ≤ l → n ≤ 64 * w → Upto m w (64 * l) → (t : ℕ) → t < n → free_bit m t ≡ 1
-upto-ones m w l n h k p t u = p t (omega arith) ∙ ap bit (lt-ltb t (64 * l) (omega arith))
+pub upto_ones : (m : List ℕ) (w l n : ℕ) → w ≤ l → n ≤ 64 * w → Upto m w (64 * l) → (t : ℕ) → t < n → free_bit m t ≡ 1
+upto_ones m w l n h k p t u = p t (omega arith) ∙ ap bit (lt-ltb t (64 * l) (omega arith))
 
 -- ---- tracks that lie in one word
 
@@ -345,27 +345,27 @@ module _ (m : List ℕ) (s e q : ℕ) (h : s / 64 < length m) (u : s < e) (k : s
   ends : s + (e - s) ≡ e
   ends = omega arith
 
-  as-mask : bit_and (get_or m (s / 64) 0) q ≡ q → bit_and (get_or m (s / 64) 0) (mask s (e - s)) ≡ mask s (e - s)
-  as-mask z = ap (bit_and (get_or m (s / 64) 0)) (sym is) ∙ z ∙ is
+  as_mask : bit_and (get_or m (s / 64) 0) q ≡ q → bit_and (get_or m (s / 64) 0) (mask s (e - s)) ≡ mask s (e - s)
+  as_mask z = ap (bit_and (get_or m (s / 64) 0)) (sym is) ∙ z ∙ is
 
-  pub took-word : bit_and (get_or m (s / 64) 0) q ≡ q → Taken m (set m (s / 64) (bit_xor (get_or m (s / 64) 0) q)) s e true
-  took-word z = record {
+  pub took_word : bit_and (get_or m (s / 64) 0) q ≡ q → Taken m (set m (s / 64) (bit_xor (get_or m (s / 64) 0) q)) s e true
+  took_word z = record {
     long = length-set m (s / 64) (bit_xor (get_or m (s / 64) 0) q);
-    were = λ _. subst (AllFree m s) ends (all-free m s (e - s) h k (as-mask z));
+    were = λ _. subst (AllFree m s) ends (all_free_lem m s (e - s) h k (as_mask z));
     made = λ _. subst (λ (y : ℕ). Made 0 m (set m (s / 64) (bit_xor (get_or m (s / 64) 0) y)) s e) (sym is)
-        (subst (Made 0 m (set m (s / 64) (bit_xor (get_or m (s / 64) 0) (mask s (e - s)))) s) ends (take_chunk m s (e - s) h k (as-mask z)));
+        (subst (Made 0 m (set m (s / 64) (bit_xor (get_or m (s / 64) 0) (mask s (e - s)))) s) ends (take_chunk m s (e - s) h k (as_mask z)));
     hit = λ r. clash refl r;
   }
 
-  pub took-none : (bit_and (get_or m (s / 64) 0) q ≡ q → ⊥) → Taken m m s e false
-  took-none z = record {
+  pub took_none : (bit_and (get_or m (s / 64) 0) q ≡ q → ⊥) → Taken m m s e false
+  took_none z = record {
     long = refl;
     were = λ r. clash r refl;
     made = λ r. clash r refl;
-    hit = λ _. hit-chunk m s (e - s) h k e (omega arith) (λ y. z (ap (bit_and (get_or m (s / 64) 0)) is ∙ y ∙ sym is));
+    hit = λ _. hit_chunk m s (e - s) h k e (omega arith) (λ y. z (ap (bit_and (get_or m (s / 64) 0)) is ∙ y ∙ sym is));
   }
 
   pub gave_word : Made 1 m (set m (s / 64) (bit_or (get_or m (s / 64) 0) q)) s e
   gave_word =
       subst (λ (y : ℕ). Made 1 m (set m (s / 64) (bit_or (get_or m (s / 64) 0) y)) s e) (sym is)
-      (subst (Made 1 m (set m (s / 64) (bit_or (get_or m (s / 64) 0) (mask s (e - s)))) s) ends (give-chunk m s (e - s) h k))
+      (subst (Made 1 m (set m (s / 64) (bit_or (get_or m (s / 64) 0) (mask s (e - s)))) s) ends (give_chunk m s (e - s) h k))

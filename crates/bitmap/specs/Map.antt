@@ -55,7 +55,7 @@ pub record Taken (m m' : List ℕ) (s e : ℕ) (r : Bool) : Type 0 where
   pub made : r ≡ true → Made 0 m m' s e
   pub hit : r ≡ false → Hit m s e
 
--- Giving them back asks nothing of their bits: that they were held is the caller's to know (`shows-give`).
+-- Giving them back asks nothing of their bits: that they were held is the caller's to know (`shows_give`).
 abbrev pub Given : List ℕ → List ℕ → ℕ → ℕ → Type 0
 Given m m' s e = Made 1 m m' s e
 

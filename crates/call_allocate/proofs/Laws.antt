@@ -10,20 +10,20 @@ use Rattle.open_table.specs.declared.Opening.{Opening}
 use Rattle.model.specs.Basics.{map_option}
 use Rattle.model.specs.Choice.{SpaceOption}
 use Rattle.model.specs.Model.{Geometry, Volume}
-use Rattle.model.proofs.Lists.{and_l, and_r, true-is}
+use Rattle.model.proofs.Lists.{and_l, and_r, true_is}
 use Rattle.rules.specs.Calls.{Amount, Call, Outcome, Request, allocate, allocate_stored, amount_of, dated, given, in_range, on_copy, option_for, preview, request, rule, with_attributes}
 use Rattle.rules.specs.Dates.{expiry_from, with_expiry}
 use Rattle.rules.specs.Entries.{Lent, lent, perform, result_of, written}
 use Rattle.rules.specs.Reading.{read}
 use Rattle.rules.specs.Table.{good_name}
-use Rattle.rules.proofs.Dates.{expiry-long}
+use Rattle.rules.proofs.Dates.{expiry_long}
 use Rattle.dscb.specs.Forms.{geometry_of}
 use Rattle.open_table.specs.Opening.{Known, KnownMaps, Opened}
-use Rattle.open_table.proofs.Calls.{AsksTable, answer-long, arguments-long, passed, preview-table}
+use Rattle.open_table.proofs.Calls.{AsksTable, answer_long, arguments_long, passed, preview_table}
 use Rattle.open_table.proofs.Numbers.{known}
 use Rattle.grant_space.specs.Asking.{Asking, Chooses, Foresees, choice}
 use Rattle.call_allocate.specs.Vetting.{Vets}
-use Rattle.call_allocate.proofs.Vetted.{choice-is, in-range}
+use Rattle.call_allocate.proofs.Vetted.{choice_is, in_range_lem}
 
 module _ (t name at : List ℕ) (kind start amount sec option : ℕ) (expiry a : List ℕ) (ok : Bool)
     (lengths : ok ≡ (eqb (length a) 24 && (eqb (length name) 44 && eqb (length at) 52 && eqb (length expiry) 4))) where
@@ -44,7 +44,7 @@ module _ (t name at : List ℕ) (kind start amount sec option : ℕ) (expiry a :
   allocates = record { lengths = lengths; rules = λ v. refl }
 
   pub previews : AsksTable b (preview call) ok (good_name name) (λ v. on_copy v (own v))
-  previews = preview-table allocates
+  previews = preview_table allocates
 
   module _ {o : Opening} (x : Opened t ok (good_name name) o) (z : o.refusal ≡ 0) where
     abbrev g : Geometry
@@ -54,10 +54,10 @@ module _ (t name at : List ℕ) (kind start amount sec option : ℕ) (expiry a :
     w = known x z
 
     arguments : T (eqb (length name) 44 && eqb (length at) 52 && eqb (length expiry) 4)
-    arguments = arguments-long allocates x z
+    arguments = arguments_long allocates x z
 
-    pub attributes-fit : length at ≡ 52
-    attributes-fit = let y = arguments in eqb→eq (length at) 52 (search (and_l, and_r) depth 4)
+    pub attributes_fit : length at ≡ 52
+    attributes_fit = let y = arguments in eqb→eq (length at) 52 (search (and_l, and_r) depth 4)
 
     -- ---- by the date: none, or its stored form s
 
@@ -65,31 +65,31 @@ module _ (t name at : List ℕ) (kind start amount sec option : ℕ) (expiry a :
       abbrev behind : Volume → Outcome
       behind v = given (map_option (λ s. with_attributes asked (with_expiry s at)) d) 14 (allocate_stored v)
 
-      on-date : own (read t) ≡ behind (read t)
-      on-date = ap (λ (u : Option (List ℕ)). given (map_option (λ s. with_attributes asked (with_expiry s at)) u) 14 (allocate_stored (read t))) date
+      on_date : own (read t) ≡ behind (read t)
+      on_date = ap (λ (u : Option (List ℕ)). given (map_option (λ s. with_attributes asked (with_expiry s at)) u) 14 (allocate_stored (read t))) date
 
-      by-date : (n : ℕ) (b' : Lent) → result_of n b' ≡ written b (behind (read t)) → result_of n b' ≡ perform b call
-      by-date n b' e = passed allocates x z n b' (e ∙ sym (ap (written b) on-date))
+      by_date : (n : ℕ) (b' : Lent) → result_of n b' ≡ written b (behind (read t)) → result_of n b' ≡ perform b call
+      by_date n b' e = passed allocates x z n b' (e ∙ sym (ap (written b) on_date))
 
-      preview-by-date : (n : ℕ) (b' : Lent) → result_of n b' ≡ written b (on_copy (read t) (behind (read t))) → result_of n b' ≡ perform b (preview call)
-      preview-by-date n b' e = passed previews x z n b' (e ∙ sym (ap (λ (u : Outcome). written b (on_copy (read t) u)) on-date))
+      preview_by_date : (n : ℕ) (b' : Lent) → result_of n b' ≡ written b (on_copy (read t) (behind (read t))) → result_of n b' ≡ perform b (preview call)
+      preview_by_date n b' e = passed previews x z n b' (e ∙ sym (ap (λ (u : Outcome). written b (on_copy (read t) u)) on_date))
 
-    pub no-date : expiry_from expiry ≡ none → result_of 14 b ≡ perform b call
-    no-date date = by-date none date 14 b refl
+    pub no_date_lem : expiry_from expiry ≡ none → result_of 14 b ≡ perform b call
+    no_date_lem date = by_date none date 14 b refl
 
-    pub preview-no-date : expiry_from expiry ≡ none → result_of 14 b ≡ perform b (preview call)
-    preview-no-date date = preview-by-date none date 14 b refl
+    pub preview_no_date : expiry_from expiry ≡ none → result_of 14 b ≡ perform b (preview call)
+    preview_no_date date = preview_by_date none date 14 b refl
 
     module _ (s : List ℕ) (date : expiry_from expiry ≡ some s) where
       abbrev at' : List ℕ
       at' = with_expiry s at
 
       module _ {r : ℕ} (y : Vets t name kind start amount sec option r) where
-        pub refused-so : (r ≡ 0 → ⊥) → result_of r b ≡ perform b call
-        refused-so nz = by-date (some s) date r b (sym (ap (written b) (y.refused nz at' expiry)))
+        pub refused_so : (r ≡ 0 → ⊥) → result_of r b ≡ perform b call
+        refused_so nz = by_date (some s) date r b (sym (ap (written b) (y.refused nz at' expiry)))
 
-        pub preview-refused : (r ≡ 0 → ⊥) → result_of r b ≡ perform b (preview call)
-        preview-refused nz = preview-by-date (some s) date r b (sym (ap (λ (u : Outcome). written b (on_copy (read t) u)) (y.refused nz at' expiry)))
+        pub preview_refused : (r ≡ 0 → ⊥) → result_of r b ≡ perform b (preview call)
+        preview_refused nz = preview_by_date (some s) date r b (sym (ap (λ (u : Outcome). written b (on_copy (read t) u)) (y.refused nz at' expiry)))
 
         module _ (none : r ≡ 0) (q : Amount) (told : some q ≡ amount_of kind start amount) (by : SpaceOption) (by-told : some by ≡ option_for q option) (sec' : ℕ) (same : sec' ≡ sec) where
           -- of the request with its date among the attributes, wherever these stand
@@ -102,21 +102,21 @@ module _ (t name at : List ℕ) (kind start amount sec option : ℕ) (expiry a :
                 shown = u.shown;
                 map_fits = u.map_fits;
                 long_slots = u.long_slots;
-                long_answer = answer-long allocates x z;
+                long_answer = answer_long allocates x z;
                 long_name = eqb→eq (length name) 44 (search (and_l, and_r) depth 4);
-                long_attributes = ap length eds ∙ expiry-long expiry s at date attributes-fit;
-                name_good = true-is w.names_good;
+                long_attributes = ap length eds ∙ expiry_long expiry s at date attributes_fit;
+                name_good = true_is w.names_good;
                 name_new = y.new none;
-                ranges = true-is (ap (λ (i : Geometry). in_range i sec' q) w.geometry_is ∙ in-range t name kind start amount sec option y none q told by by-told sec' same);
+                ranges = true_is (ap (λ (i : Geometry). in_range i sec' q) w.geometry_is ∙ in_range_lem t name kind start amount sec option y none q told by by-told sec' same);
               }
 
           chosen : choice t name at' by q sec' ≡ allocate_stored (read t) (with_attributes asked at')
-          chosen = sym (choice-is t name kind start amount sec option y none q told by by-told sec' same at' expiry)
+          chosen = sym (choice_is t name kind start amount sec option y none q told by by-told sec' same at' expiry)
 
           pub placed : (ds : List ℕ) → ds ≡ at' → (n : ℕ) (t' a' : List ℕ) → Chooses t name ds a by q sec' n t' a' → result_of n (lent t' a' []) ≡ perform b call
           placed ds eds n t' a' u =
-              by-date (some s) date n (lent t' a' []) (u ∙ ap (λ (d : List ℕ). written b (choice t name d by q sec')) eds ∙ ap (written b) chosen)
+              by_date (some s) date n (lent t' a' []) (u ∙ ap (λ (d : List ℕ). written b (choice t name d by q sec')) eds ∙ ap (written b) chosen)
 
           pub foreseen : (n : ℕ) (a' : List ℕ) → Foresees t name at' a by q sec' n a' → result_of n (lent t a' []) ≡ perform b (preview call)
           foreseen n a' u =
-              preview-by-date (some s) date n (lent t a' []) (u ∙ ap (λ (o : Outcome). written b (on_copy (read t) o)) chosen)
+              preview_by_date (some s) date n (lent t a' []) (u ∙ ap (λ (o : Outcome). written b (on_copy (read t) o)) chosen)

@@ -18,16 +18,16 @@ module _ (c : DateCall) (o : Option (List ℕ)) (rules : date_outcome c ≡ give
   by_lengths long right l d =
       ap₂ (λ (b : Bool) (u : Outcome). written (lent [] a []) (unless b 2 u)) (ap₂ ◌&&◌ l d) rules
 
-  pub answer-short : (length a ≡ 24 → ⊥) → ConvertsDate c [] a [] 2 [] a []
-  answer-short h = sym (by_lengths false (date_lengths c) (ne_eqb (length a) 24 h) refl)
+  pub answer_short : (length a ≡ 24 → ⊥) → ConvertsDate c [] a [] 2 [] a []
+  answer_short h = sym (by_lengths false (date_lengths c) (ne_eqb (length a) 24 h) refl)
 
   module _ (l : length a ≡ 24) where
-    pub date-short : date_lengths c ≡ false → ConvertsDate c [] a [] 2 [] a []
-    date-short d = sym (by_lengths true false (eq-eqb (length a) 24 l) d)
+    pub date_short : date_lengths c ≡ false → ConvertsDate c [] a [] 2 [] a []
+    date_short d = sym (by_lengths true false (eq-eqb (length a) 24 l) d)
 
     module _ (d : date_lengths c ≡ true) where
-      pub no-date : o ≡ none → ConvertsDate c [] a [] 14 [] a []
-      no-date n =
+      pub no_date_lem : o ≡ none → ConvertsDate c [] a [] 14 [] a []
+      no_date_lem n =
           sym (by_lengths true true (eq-eqb (length a) 24 l) d ∙ ap (λ (u : Option (List ℕ)). written (lent [] a []) (given u 14 (λ bs. tell (date_bytes bs)))) n)
 
       pub told : (bs : List ℕ) → o ≡ some bs → (a' : List ℕ) → a' ≡ answer (date_bytes bs) → ConvertsDate c [] a [] 0 [] a' []

@@ -11,7 +11,7 @@ use Rattle.rules.specs.Entries.{lent}
 use Rattle.rules.specs.Table.{good_name}
 use Rattle.dscb.specs.Forms.{geometry_of}
 use Rattle.open_table.specs.Opening.{KnownAt}
-use Rattle.open_table.proofs.Calls.{AsksSet, preview-set}
+use Rattle.open_table.proofs.Calls.{AsksSet, preview_set}
 use Rattle.grant_space.specs.Longer.{Longer}
 
 module _ (t a name : List ℕ) (ok : Bool) (lengths : ok ≡ (eqb (length a) 24 && eqb (length name) 44)) where
@@ -20,7 +20,7 @@ module _ (t a name : List ℕ) (ok : Bool) (lengths : ok ≡ (eqb (length a) 24 
   extends = record { lengths = lengths; rules = λ v. refl }
 
   pub previews : AsksSet (lent t a []) (preview (extend name)) ok (good_name name) name (λ v l. on_copy v (extend_set v name l))
-  previews = preview-set extends
+  previews = preview_set extends
 
 abbrev pub longer : {t name m s : List ℕ} {r : SetOpening} (a : List ℕ) → KnownAt t name m s r → length a ≡ 24 → Longer t m s a (geometry_of r.geometry) r.slot
 longer {name = name} a w long =

@@ -16,10 +16,10 @@ use Rattle.model.specs.Predicates.{All}
 use Rattle.rules.specs.Calls.{answer, inquire, longest, lspace, numbers, rule, space_numbers}
 use Rattle.rules.specs.Entries.{lent, perform, result_of}
 use Rattle.rules.specs.Reading.{read}
-use Rattle.bitmap.proofs.Bits.{le-or-lt}
+use Rattle.bitmap.proofs.Bits.{le_or_lt}
 use Rattle.dscb.specs.Forms.{geometry_of}
 use Rattle.free_extents.specs.FreeList.{Listed}
-use Rattle.free_extents.proofs.Chain.{runs-listed}
+use Rattle.free_extents.proofs.Chain.{runs_listed}
 use Rattle.open_table.specs.Opening.{Opened}
 use Rattle.open_table.proofs.Calls.{AsksTable, passed}
 use Rattle.open_table.proofs.Numbers.{known}
@@ -27,8 +27,8 @@ use Rattle.call_lspace.specs.Totals.{Below, Summed, none}
 
 -- ---- the sums
 
-pub summed-empty : (h : ℕ) (f : List Run) (s : Sums) → f ≡ [] → Summed h f s s
-summed-empty h f s e =
+pub summed_empty : (h : ℕ) (f : List Run) (s : Sums) → f ≡ [] → Summed h f s s
+summed_empty h f s e =
     let a : sum_of (λ x. x.count / h) f ≡ 0 = ap (λ (y : List Run). sum_of (λ x. x.count / h) y) e in
     let b : sum_of (λ x. x.count % h) f ≡ 0 = ap (λ (y : List Run). sum_of (λ x. x.count % h) y) e in
     let c : length f ≡ 0 = ap length e in
@@ -36,9 +36,9 @@ summed-empty h f s e =
     record { cylinders = omega arith; odd = omega arith; many = omega arith; long = omega arith }
 
 -- the free extents f, of which x is the first
-pub summed-next : (h : ℕ) (x : Run) (f rest : List Run) (s u r : Sums) → f ≡ x ∷ rest → u.cylinders ≡ s.cylinders + x.count / h → u.odd ≡ s.odd + x.count % h → u.many ≡ s.many + 1
+pub summed_next : (h : ℕ) (x : Run) (f rest : List Run) (s u r : Sums) → f ≡ x ∷ rest → u.cylinders ≡ s.cylinders + x.count / h → u.odd ≡ s.odd + x.count % h → u.many ≡ s.many + 1
     → u.long ≡ max s.long x.count → Summed h rest u r → Summed h f s r
-summed-next h x f rest s u r e ec eo em el y =
+summed_next h x f rest s u r e ec eo em el y =
     let a : sum_of (λ x. x.count / h) f ≡ x.count / h + sum_of (λ x. x.count / h) rest = ap (λ (y : List Run). sum_of (λ x. x.count / h) y) e in
     let b : sum_of (λ x. x.count % h) f ≡ x.count % h + sum_of (λ x. x.count % h) rest = ap (λ (y : List Run). sum_of (λ x. x.count % h) y) e in
     let c : length f ≡ suc (length rest) = ap length e in
@@ -50,24 +50,24 @@ summed-next h x f rest s u r e ec eo em el y =
       long = let z = y.long in omega arith;
     }
 
-long-append : (f g : List Run) → longest (f ++ g) ≡ max (longest f) (longest g)
-long-append [] g = omega arith
-long-append (x ∷ f) g = let i = long-append f g in omega arith
+long_append : (f g : List Run) → longest (f ++ g) ≡ max (longest f) (longest g)
+long_append [] g = omega arith
+long_append (x ∷ f) g = let i = long_append f g in omega arith
 
-sum-append : (F : Run → ℕ) (f g : List Run) → sum_of F (f ++ g) ≡ sum_of F f + sum_of F g
-sum-append F [] g = omega arith
-sum-append F (x ∷ f) g = let i = sum-append F f g in omega arith
+sum_append : (F : Run → ℕ) (f g : List Run) → sum_of F (f ++ g) ≡ sum_of F f + sum_of F g
+sum_append F [] g = omega arith
+sum_append F (x ∷ f) g = let i = sum_append F f g in omega arith
 
 -- the first k of f, and the others
-pub summed-more : (h k : ℕ) (f : List Run) (s u r : Sums) → Summed h (take k f) s u → Summed h (drop k f) u r → Summed h f s r
-summed-more h k f s u r x y =
+pub summed_more : (h k : ℕ) (f : List Run) (s u r : Sums) → Summed h (take k f) s u → Summed h (drop k f) u r → Summed h f s r
+summed_more h k f s u r x y =
     let e = take-append-drop k f in
     let a : sum_of (λ x. x.count / h) f ≡ sum_of (λ x. x.count / h) (take k f) + sum_of (λ x. x.count / h) (drop k f)
-    = ap (λ (y : List Run). sum_of (λ x. x.count / h) y) (sym e) ∙ sum-append (λ x. x.count / h) (take k f) (drop k f) in
+    = ap (λ (y : List Run). sum_of (λ x. x.count / h) y) (sym e) ∙ sum_append (λ x. x.count / h) (take k f) (drop k f) in
     let b : sum_of (λ x. x.count % h) f ≡ sum_of (λ x. x.count % h) (take k f) + sum_of (λ x. x.count % h) (drop k f)
-    = ap (λ (y : List Run). sum_of (λ x. x.count % h) y) (sym e) ∙ sum-append (λ x. x.count % h) (take k f) (drop k f) in
+    = ap (λ (y : List Run). sum_of (λ x. x.count % h) y) (sym e) ∙ sum_append (λ x. x.count % h) (take k f) (drop k f) in
     let c : length f ≡ length (take k f) + length (drop k f) = ap length (sym e) ∙ length-append (take k f) (drop k f) in
-    let d : longest f ≡ max (longest (take k f)) (longest (drop k f)) = ap (λ (y : List Run). longest y) (sym e) ∙ long-append (take k f) (drop k f) in
+    let d : longest f ≡ max (longest (take k f)) (longest (drop k f)) = ap (λ (y : List Run). longest y) (sym e) ∙ long_append (take k f) (drop k f) in
     record {
       cylinders = let z = x.cylinders in let w = y.cylinders in omega arith;
       odd = let z = x.odd in let w = y.odd in omega arith;
@@ -90,9 +90,9 @@ below_more m n s h b = record {
 }
 
 -- one entry more, of c tracks
-pub sums-below : (n j c h : ℕ) (s u : Sums) → c ≤ 16711680 → 16711680 ≤ n → u.cylinders ≡ s.cylinders + c / h → u.odd ≡ s.odd + c % h → u.many ≡ s.many + 1 → u.long ≡ max s.long c
+pub sums_below : (n j c h : ℕ) (s u : Sums) → c ≤ 16711680 → 16711680 ≤ n → u.cylinders ≡ s.cylinders + c / h → u.odd ≡ s.odd + c % h → u.many ≡ s.many + 1 → u.long ≡ max s.long c
     → Below (n + j * 16711680) s → Below (n + (j + 1) * 16711680) u
-sums-below n j c h s u k l ec eo em el b =
+sums_below n j c h s u k l ec eo em el b =
     let q = div-le_self c h in
     let w = mod-le c h in
     record {
@@ -123,15 +123,15 @@ module _ (h : ℕ) where
       let z2 : length f ≡ 0 = ap length e in
       let z3 : longest f ≡ 0 = ap (λ (y : List Run). longest y) e in
       (omega arith, omega arith, omega arith, omega arith))
-      (le-or-lt (suc (x.start + x.count)) hi)
+      (le_or_lt (suc (x.start + x.count)) hi)
     where
       last : (f : List Run) → Separate (suc (x.start + x.count)) hi f → hi < suc (x.start + x.count) → f ≡ []
       last [] s k = refl
       last (y ∷ f) s k = absurd (let a = s.0 in let b = s.1 in let c = s.2 in omega arith)
 
 module _ (h : ℕ) (f : List Run) (s : Sums) (x : Summed h f none s) where
-  pub six-numbers : (e : ℕ) → (s.cylinders ∷ s.odd ∷ s.many ∷ s.long / h ∷ s.long % h ∷ e ∷ []) ≡ space_numbers h f e
-  six-numbers e =
+  pub six_numbers : (e : ℕ) → (s.cylinders ∷ s.odd ∷ s.many ∷ s.long / h ∷ s.long % h ∷ e ∷ []) ≡ space_numbers h f e
+  six_numbers e =
       let ec : s.cylinders ≡ sum_of (λ r. r.count / h) f = let y = x.cylinders in omega arith in
       let eo : s.odd ≡ sum_of (λ r. r.count % h) f = let y = x.odd in omega arith in
       let ek : s.many ≡ length f = let y = x.many in omega arith in
@@ -139,8 +139,8 @@ module _ (h : ℕ) (f : List Run) (s : Sums) (x : Summed h f none s) where
       λ i. ec i ∷ eo i ∷ ek i ∷ el i / h ∷ el i % h ∷ e ∷ []
 
   -- each fits two bytes
-  pub six-small : (n : ℕ) → Separate 0 n f → n ≤ 65535 → Below 65535 s
-  six-small n a u =
+  pub six_small : (n : ℕ) → Separate 0 n f → n ≤ 65535 → Below 65535 s
+  six_small n a u =
       let b = bounded h 0 n f a (omega arith) in
       let b0 = b.0 in
       let b1 = b.1 in
@@ -165,20 +165,20 @@ all_small h e s x w =
 
 -- ---- the call
 
-and-true : (b : Bool) → b ≡ (b && true)
-and-true true = refl
-and-true false = refl
+and_true : (b : Bool) → b ≡ (b && true)
+and_true true = refl
+and_true false = refl
 
 module _ (t a : List ℕ) (ok : Bool) (long : ok ≡ eqb (length a) 24) where
   pub inquires : AsksTable (lent t a []) lspace ok true inquire
   unfolding rule
-  inquires = record { lengths = long ∙ and-true (eqb (length a) 24); rules = λ v. refl }
+  inquires = record { lengths = long ∙ and_true (eqb (length a) 24); rules = λ v. refl }
 
   module _ {o : Opening} (x : Opened t ok true o) (z : o.refusal ≡ 0) where
     pub lists : Listed (geometry_of o.geometry) t (free (read t).geometry (read t).labels)
     lists =
         let w = known x z in
-        subst (λ (y : Geometry). Listed y t (free (read t).geometry (read t).labels)) (sym w.geometry_is) (runs-listed t (read t) w.ready.sound)
+        subst (λ (y : Geometry). Listed y t (free (read t).geometry (read t).labels)) (sym w.geometry_is) (runs_listed t (read t) w.ready.sound)
 
     pub inquired : (six a' : List ℕ) → ((f : List Run) → Listed (geometry_of o.geometry) t f → six ≡ space_numbers (geometry_of o.geometry).heads f o.format0s) → a' ≡ answer (numbers six)
         → result_of 0 (lent t a' []) ≡ perform (lent t a []) lspace

@@ -22,20 +22,20 @@ use Rattle.dscb.specs.Records.{put_record, slot_bytes}
 use Rattle.names.specs.Find.{find_slot, in_slot}
 use Rattle.dscb.specs.Forms.{geometry_of, linked_slot}
 use Rattle.open_table.specs.Opening.{LabelIn, Opened}
-use Rattle.open_table.proofs.Calls.{AsksSet, arguments-long, asks, done, found_at}
-use Rattle.open_table.proofs.Laws.{third-is}
+use Rattle.open_table.proofs.Calls.{AsksSet, arguments_long, asks, done, found_at}
+use Rattle.open_table.proofs.Laws.{third_is}
 use Rattle.open_table.proofs.Numbers.{known}
 use Rattle.call_obtain.specs.Third.{or_zeros}
 
 -- ---- the bytes
 
-pub obtain-no-third : (t : List ℕ) (q : ℕ) → q ≡ 0 → zeros 140 ≡ or_zeros t q
+pub obtain_no_third : (t : List ℕ) (q : ℕ) → q ≡ 0 → zeros 140 ≡ or_zeros t q
 unfolding or_zeros
-obtain-no-third t q e = rw (eq-eqb q 0 e)
+obtain_no_third t q e = rw (eq-eqb q 0 e)
 
-pub obtain-third : (t : List ℕ) (q : ℕ) → (q ≡ 0 → ⊥) → slot_bytes t q ≡ or_zeros t q
+pub obtain_third : (t : List ℕ) (q : ℕ) → (q ≡ 0 → ⊥) → slot_bytes t q ≡ or_zeros t q
 unfolding or_zeros
-obtain-third t q e = rw (ne_eqb q 0 e)
+obtain_third t q e = rw (ne_eqb q 0 e)
 
 -- two records fill 280 bytes
 pub two_records : (o a b : List ℕ) → length o ≡ 280 → length a ≡ 140 → length b ≡ 140 → put_record (put_record o 0 a) 1 b ≡ a ++ b
@@ -46,18 +46,18 @@ two_records o a b l la lb =
     ap₂ (λ (x y : List ℕ). x ++ (b ++ y)) (take_at a rest 140 la) (drop_of_length-le (a ++ rest) {i = 280} (omega arith)) ∙ ap (λ (x : List ℕ). a ++ x) (append-nil b)
 
 -- as they are copied: the format 1 in slot k, and what slot q holds, which it names
-pub two-filled : (g : Geometry) (t : List ℕ) (k : ℕ) (o rec o₁ a b : List ℕ) (q : ℕ) → length o ≡ 280 → length a ≡ 140 → length b ≡ 140 → rec ≡ slot_bytes t k → a ≡ rec → q ≡ linked_slot g rec
+pub two_filled : (g : Geometry) (t : List ℕ) (k : ℕ) (o rec o₁ a b : List ℕ) (q : ℕ) → length o ≡ 280 → length a ≡ 140 → length b ≡ 140 → rec ≡ slot_bytes t k → a ≡ rec → q ≡ linked_slot g rec
     → b ≡ or_zeros t q → o₁ ≡ put_record o 0 a → put_record o₁ 1 b ≡ slot_bytes t k ++ or_zeros t (linked_slot g (slot_bytes t k))
-two-filled g t k o rec o₁ a b q lo la lb er ea eq eb eo =
+two_filled g t k o rec o₁ a b q lo la lb er ea eq eb eo =
     ap (λ (x : List ℕ). put_record x 1 b) eo
     ∙ two_records o a b lo la lb
     ∙ ap₂ (λ (x y : List ℕ). x ++ y) (ea ∙ er) (eb ∙ ap (or_zeros t) (eq ∙ ap (λ (x : List ℕ). linked_slot g x) er))
 
-label-bytes : (t : List ℕ) (g : Geometry) (n : List ℕ) (l : Label) → Limits g → LabelIn t g n l
+label_bytes : (t : List ℕ) (g : Geometry) (n : List ℕ) (l : Label) → Limits g → LabelIn t g n l
     → slot_bytes t l.slot ++ or_zeros t (linked_slot g (slot_bytes t l.slot)) ≡ format1 g l ++ cond (eqb l.slot3 0) (zeros 140) (format3 g l)
 unfolding or_zeros
-label-bytes t g n l lim x =
-    ap₂ (λ (a b : List ℕ). a ++ b) x.one (ap (λ (q : ℕ). cond (eqb q 0) (zeros 140) (slot_bytes t q)) (third-is t g n l lim x) ∙ go l.slot3 x.three)
+label_bytes t g n l lim x =
+    ap₂ (λ (a b : List ℕ). a ++ b) x.one (ap (λ (q : ℕ). cond (eqb q 0) (zeros 140) (slot_bytes t q)) (third_is t g n l lim x) ∙ go l.slot3 x.three)
   where
     go : (q : ℕ) → (1 ≤ q → slot_bytes t q ≡ format3 g l) → cond (eqb q 0) (zeros 140) (slot_bytes t q) ≡ cond (eqb q 0) (zeros 140) (format3 g l)
     go zero h = refl
@@ -71,8 +71,8 @@ module _ (t name l a : List ℕ) (ok : Bool) (long : ok ≡ (eqb (length a) 24 &
   obtains = record { lengths = long; rules = λ v. refl }
 
   module _ {o : Opening} (x : Opened t ok (good_name name) o) (z : o.refusal ≡ 0) where
-    pub labels-long : length l ≡ 280
-    labels-long = eqb→eq (length l) 280 (and_r (eqb (length name) 44) _ (arguments-long (asks obtains) x z))
+    pub labels_long : length l ≡ 280
+    labels_long = eqb→eq (length l) 280 (and_r (eqb (length name) 44) _ (arguments_long (asks obtains) x z))
 
     pub obtained : (k : ℕ) → in_slot k ≡ find_slot t name (slots (geometry_of o.geometry)) → (l' a' : List ℕ)
         → l' ≡ slot_bytes t k ++ or_zeros t (linked_slot (geometry_of o.geometry) (slot_bytes t k)) → a' ≡ zeros 24
@@ -82,5 +82,5 @@ module _ (t name l a : List ℕ) (ok : Bool) (long : ok ≡ (eqb (length a) 24 &
         let f = found_at obtains x z k e in
         let m = f.label in
         let q : l' ≡ format1 (read t).geometry m ++ cond (eqb m.slot3 0) (zeros 140) (format3 (read t).geometry m)
-        = el ∙ ap₂ (λ (i : ℕ) (u : Geometry). slot_bytes t i ++ or_zeros t (linked_slot u (slot_bytes t i))) (sym f.slot) w.geometry_is ∙ label-bytes t (read t).geometry name m w.ready.limits f.records in
+        = el ∙ ap₂ (λ (i : ℕ) (u : Geometry). slot_bytes t i ++ or_zeros t (linked_slot u (slot_bytes t i))) (sym f.slot) w.geometry_is ∙ label_bytes t (read t).geometry name m w.ready.limits f.records in
         done obtains x z f 0 (lent t a' l') (λ i. result_of 0 (lent (w.ready.bytes i) (ea i) (q i)))

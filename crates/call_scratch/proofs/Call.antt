@@ -18,16 +18,16 @@ use Rattle.rules.specs.Entries.{Lent, lent, perform, result_of, written}
 use Rattle.rules.specs.Previews.{with_table}
 use Rattle.rules.specs.Reading.{read}
 use Rattle.rules.specs.Table.{good_name}
-use Rattle.rules.proofs.Expiry.{in-record}
-use Rattle.rules.proofs.Previews.{as-on-copy}
+use Rattle.rules.proofs.Expiry.{in_record}
+use Rattle.rules.proofs.Previews.{as_on_copy}
 use Rattle.dscb.specs.Forms.{geometry_of}
 use Rattle.dscb.specs.Records.{slot_bytes}
 use Rattle.names.specs.Find.{find_slot, in_slot, not_found}
 use Rattle.check_table.specs.Check.{Roomy}
 use Rattle.open_table.specs.Opening.{FoundAt, Mapped, Opened}
-use Rattle.open_table.proofs.Calls.{AsksSet, AsksTable, answer-long, asks, done, not_found_lem, passed, preview-set, refused}
-use Rattle.open_table.proofs.Lookup.{there, there-inside}
-use Rattle.open_table.proofs.Numbers.{known, known-maps}
+use Rattle.open_table.proofs.Calls.{AsksSet, AsksTable, answer_long, asks, done, not_found_lem, passed, preview_set, refused}
+use Rattle.open_table.proofs.Lookup.{there, there_inside}
+use Rattle.open_table.proofs.Numbers.{known, known_maps}
 use Rattle.call_scratch.specs.Expired.{Lengths, MayGo, OpensExpired}
 
 -- ---- the date of a record
@@ -39,8 +39,8 @@ overridden n h t k today = none (later (part 56 3 (slot_bytes t k)) today)
     none true = sym (ne_eqb n 0 h)
     none false = refl
 
-pub date-later : (n : ℕ) → n ≡ 0 → (rec slot today : List ℕ) (r : Bool) → rec ≡ slot → r ≡ later (part 56 3 rec) today → r ≡ (later (part 56 3 slot) today && eqb n 0)
-date-later n z rec slot today r q e = e ∙ ap (λ (x : List ℕ). later (part 56 3 x) today) q ∙ last (later (part 56 3 slot) today)
+pub date_later : (n : ℕ) → n ≡ 0 → (rec slot today : List ℕ) (r : Bool) → rec ≡ slot → r ≡ later (part 56 3 rec) today → r ≡ (later (part 56 3 slot) today && eqb n 0)
+date_later n z rec slot today r q e = e ∙ ap (λ (x : List ℕ). later (part 56 3 x) today) q ∙ last (later (part 56 3 slot) today)
   where
     last : (b : Bool) → b ≡ (b && eqb n 0)
     last true = sym (eq-eqb n 0 z)
@@ -48,16 +48,16 @@ date-later n z rec slot today r q e = e ∙ ap (λ (x : List ℕ). later (part 5
 
 module _ (t name today : List ℕ) (override : ℕ) (ok : Bool) where
   -- behind the name: today's date, and then the data set
-  on-table : (a : List ℕ) → Lengths name today a ok
+  on_table : (a : List ℕ) → Lengths name today a ok
       → AsksTable (lent t a []) (scratch name today override) ok (good_name name) (λ v. given (to_stored today) 14 (scratch_on v name override))
   unfolding rule
-  on-table a e = record { lengths = e; rules = λ v. refl }
+  on_table a e = record { lengths = e; rules = λ v. refl }
 
   module _ (stored : List ℕ) (date : to_stored today ≡ some stored) where
-    on-set : (a : List ℕ) → Lengths name today a ok
+    on_set : (a : List ℕ) → Lengths name today a ok
         → AsksSet (lent t a []) (scratch name today override) ok (good_name name) name (λ v. scratch_set v name stored override)
     unfolding rule
-    on-set a e = record { lengths = e; rules = λ v. rw date }
+    on_set a e = record { lengths = e; rules = λ v. rw date }
 
   -- ---- the cases of `open_expired`
 
@@ -65,17 +65,17 @@ module _ (t name today : List ℕ) (override : ℕ) (ok : Bool) where
     pub early : (o.refusal ≡ 0 → ⊥) → (r : SetOpening) → r.refusal ≡ o.refusal → OpensExpired t name today override ok m s r
     early n r e =
         record {
-          refused = λ _ a l. ap (λ (i : ℕ). result_of i (lent t a [])) e ∙ refused (on-table a l) x n;
+          refused = λ _ a l. ap (λ (i : ℕ). result_of i (lent t a [])) e ∙ refused (on_table a l) x n;
           goes = λ z. absurd (n (sym e ∙ z));
         }
 
     module _ (z : o.refusal ≡ 0) where
-      pub no-date : to_stored today ≡ none → (r : SetOpening) → r.refusal ≡ 14 → OpensExpired t name today override ok m s r
-      no-date d r e =
+      pub no_date_lem : to_stored today ≡ none → (r : SetOpening) → r.refusal ≡ 14 → OpensExpired t name today override ok m s r
+      no_date_lem d r e =
           record {
             refused = λ _ a l.
                 ap (λ (i : ℕ). result_of i (lent t a [])) e
-                ∙ passed (on-table a l) x z 14 (lent t a [])
+                ∙ passed (on_table a l) x z 14 (lent t a [])
                 (sym (ap (λ (u : Option (List ℕ)). written (lent t a []) (given u 14 (scratch_on (read t) name override))) d));
             goes = λ y. absurd (omega arith);
           }
@@ -84,7 +84,7 @@ module _ (t name today : List ℕ) (override : ℕ) (ok : Bool) where
         pub absent : not_found ≡ find_slot t name (slots (geometry_of o.geometry)) → (r : SetOpening) → r.refusal ≡ 5 → OpensExpired t name today override ok m s r
         absent f r e =
             record {
-              refused = λ _ a l. ap (λ (i : ℕ). result_of i (lent t a [])) e ∙ not_found_lem (on-set stored date a l) x z f;
+              refused = λ _ a l. ap (λ (i : ℕ). result_of i (lent t a [])) e ∙ not_found_lem (on_set stored date a l) x z f;
               goes = λ y. absurd (omega arith);
             }
 
@@ -94,34 +94,34 @@ module _ (t name today : List ℕ) (override : ℕ) (ok : Bool) where
           at = let y = known x z in there t y.is_taken _ y.geometry_is name k f
 
           pub inside : k < slots (geometry_of o.geometry)
-          inside = let y = known x z in there-inside t y.is_taken _ y.geometry_is name k f
+          inside = let y = known x z in there_inside t y.is_taken _ y.geometry_is name k f
 
-          pub record-fits : 140 * k + 140 ≤ length t
-          record-fits = let n = (known x z).long in let i = inside in omega arith
+          pub record_fits : 140 * k + 140 ≤ length t
+          record_fits = let n = (known x z).long in let i = inside in omega arith
 
           -- the date in the record is the label's
-          date-there : part 56 3 (slot_bytes t k) ≡ expiry_of at.label.attributes
-          date-there =
+          date_there : part 56 3 (slot_bytes t k) ≡ expiry_of at.label.attributes
+          date_there =
               ap (λ (j : ℕ). part 56 3 (slot_bytes t j)) (sym at.slot)
               ∙ ap (part 56 3) at.records.one
-              ∙ in-record (read t).geometry at.label at.records.good
+              ∙ in_record (read t).geometry at.label at.records.good
 
           module _ (u : Bool) (test : u ≡ (later (part 56 3 (slot_bytes t k)) stored && eqb override 0)) where
-            unexpired-is : unexpired at.label.attributes stored override ≡ u
-            unexpired-is = ap (λ (d : List ℕ). later d stored && eqb override 0) (sym date-there) ∙ sym test
+            unexpired_is : unexpired at.label.attributes stored override ≡ u
+            unexpired_is = ap (λ (d : List ℕ). later d stored && eqb override 0) (sym date_there) ∙ sym test
 
             pub not_yet : u ≡ true → (r : SetOpening) → r.refusal ≡ 13 → OpensExpired t name today override ok m s r
             not_yet q r e =
                 record {
                   refused = λ _ a l.
                       ap (λ (i : ℕ). result_of i (lent t a [])) e
-                      ∙ done (on-set stored date a l) x z at 13 (lent t a [])
-                      (sym (ap (λ (b : Bool). written (lent t a []) (unless (not b) 13 (remove_set (read t) name at.label))) (unexpired-is ∙ q)));
+                      ∙ done (on_set stored date a l) x z at 13 (lent t a [])
+                      (sym (ap (λ (b : Bool). written (lent t a []) (unless (not b) 13 (remove_set (read t) name at.label))) (unexpired_is ∙ q)));
                   goes = λ y. absurd (omega arith);
                 }
 
-            pub may-go : u ≡ false → OpensExpired t name today override ok m s (record { refusal = 0; geometry = o.geometry; slot = k })
-            may-go q =
+            pub may_go : u ≡ false → OpensExpired t name today override ok m s (record { refusal = 0; geometry = o.geometry; slot = k })
+            may_go q =
                 let y = known x z in
                 record {
                   refused = λ n. absurd (n refl);
@@ -137,13 +137,13 @@ module _ (t name today : List ℕ) (override : ℕ) (ok : Bool) where
                               geometry_is = y.geometry_is;
                               limits = y.limits;
                               long = y.long;
-                              maps = known-maps x z w room eight;
+                              maps = known_maps x z w room eight;
                               it = at;
                               inside = inside;
                             };
                         stored = stored;
                         date = date;
-                        expired = unexpired-is ∙ q;
+                        expired = unexpired_is ∙ q;
                       };
                 }
 
@@ -159,21 +159,21 @@ module _ (t name today : List ℕ) (override : ℕ) (ok : Bool) where
     abbrev it : Label
     it = y.known.it.label
 
-    pub answer-fits : length a ≡ 24
-    answer-fits = answer-long (asks (on-set y.stored y.date a l)) y.opened y.none
+    pub answer_fits : length a ≡ 24
+    answer_fits = answer_long (asks (on_set y.stored y.date a l)) y.opened y.none
 
     goes_on : unless (not (unexpired it.attributes y.stored override)) 13 (remove_set v name it) ≡ remove_set v name it
     goes_on = ap (λ (u : Bool). unless (not u) 13 (remove_set v name it)) y.expired
 
     pub taken_out : (n : ℕ) (b' : Lent) → result_of n b' ≡ written b (remove_set v name it) → result_of n b' ≡ perform b (scratch name today override)
-    taken_out n b' q = done (on-set y.stored y.date a l) y.opened y.none y.known.it n b' (q ∙ sym (ap (written b) goes_on))
+    taken_out n b' q = done (on_set y.stored y.date a l) y.opened y.none y.known.it n b' (q ∙ sym (ap (written b) goes_on))
 
     pub foreseen : (n : ℕ) (b' : Lent) → result_of n b' ≡ written b (on_copy v (remove_set v name it)) → result_of n b' ≡ perform b (preview (scratch name today override))
     foreseen n b' q =
-        done (preview-set (on-set y.stored y.date a l)) y.opened y.none y.known.it n b'
+        done (preview_set (on_set y.stored y.date a l)) y.opened y.none y.known.it n b'
         (q ∙ sym (ap (λ (u : Outcome). written b (on_copy v u)) goes_on))
 
 -- a preview is refused with what refuses the call
-pub preview-refused : (t name today : List ℕ) (override : ℕ) (a : List ℕ) (n : ℕ) → result_of n (lent t a []) ≡ perform (lent t a []) (scratch name today override)
+pub preview_refused : (t name today : List ℕ) (override : ℕ) (a : List ℕ) (n : ℕ) → result_of n (lent t a []) ≡ perform (lent t a []) (scratch name today override)
     → result_of n (lent t a []) ≡ perform (lent t a []) (preview (scratch name today override))
-preview-refused t name today override a n e = ap (with_table t) e ∙ sym (as-on-copy (lent t a []) (scratch name today override))
+preview_refused t name today override a n e = ap (with_table t) e ∙ sym (as_on_copy (lent t a []) (scratch name today override))

@@ -11,66 +11,66 @@ use lib.ListN.{drop, get_or, length, length-drop, replicate, take, take-append-d
 use lib.Seq.{drop-cons, drop-drop, drop-nil, take-nil, take-take}
 use Rattle.model.specs.Basics.{be2, fill, flat, get2, part, zeros}
 use Rattle.model.specs.Model.{Geometry, Run, run}
-use Rattle.model.proofs.Lists.{and_l, and_r, by, clash, drop-take, is_true, true-is}
+use Rattle.model.proofs.Lists.{and_l, and_r, by, clash, drop_take, is_true, true_is}
 use Rattle.rules.specs.Layout.{entry, fields5, format5, whole}
-use Rattle.rules.proofs.Bytes.{be2-back}
+use Rattle.rules.proofs.Bytes.{be2_back}
 use Rattle.rules.proofs.Fields.{field_at}
 use Rattle.rules.proofs.TableBack.{lens5, lengths5}
 use Rattle.bitmap.specs.Map.{NextRun, free_from}
-use Rattle.bitmap.proofs.Walk.{free-from-end}
+use Rattle.bitmap.proofs.Walk.{free_from_end}
 use Rattle.rows.specs.Words.{Bytes, all_are}
-use Rattle.dscb.proofs.Bytes10.{cyl-of, five-of, head_of, two_back}
-use Rattle.rows.proofs.Rows.{and-false, are→, →are}
-use Rattle.dscb.proofs.Stops.{cylinder-past}
+use Rattle.dscb.proofs.Bytes10.{cyl_of, five_of, head_of, two_back}
+use Rattle.rows.proofs.Rows.{and_false, are→, →are}
+use Rattle.dscb.proofs.Stops.{cylinder_past}
 use Rattle.dscb.proofs.Records.{length_part}
-use Rattle.dscb.proofs.Cutting.{whole-cut}
+use Rattle.dscb.proofs.Cutting.{whole_cut}
 use Rattle.check_chain.specs.Entries.{HoldsRuns, Rows, entries_of, entry_ok}
 
 -- ---- one entry
 
 -- the stop: a free extent is not the whole volume, so an entry with all its cylinders is not its entry
-pub many-cylinders : (c h s n : ℕ) (x : List ℕ) → n < c * h → c ≤ get2 x 2 → false ≡ entry_ok h s n x
-many-cylinders c h s n x u v =
-    let p = cylinder-past c h (get2 x 2) v in rw (ne_eqb (get2 x 2 * h + get_or x 4 0) n (λ e. absurd (omega arith)), and-false, and-false)
+pub many_cylinders : (c h s n : ℕ) (x : List ℕ) → n < c * h → c ≤ get2 x 2 → false ≡ entry_ok h s n x
+many_cylinders c h s n x u v =
+    let p = cylinder_past c h (get2 x 2) v in rw (ne_eqb (get2 x 2 * h + get_or x 4 0) n (λ e. absurd (omega arith)), and_false, and_false)
 
 -- and its own entry does not meet it
-pub few-cylinders : (c h s n : ℕ) (x : List ℕ) → n < c * h → entry_ok h s n x ≡ true → get2 x 2 < c
-few-cylinders c h s n x u e = by (ltb (get2 x 2) c) (λ q. ltb-true _ _ q) (λ q. clash e (sym (many-cylinders c h s n x u (ltb-false _ _ q))))
+pub few_cylinders : (c h s n : ℕ) (x : List ℕ) → n < c * h → entry_ok h s n x ≡ true → get2 x 2 < c
+few_cylinders c h s n x u e = by (ltb (get2 x 2) c) (λ q. ltb-true _ _ q) (λ q. clash e (sym (many_cylinders c h s n x u (ltb-false _ _ q))))
 
 module _ (g : Geometry) (pos : 1 ≤ g.heads) (s c : ℕ) where
   abbrev H : ℕ
   H = g.heads
 
-  five-bytes : (a b d e o : ℕ) → b < 256 → e < 256 → o < H → a * 256 + b ≡ s → (d * 256 + e) * H + o ≡ c → entry g (run s c) ≡ a ∷ b ∷ d ∷ e ∷ o ∷ []
-  five-bytes a b d e o u v w p q =
-      let y : c / H ≡ d * 256 + e = ap (λ (z : ℕ). z / H) (sym q) ∙ cyl-of (d * 256 + e) H o w in
+  five_bytes : (a b d e o : ℕ) → b < 256 → e < 256 → o < H → a * 256 + b ≡ s → (d * 256 + e) * H + o ≡ c → entry g (run s c) ≡ a ∷ b ∷ d ∷ e ∷ o ∷ []
+  five_bytes a b d e o u v w p q =
+      let y : c / H ≡ d * 256 + e = ap (λ (z : ℕ). z / H) (sym q) ∙ cyl_of (d * 256 + e) H o w in
       let z : c % H ≡ o = ap (λ (z : ℕ). z % H) (sym q) ∙ head_of (d * 256 + e) H o w in
       ap₂ (λ (x y : List ℕ). x ++ y) (ap be2 (sym p) ∙ two_back a b u) (ap₂ (λ (x : List ℕ) (y : ℕ). x ++ (y ∷ [])) (ap be2 y ∙ two_back d e v) z)
 
-  pub entry-yes : (x : List ℕ) → length x ≡ 5 → Bytes x → entry_ok H s c x ≡ true → entry g (run s c) ≡ x
-  entry-yes x l bs e =
-      let t = true-is e in
+  pub entry_yes : (x : List ℕ) → length x ≡ 5 → Bytes x → entry_ok H s c x ≡ true → entry g (run s c) ≡ x
+  entry_yes x l bs e =
+      let t = true_is e in
       let p = is_true (and_l (eqb (get2 x 0) s) _ t) in
       let u = and_r (eqb (get2 x 0) s) _ t in
       let q = is_true (and_l (ltb (get_or x 4 0) H) _ u) in
       let r = is_true (and_r (ltb (get_or x 4 0) H) _ u) in
-      five-bytes (get_or x 0 0) (get_or x 1 0) (get_or x 2 0) (get_or x 3 0) (get_or x 4 0) (bs 1) (bs 3) (ltb-true _ _ q) (eqb-true _ _ p) (eqb-true _ _ r) ∙ sym (five-of x l)
+      five_bytes (get_or x 0 0) (get_or x 1 0) (get_or x 2 0) (get_or x 3 0) (get_or x 4 0) (bs 1) (bs 3) (ltb-true _ _ q) (eqb-true _ _ p) (eqb-true _ _ r) ∙ sym (five_of x l)
 
-  entry-passes : entry_ok H s c (entry g (run s c)) ≡ true
-  entry-passes =
-      let p : s / 256 * 256 + s % 256 ≡ s = be2-back s in
-      let q : c / H / 256 * 256 + c / H % 256 ≡ c / H = be2-back (c / H) in
+  entry_passes : entry_ok H s c (entry g (run s c)) ≡ true
+  entry_passes =
+      let p : s / 256 * 256 + s % 256 ≡ s = be2_back s in
+      let q : c / H / 256 * 256 + c / H % 256 ≡ c / H = be2_back (c / H) in
       let r : (c / H / 256 * 256 + c / H % 256) * H + c % H ≡ c = ap (λ (z : ℕ). z * H + c % H) q ∙ div-add-mod' c H in
       rw (eq-eqb _ _ p, lt-ltb _ _ (mod-lt c pos), eq-eqb _ _ r)
 
-  pub entry-no : (x : List ℕ) → entry_ok H s c x ≡ false → entry g (run s c) ≡ x → ⊥
-  entry-no x e q = clash (ap (entry_ok H s c) (sym q) ∙ entry-passes) e
+  pub entry_no : (x : List ℕ) → entry_ok H s c x ≡ false → entry g (run s c) ≡ x → ⊥
+  entry_no x e q = clash (ap (entry_ok H s c) (sym q) ∙ entry_passes) e
 
 -- ---- w entries: j are done, and from track t on the runs are left
 
 module _ (g : Geometry) where
-  more-run : (w : ℕ) (r : Run) (f : List Run) → entries_of g (suc w) (r ∷ f) ≡ entry g r ++ entries_of g w f
-  more-run w r f = let e : 5 * suc w ≡ suc (suc (suc (suc (suc (5 * w))))) = omega arith in ap (λ (k : ℕ). fill k (entry g r ++ flat (entry g) (take w f))) e
+  more_run : (w : ℕ) (r : Run) (f : List Run) → entries_of g (suc w) (r ∷ f) ≡ entry g r ++ entries_of g w f
+  more_run w r f = let e : 5 * suc w ≡ suc (suc (suc (suc (suc (5 * w))))) = omega arith in ap (λ (k : ℕ). fill k (entry g r ++ flat (entry g) (take w f))) e
 
 fill_none : (k : ℕ) → fill k [] ≡ zeros k
 fill_none zero = refl
@@ -86,8 +86,8 @@ module _ (g : Geometry) (m : List ℕ) (n at w : ℕ) (x : List ℕ) where
   abbrev E : ℕ → ℕ → List ℕ
   E j t = entries_of g (w - j) (free_from m n t)
 
-  pub going-none : at ≤ n → EntriesGoing g m n at w x 0 at
-  going-none h =
+  pub going_none : at ≤ n → EntriesGoing g m n at w x 0 at
+  going_none h =
       record {
         up_to = h;
         left = refl;
@@ -103,7 +103,7 @@ module _ (g : Geometry) (m : List ℕ) (n at w : ℕ) (x : List ℕ) where
     split : E j t ≡ due ++ E (j + 1) b
     split =
         let k : w - j ≡ suc (w - (j + 1)) = omega arith in
-        ap₂ (λ (i : ℕ) (l : List Run). entries_of g i l) k (r.more u).1 ∙ more-run g (w - (j + 1)) (run a (b - a)) (free_from m n b)
+        ap₂ (λ (i : ℕ) (l : List Run). entries_of g i l) k (r.more u).1 ∙ more_run g (w - (j + 1)) (run a (b - a)) (free_from m n b)
 
     pub going_next : due ≡ part (5 * j) 5 x → EntriesGoing g m n at w x (j + 1) b
     going_next d =
@@ -116,21 +116,21 @@ module _ (g : Geometry) (m : List ℕ) (n at w : ℕ) (x : List ℕ) where
           back = λ e. ap (drop 5) (sym split ∙ o.back e) ∙ D;
         }
 
-    pub going-bad : (due ≡ part (5 * j) 5 x → ⊥) → entries_of g w (free_from m n at) ≡ x → ⊥
-    going-bad d e = d (ap (take 5) (sym split ∙ o.back e))
+    pub going_bad : (due ≡ part (5 * j) 5 x → ⊥) → entries_of g w (free_from m n at) ≡ x → ⊥
+    going_bad d e = d (ap (take 5) (sym split ∙ o.back e))
 
   -- no run is left: zeros to the end
-  pub going-ends : (j t a b : ℕ) (ok : Bool) → j ≤ w → length x ≡ 5 * w → EntriesGoing g m n at w x j t → NextRun m n t a b → n ≤ a → ok ≡ all_are 0 (drop (5 * j) x) → Rows g m n at w x ok n
-  going-ends j t a b ok h l o r u q =
+  pub going_ends : (j t a b : ℕ) (ok : Bool) → j ≤ w → length x ≡ 5 * w → EntriesGoing g m n at w x j t → NextRun m n t a b → n ≤ a → ok ≡ all_are 0 (drop (5 * j) x) → Rows g m n at w x ok n
+  going_ends j t a b ok h l o r u q =
       let none : drop j (free_from m n at) ≡ [] = sym o.left ∙ r.done u in
       let e : E j t ≡ zeros (5 * (w - j)) = ap (λ (f : List Run). fill (5 * (w - j)) (flat (entry g) f)) (ap (take (w - j)) (r.done u) ∙ take-nil (w - j)) ∙ fill_none (5 * (w - j)) in
       let k : j + (w - j) ≡ w = omega arith in
       record {
         up_to = λ z. le_refl n;
-        rest = λ z. free-from-end m n ∙ sym (sym (ap (λ (i : ℕ). drop i (free_from m n at)) k) ∙ sym (drop-drop (w - j) j (free_from m n at)) ∙ ap (drop (w - j)) none ∙ drop-nil (w - j));
+        rest = λ z. free_from_end m n ∙ sym (sym (ap (λ (i : ℕ). drop i (free_from m n at)) k) ∙ sym (drop-drop (w - j) j (free_from m n at)) ∙ ap (drop (w - j)) none ∙ drop-nil (w - j));
         yes = λ z.
             let c : length (drop (5 * j) x) ≡ 5 * (w - j) = omega (arith, length-drop (5 * j) x) in
-            o.into (e ∙ sym (are→ 0 (drop (5 * j) x) (true-is (sym q ∙ z)) ∙ ap zeros c));
+            o.into (e ∙ sym (are→ 0 (drop (5 * j) x) (true_is (sym q ∙ z)) ∙ ap zeros c));
         no = λ z i. clash (ap (all_are 0) (sym (sym e ∙ o.back i)) ∙ is_true (→are 0 (5 * (w - j)))) (sym q ∙ z);
       }
 
@@ -149,21 +149,21 @@ module _ (g : Geometry) (m : List ℕ) (n at w : ℕ) (x : List ℕ) where
 pub rows_of : (g : Geometry) (m : List ℕ) (n at w : ℕ) (x : List ℕ) (ok : Bool) (next : ℕ) → length x ≡ 5 * w → Rows g m n at (length x / 5) x ok next → Rows g m n at w x ok next
 rows_of g m n at w x ok next l r = let e : length x / 5 ≡ w = omega arith in subst (λ (k : ℕ). Rows g m n at k x ok next) e r
 
-pub rows-bad : (g : Geometry) (m : List ℕ) (n at w : ℕ) (x : List ℕ) (t : ℕ) → (entries_of g w (free_from m n at) ≡ x → ⊥) → Rows g m n at w x false t
-rows-bad g m n at w x t f =
+pub rows_bad : (g : Geometry) (m : List ℕ) (n at w : ℕ) (x : List ℕ) (t : ℕ) → (entries_of g w (free_from m n at) ≡ x → ⊥) → Rows g m n at w x false t
+rows_bad g m n at w x t f =
     record { up_to = λ q. clash {b = false} q refl; rest = λ q. clash {b = false} q refl; yes = λ q. clash {b = false} q refl; no = λ q. f }
 
 -- ---- the record
 
-byte-part : (r : List ℕ) (i : ℕ) → i < length r → part i 1 r ≡ get_or r i 0 ∷ []
-byte-part r i h = ap (take 1) (drop-cons r i 0 h)
+byte_part : (r : List ℕ) (i : ℕ) → i < length r → part i 1 r ≡ get_or r i 0 ∷ []
+byte_part r i h = ap (take 1) (drop-cons r i 0 h)
 
 module _ (g : Geometry) (m : List ℕ) (n at : ℕ) (r : List ℕ) where
   abbrev F : List Run
   F = free_from m n at
 
-  listed-bad : (next : ℕ) → ((k : ℕ) → format5 g (take 26 F) k ≡ r → ⊥) → HoldsRuns g m n at r false next
-  listed-bad next f =
+  listed_bad : (next : ℕ) → ((k : ℕ) → format5 g (take 26 F) k ≡ r → ⊥) → HoldsRuns g m n at r false next
+  listed_bad next f =
       record { up_to = λ q. clash {b = false} q refl; rest = λ q. clash {b = false} q refl; yes = λ q. clash {b = false} q refl; no = λ q. f }
 
   -- what a format 5 has at its places
@@ -171,25 +171,25 @@ module _ (g : Geometry) (m : List ℕ) (n at : ℕ) (r : List ℕ) where
   unfolding format5
   at_field i h k e = ap (part (Rattle.rules.proofs.Fields.start_of i lengths5) (get_or lengths5 i 0)) (sym e) ∙ field_at i lengths5 (fields5 g (take 26 F) k) (lens5 g (take 26 F) k) h
 
-  front-is : entries_of g 8 F ≡ fill 40 (flat (entry g) (take 8 (take 26 F)))
-  front-is = ap (λ (l : List Run). fill 40 (flat (entry g) l)) (sym (take-take 8 26 F (omega arith)))
+  front_is : entries_of g 8 F ≡ fill 40 (flat (entry g) (take 8 (take 26 F)))
+  front_is = ap (λ (l : List Run). fill 40 (flat (entry g) l)) (sym (take-take 8 26 F (omega arith)))
 
-  rear-is : entries_of g 18 (drop 8 F) ≡ fill 90 (flat (entry g) (drop 8 (take 26 F)))
-  rear-is = ap (λ (l : List Run). fill 90 (flat (entry g) l)) (sym (drop-take 8 26 F))
+  rear_is : entries_of g 18 (drop 8 F) ≡ fill 90 (flat (entry g) (drop 8 (take 26 F)))
+  rear_is = ap (λ (l : List Run). fill 90 (flat (entry g) l)) (sym (drop_take 8 26 F))
 
-  pub header-bad : all_are 0x05 (part 0 4 r) ≡ false → (next : ℕ) → HoldsRuns g m n at r false next
-  header-bad e next = listed-bad next (λ k q. clash (ap (all_are 0x05) (at_field 0 (omega arith) k q) ∙ is_true (→are 0x05 4)) e)
+  pub header_bad : all_are 0x05 (part 0 4 r) ≡ false → (next : ℕ) → HoldsRuns g m n at r false next
+  header_bad e next = listed_bad next (λ k q. clash (ap (all_are 0x05) (at_field 0 (omega arith) k q) ∙ is_true (→are 0x05 4)) e)
 
-  pub id-bad : length r ≡ 140 → (get_or r 44 0 ≡ 0xF5 → ⊥) → (next : ℕ) → HoldsRuns g m n at r false next
-  id-bad l e next = listed-bad next (λ k q. e (ap (λ (x : List ℕ). get_or x 0 0) (sym (byte-part r 44 (omega arith)) ∙ at_field 2 (omega arith) k q)))
+  pub id_bad : length r ≡ 140 → (get_or r 44 0 ≡ 0xF5 → ⊥) → (next : ℕ) → HoldsRuns g m n at r false next
+  id_bad l e next = listed_bad next (λ k q. e (ap (λ (x : List ℕ). get_or x 0 0) (sym (byte_part r 44 (omega arith)) ∙ at_field 2 (omega arith) k q)))
 
-  pub front-bad : (ok : Bool) (t next : ℕ) → ok ≡ false → Rows g m n at 8 (part 4 40 r) ok t → HoldsRuns g m n at r false next
-  front-bad ok t next e x = listed-bad next (λ k q. x.no e (front-is ∙ sym (at_field 1 (omega arith) k q)))
+  pub front_bad : (ok : Bool) (t next : ℕ) → ok ≡ false → Rows g m n at 8 (part 4 40 r) ok t → HoldsRuns g m n at r false next
+  front_bad ok t next e x = listed_bad next (λ k q. x.no e (front_is ∙ sym (at_field 1 (omega arith) k q)))
 
   module _ (l : length r ≡ 140) (a : all_are 0x05 (part 0 4 r) ≡ true) (i : get_or r 44 0 ≡ 0xF5) (t : ℕ) (x : Rows g m n at 8 (part 4 40 r) true t)
       (ok : Bool) (next : ℕ) (y : Rows g m n t 18 (part 45 90 r) ok next) where
     rear : entries_of g 18 (free_from m n t) ≡ fill 90 (flat (entry g) (drop 8 (take 26 F)))
-    rear = ap (entries_of g 18) (x.rest refl) ∙ rear-is
+    rear = ap (entries_of g 18) (x.rest refl) ∙ rear_is
 
     pub listed : HoldsRuns g m n at r ok next
     unfolding format5
@@ -198,11 +198,11 @@ module _ (g : Geometry) (m : List ℕ) (n at : ℕ) (r : List ℕ) where
           up_to = y.up_to;
           rest = λ q. y.rest q ∙ ap (drop 18) (x.rest refl) ∙ drop-drop 18 8 F;
           yes = λ q k e.
-              let p0 : part 0 4 r ≡ replicate 4 0x05 = are→ 0x05 (part 0 4 r) (true-is a) ∙ ap (λ (j : ℕ). replicate j 0x05) (length_part 0 4 r (omega arith)) in
-              let p1 : part 4 40 r ≡ fill 40 (flat (entry g) (take 8 (take 26 F))) = sym (x.yes refl) ∙ front-is in
-              let p2 : part 44 1 r ≡ 0xF5 ∷ [] = byte-part r 44 (omega arith) ∙ ap (λ (b : ℕ). b ∷ []) i in
+              let p0 : part 0 4 r ≡ replicate 4 0x05 = are→ 0x05 (part 0 4 r) (true_is a) ∙ ap (λ (j : ℕ). replicate j 0x05) (length_part 0 4 r (omega arith)) in
+              let p1 : part 4 40 r ≡ fill 40 (flat (entry g) (take 8 (take 26 F))) = sym (x.yes refl) ∙ front_is in
+              let p2 : part 44 1 r ≡ 0xF5 ∷ [] = byte_part r 44 (omega arith) ∙ ap (λ (b : ℕ). b ∷ []) i in
               let p3 : part 45 90 r ≡ fill 90 (flat (entry g) (drop 8 (take 26 F))) = sym (y.yes q) ∙ rear in
-              let w : whole (part 0 4 r ∷ part 4 40 r ∷ part 44 1 r ∷ part 45 90 r ∷ part 135 5 r ∷ []) ≡ r = whole-cut lengths5 0 r l in
+              let w : whole (part 0 4 r ∷ part 4 40 r ∷ part 44 1 r ∷ part 45 90 r ∷ part 135 5 r ∷ []) ≡ r = whole_cut lengths5 0 r l in
               sym
               (sym w
               ∙ ap₂ (λ (b c : List ℕ). whole (b ∷ c ∷ part 44 1 r ∷ part 45 90 r ∷ part 135 5 r ∷ [])) p0 p1

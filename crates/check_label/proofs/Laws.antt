@@ -15,8 +15,8 @@ use Rattle.rules.specs.Layout.{extent_part}
 use Rattle.rules.proofs.Keyed.{count}
 use Rattle.dscb.specs.Records.{slot_bytes}
 use Rattle.rows.specs.Words.{all_are}
-use Rattle.rows.proofs.Rows.{and_assoc, and-true, are-append, from_place}
-use Rattle.dscb.proofs.Tens.{in-format1, in-format3, in-rest3}
+use Rattle.rows.proofs.Rows.{and_assoc, and_true, are_append, from_place}
+use Rattle.dscb.proofs.Tens.{in_format1, in_format3, in_rest3}
 use Rattle.dscb.specs.Forms.{extent_ok, one_ok, three_ok}
 use Rattle.check_label.specs.Label.{Judged, extents_ok, few_shape, good_if, good_third, named_third, or_zero, shape_of, sound_label, third_shape, unsound, unused_ok}
 
@@ -25,15 +25,15 @@ module _ (h t : ℕ) (f1 f3 : List ℕ) (n e m : ℕ) (u : e < m) where
   unfolding extents_ok
   step = let q : m - e ≡ suc (m - suc e) = omega arith in rw (q, add-one)
 
-  pub good-next : extent_ok h t n e (extent_part f1 f3 e) ≡ true → extents_ok h t f1 f3 n e (m - e) ≡ extents_ok h t f1 f3 n (e + 1) (m - (e + 1))
-  good-next p = rw (step, p)
+  pub good_next : extent_ok h t n e (extent_part f1 f3 e) ≡ true → extents_ok h t f1 f3 n e (m - e) ≡ extents_ok h t f1 f3 n (e + 1) (m - (e + 1))
+  good_next p = rw (step, p)
 
-  pub bad-here : extent_ok h t n e (extent_part f1 f3 e) ≡ false → extents_ok h t f1 f3 n e (m - e) ≡ false
-  bad-here p = rw (step, p)
+  pub bad_here : extent_ok h t n e (extent_part f1 f3 e) ≡ false → extents_ok h t f1 f3 n e (m - e) ≡ false
+  bad_here p = rw (step, p)
 
-pub extents-end : (h t : ℕ) (f1 f3 : List ℕ) (n e m : ℕ) → m ≤ e → extents_ok h t f1 f3 n e (m - e) ≡ true
+pub extents_end : (h t : ℕ) (f1 f3 : List ℕ) (n e m : ℕ) → m ≤ e → extents_ok h t f1 f3 n e (m - e) ≡ true
 unfolding extents_ok
-extents-end h t f1 f3 n e m u = let q : m - e ≡ 0 = omega arith in rw q
+extents_end h t f1 f3 n e m u = let q : m - e ≡ 0 = omega arith in rw q
 
 -- ---- extents that are not in use, by rows of zeros
 
@@ -55,19 +55,19 @@ row f1 f3 r (suc k) e at m lie =
     let a : suc e + j ≡ e + suc j = omega arith in
     let b : at + 10 + 10 * j ≡ at + 10 * suc j = omega arith in
     rw (a, b) (lie (suc j) (omega arith)) in
-    rw (long, next, count, take-add 10 (10 * k) (drop at r), drop-drop 10 at r, are-append 0 (part at 10 r) (part (at + 10) (10 * k) r), and_assoc, first)
+    rw (long, next, count, take-add 10 (10 * k) (drop at r), drop-drop 10 at r, are_append 0 (part at 10 r) (part (at + 10) (10 * k) r), and_assoc, first)
     (ap (λ (b : Bool). all_are 0 (extent_part f1 f3 e) && b) (row f1 f3 r k (suc e) (at + 10) m others))
 
 module _ (f1 f3 : List ℕ) (l1 : length f1 ≡ 140) (l3 : length f3 ≡ 140) where
   -- all behind the id of the format 3
-  pub unused-behind : (n : ℕ) → 7 ≤ n → n ≤ 16 → all_are 0 (part (45 + 10 * (n - 7)) (135 - (45 + 10 * (n - 7))) f3) ≡ unused_ok f1 f3 n (16 - n)
+  pub unused_behind : (n : ℕ) → 7 ≤ n → n ≤ 16 → all_are 0 (part (45 + 10 * (n - 7)) (135 - (45 + 10 * (n - 7))) f3) ≡ unused_ok f1 f3 n (16 - n)
   unfolding unused_ok
-  unused-behind n u v =
+  unused_behind n u v =
       let long : 135 - (45 + 10 * (n - 7)) ≡ 10 * (16 - n) = omega arith in
       let lie : Lie f1 f3 f3 (16 - n) n (45 + 10 * (n - 7)) =
-      λ j h. let place : 45 + 10 * (n - 7) + 10 * j ≡ 45 + 10 * (n + j - 7) = omega arith in rw place (in-rest3 f1 f3 (n + j) l1 l3 (omega arith) (omega arith)) in
+      λ j h. let place : 45 + 10 * (n - 7) + 10 * j ≡ 45 + 10 * (n + j - 7) = omega arith in rw place (in_rest3 f1 f3 (n + j) l1 l3 (omega arith) (omega arith)) in
       rw long
-      (sym (and-true (all_are 0 (part (45 + 10 * (n - 7)) (10 * (16 - n)) f3)))
+      (sym (and_true (all_are 0 (part (45 + 10 * (n - 7)) (10 * (16 - n)) f3)))
       ∙ row f1 f3 f3 (16 - n) n (45 + 10 * (n - 7)) 0 lie
       ∙ ap (unused_ok f1 f3 n) (add-zero (16 - n)))
 
@@ -78,74 +78,74 @@ module _ (f1 f3 : List ℕ) (l1 : length f1 ≡ 140) (l3 : length f3 ≡ 140) wh
       let end : 7 ≡ n + (7 - n) = omega arith in
       let count : 7 - n + 9 ≡ 16 - n = omega arith in
       let lie : Lie f1 f3 f3 (7 - n) n (4 + 10 * (n - 3)) =
-      λ j h. let place : 4 + 10 * (n - 3) + 10 * j ≡ 4 + 10 * (n + j - 3) = omega arith in rw place (in-format3 f1 f3 (n + j) l1 l3 (omega arith) (omega arith)) in
+      λ j h. let place : 4 + 10 * (n - 3) + 10 * j ≡ 4 + 10 * (n + j - 3) = omega arith in rw place (in_format3 f1 f3 (n + j) l1 l3 (omega arith) (omega arith)) in
       ap₂ (λ (x : ℕ) (b : Bool). all_are 0 (part (4 + 10 * (n - 3)) x f3) && b) long
-      (unused-behind 7 (omega arith) (omega arith) ∙ ap (λ (e : ℕ). unused_ok f1 f3 e 9) end)
+      (unused_behind 7 (omega arith) (omega arith) ∙ ap (λ (e : ℕ). unused_ok f1 f3 e 9) end)
       ∙ row f1 f3 f3 (7 - n) n (4 + 10 * (n - 3)) 9 lie
       ∙ ap (unused_ok f1 f3 n) count
 
-  pub unused-around : (n : ℕ) (b : Bool) → 3 ≤ n → n ≤ 7 → all_are 0 (part (4 + 10 * (n - 3)) (44 - (4 + 10 * (n - 3))) f3) ≡ b
+  pub unused_around : (n : ℕ) (b : Bool) → 3 ≤ n → n ≤ 7 → all_are 0 (part (4 + 10 * (n - 3)) (44 - (4 + 10 * (n - 3))) f3) ≡ b
       → (b && all_are 0 (part 45 90 f3)) ≡ unused_ok f1 f3 n (16 - n)
-  unused-around n b u v e = rw (← e) (around n u v)
+  unused_around n b u v e = rw (← e) (around n u v)
 
 -- ---- a label: the definitions, by the tests that led to an answer
 
-and-swap : (a b : Bool) → (a && b) ≡ (b && a)
-and-swap true true = refl
-and-swap true false = refl
-and-swap false true = refl
-and-swap false false = refl
+and_swap : (a b : Bool) → (a && b) ≡ (b && a)
+and_swap true true = refl
+and_swap true false = refl
+and_swap false true = refl
+and_swap false false = refl
 
 -- from extent number e on a format 1 has k extents and its link, and that is all
-few-rest : (f1 : List ℕ) (k e : ℕ) → length f1 ≡ 140 → e + k ≡ 3 → all_are 0 (drop (105 + 10 * e) f1) ≡ (unused_ok f1 f1 e k && all_are 0 (part 135 5 f1))
+few_rest : (f1 : List ℕ) (k e : ℕ) → length f1 ≡ 140 → e + k ≡ 3 → all_are 0 (drop (105 + 10 * e) f1) ≡ (unused_ok f1 f1 e k && all_are 0 (part 135 5 f1))
 unfolding unused_ok
-few-rest f1 zero e l q =
+few_rest f1 zero e l q =
     let p : 105 + 10 * e ≡ 135 = omega arith in
     rw (p, take_all 5 (drop 135 f1) (omega (arith, length-drop 135 f1)))
-few-rest f1 (suc k) e l q =
+few_rest f1 (suc k) e l q =
     let at : ℕ = 105 + 10 * e in
     let p : at + 10 ≡ 105 + 10 * suc e = omega arith in
     ap (all_are 0) (sym (take-append-drop 10 (drop at f1)) ∙ ap (λ (x : List ℕ). part at 10 f1 ++ x) (drop-drop 10 at f1 ∙ ap (λ (x : ℕ). drop x f1) p))
-    ∙ are-append 0 (part at 10 f1) (drop (105 + 10 * suc e) f1)
-    ∙ ap₂ ◌&&◌ (ap (all_are 0) (sym (in-format1 f1 f1 e l l (omega arith)))) (few-rest f1 k (suc e) l (omega arith))
+    ∙ are_append 0 (part at 10 f1) (drop (105 + 10 * suc e) f1)
+    ∙ ap₂ ◌&&◌ (ap (all_are 0) (sym (in_format1 f1 f1 e l l (omega arith)))) (few_rest f1 k (suc e) l (omega arith))
     ∙ sym (and_assoc (all_are 0 (extent_part f1 f1 e)) (unused_ok f1 f1 (suc e) k) (all_are 0 (part 135 5 f1)))
 
 -- a format 1 without a format 3, by one row of zeros
-pub few-zeros : (f1 : List ℕ) (n : ℕ) (r : Bool) → length f1 ≡ 140 → n ≤ 3
+pub few_zeros : (f1 : List ℕ) (n : ℕ) (r : Bool) → length f1 ≡ 140 → n ≤ 3
     → r ≡ all_are 0 (take (length f1 - (105 + 10 * n)) (drop (105 + 10 * n) f1)) → r ≡ few_shape f1 n
 unfolding few_shape
-few-zeros f1 n r l u e =
+few_zeros f1 n r l u e =
     e
     ∙ ap (all_are 0) (from_place f1 (105 + 10 * n))
-    ∙ few-rest f1 (3 - n) n l (omega arith)
-    ∙ and-swap (unused_ok f1 f1 n (3 - n)) (all_are 0 (part 135 5 f1))
+    ∙ few_rest f1 (3 - n) n l (omega arith)
+    ∙ and_swap (unused_ok f1 f1 n (3 - n)) (all_are 0 (part 135 5 f1))
 
-or-zero : (b : Bool) → or_zero b 0 ≡ 0
-or-zero true = refl
-or-zero false = refl
+or_zero_lem : (b : Bool) → or_zero b 0 ≡ 0
+or_zero_lem true = refl
+or_zero_lem false = refl
 
 module _ (g : Geometry) (t f1 : List ℕ) (n q : ℕ) (e : q ≡ named_third g f1) where
-  pub third-none : q ≡ 0 → 0 ≡ third_shape g t f1 n
+  pub third_none : q ≡ 0 → 0 ≡ third_shape g t f1 n
   unfolding third_shape
-  third-none z = let y : named_third g f1 ≡ 0 = sym e ∙ z in rw y (sym (or-zero (three_ok (slot_bytes t 0) && unused_ok f1 (slot_bytes t 0) n (16 - n))))
+  third_none z = let y : named_third g f1 ≡ 0 = sym e ∙ z in rw y (sym (or_zero_lem (three_ok (slot_bytes t 0) && unused_ok f1 (slot_bytes t 0) n (16 - n))))
 
   module _ (f3 : List ℕ) (at : f3 ≡ slot_bytes t q) where
-    pub third-wrong : three_ok f3 ≡ false → 0 ≡ third_shape g t f1 n
+    pub third_wrong : three_ok f3 ≡ false → 0 ≡ third_shape g t f1 n
     unfolding third_shape
-    third-wrong b = let y : three_ok (slot_bytes t (named_third g f1)) ≡ false = subst (λ (x : ℕ). three_ok (slot_bytes t x) ≡ false) e (subst (λ (x : List ℕ). three_ok x ≡ false) at b) in rw y
+    third_wrong b = let y : three_ok (slot_bytes t (named_third g f1)) ≡ false = subst (λ (x : ℕ). three_ok (slot_bytes t x) ≡ false) e (subst (λ (x : List ℕ). three_ok x ≡ false) at b) in rw y
 
-    pub third-tested : (b : Bool) → three_ok f3 ≡ true → unused_ok f1 f3 n (16 - n) ≡ b → or_zero b q ≡ third_shape g t f1 n
+    pub third_tested : (b : Bool) → three_ok f3 ≡ true → unused_ok f1 f3 n (16 - n) ≡ b → or_zero b q ≡ third_shape g t f1 n
     unfolding third_shape
-    third-tested b x y =
+    third_tested b x y =
         let x' : three_ok (slot_bytes t (named_third g f1)) ≡ true = subst (λ (z : ℕ). three_ok (slot_bytes t z) ≡ true) e (subst (λ (z : List ℕ). three_ok z ≡ true) at x) in
         let y' : unused_ok f1 (slot_bytes t (named_third g f1)) n (16 - n) ≡ b
         = subst (λ (z : ℕ). unused_ok f1 (slot_bytes t z) n (16 - n) ≡ b) e (subst (λ (z : List ℕ). unused_ok f1 z n (16 - n) ≡ b) at y) in
         rw (x', y') (ap (or_zero b) e)
 
 module _ (g : Geometry) (t : List ℕ) (k : ℕ) (f1 : List ℕ) (at : f1 ≡ slot_bytes t k) where
-  pub form-wrong : one_ok f1 ≡ false → unsound ≡ shape_of g t k
+  pub form_wrong : one_ok f1 ≡ false → unsound ≡ shape_of g t k
   unfolding shape_of
-  form-wrong b = let y : one_ok (slot_bytes t k) ≡ false = subst (λ (x : List ℕ). one_ok x ≡ false) at b in rw y
+  form_wrong b = let y : one_ok (slot_bytes t k) ≡ false = subst (λ (x : List ℕ). one_ok x ≡ false) at b in rw y
 
   module _ (n : ℕ) (one : one_ok f1 ≡ true) (count : n ≡ get_or f1 59 0) where
     one' : one_ok (slot_bytes t k) ≡ true
@@ -154,26 +154,26 @@ module _ (g : Geometry) (t : List ℕ) (k : ℕ) (f1 : List ℕ) (at : f1 ≡ sl
     count' : get_or (slot_bytes t k) 59 0 ≡ n
     count' = sym (count ∙ ap (λ (x : List ℕ). get_or x 59 0) at)
 
-    pub form-few : (b : Bool) → n ≤ 3 → few_shape f1 n ≡ b → good_if b ≡ shape_of g t k
+    pub form_few : (b : Bool) → n ≤ 3 → few_shape f1 n ≡ b → good_if b ≡ shape_of g t k
     unfolding shape_of
-    form-few b u y =
+    form_few b u y =
         let y' : few_shape (slot_bytes t k) n ≡ b = subst (λ (x : List ℕ). few_shape x n ≡ b) at y in
         rw (one', count', le-leb n 3 u, y')
 
-    pub form-many : (q : ℕ) → 3 < n → q ≡ third_shape g t f1 n → good_third q ≡ shape_of g t k
+    pub form_many : (q : ℕ) → 3 < n → q ≡ third_shape g t f1 n → good_third q ≡ shape_of g t k
     unfolding shape_of
-    form-many q u y =
+    form_many q u y =
         let y' : third_shape g t (slot_bytes t k) n ≡ q = sym (y ∙ ap (λ (x : List ℕ). third_shape g t x n) at) in
         rw (one', count', lt-leb n 3 u, y')
 
-pub third-positive : (q : ℕ) → (q ≡ 0 → ⊥) → sound_label q ≡ good_third q
-third-positive zero n = absurd (n refl)
-third-positive (suc q) n = refl
+pub third_positive : (q : ℕ) → (q ≡ 0 → ⊥) → sound_label q ≡ good_third q
+third_positive zero n = absurd (n refl)
+third_positive (suc q) n = refl
 
 -- ---- the answers differ by their numbers, and sound labels by their format 3s
 
 pub not_sound : {A : Type 0} {q : ℕ} → unsound ≡ sound_label q → A
 not_sound e = absurd (let z : ◌≡◌ {A = ℕ} 3 0 = ap (λ (x : Judged). x.number) e in omega arith)
 
-pub same-third : {p q : ℕ} → sound_label p ≡ sound_label q → p ≡ q
-same-third e = ap (λ (x : Judged). x.third) e
+pub same_third : {p q : ℕ} → sound_label p ≡ sound_label q → p ≡ q
+same_third e = ap (λ (x : Judged). x.third) e

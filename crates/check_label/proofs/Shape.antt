@@ -10,17 +10,17 @@ use lib.Dec.{leb}
 use lib.ListN.{length, get_or}
 use Rattle.model.specs.Basics.{part, within}
 use Rattle.model.specs.Model.{Geometry, slots, tracks}
-use Rattle.model.proofs.Lists.{and_l, and_r, by, is_true, true-is}
+use Rattle.model.proofs.Lists.{and_l, and_r, by, is_true, true_is}
 use Rattle.rules.specs.Layout.{extent_part}
 use Rattle.rules.specs.Predicates.{Limits}
 use Rattle.dscb.specs.Records.{slot_bytes}
 use Rattle.rows.specs.Words.{all_are}
 use Rattle.rows.proofs.Rows.{and_assoc}
-use Rattle.dscb.proofs.Tens.{in-format1}
+use Rattle.dscb.proofs.Tens.{in_format1}
 use Rattle.dscb.specs.Forms.{extent_ok, one_ok, three_ok}
-use Rattle.dscb.proofs.Linked.{linked-below}
+use Rattle.dscb.proofs.Linked.{linked_below}
 use Rattle.check_label.specs.Label.{Judged, extents_ok, few_ok, few_shape, form_of, good_if, good_third, named_third, or_zero, shape_of, sound_label, third_of, third_shape, unsound, unused_ok, used_ok}
-use Rattle.check_label.proofs.Laws.{not_sound, same-third}
+use Rattle.check_label.proofs.Laws.{not_sound, same_third}
 
 module _ (h t : ℕ) (f1 f3 : List ℕ) (n : ℕ) where
   abbrev X : ℕ → ℕ → Bool
@@ -36,23 +36,23 @@ module _ (h t : ℕ) (f1 f3 : List ℕ) (n : ℕ) where
       ∙ ap (λ (b : Bool). extent_ok h t n e (extent_part f1 f3 e) && b) (split (suc e) k l ∙ ap (λ (a : ℕ). X (suc e) k && X a l) p)
       ∙ sym (and_assoc (extent_ok h t n e (extent_part f1 f3 e)) (X (suc e) k) (X (e + suc k) l))
 
-  zeros-are : (e k : ℕ) → n ≤ e → X e k ≡ unused_ok f1 f3 e k
+  zeros_are : (e k : ℕ) → n ≤ e → X e k ≡ unused_ok f1 f3 e k
   unfolding extents_ok extent_ok unused_ok
-  zeros-are e zero u = refl
-  zeros-are e (suc k) u = rw (le-ltb e n u) (ap (λ (b : Bool). all_are 0 (extent_part f1 f3 e) && b) (zeros-are (suc e) k (omega arith)))
+  zeros_are e zero u = refl
+  zeros_are e (suc k) u = rw (le-ltb e n u) (ap (λ (b : Bool). all_are 0 (extent_part f1 f3 e) && b) (zeros_are (suc e) k (omega arith)))
 
   parts_are : (m : ℕ) → n ≤ m → X 0 m ≡ (X 0 n && unused_ok f1 f3 n (m - n))
   parts_are m u =
       let q : m ≡ n + (m - n) = omega arith in
-      ap (X 0) q ∙ split 0 n (m - n) ∙ ap (λ (b : Bool). X 0 n && b) (ap (λ (e : ℕ). X e (m - n)) (zero-add n) ∙ zeros-are n (m - n) (omega arith))
+      ap (X 0) q ∙ split 0 n (m - n) ∙ ap (λ (b : Bool). X 0 n && b) (ap (λ (e : ℕ). X e (m - n)) (zero-add n) ∙ zeros_are n (m - n) (omega arith))
 
 -- the first three extents do not look at the format 3
-same-used : (h t : ℕ) (f1 a b : List ℕ) (n e k : ℕ) → length f1 ≡ 140 → length a ≡ 140 → length b ≡ 140 → e + k ≤ 3 → extents_ok h t f1 a n e k ≡ extents_ok h t f1 b n e k
+same_used : (h t : ℕ) (f1 a b : List ℕ) (n e k : ℕ) → length f1 ≡ 140 → length a ≡ 140 → length b ≡ 140 → e + k ≤ 3 → extents_ok h t f1 a n e k ≡ extents_ok h t f1 b n e k
 unfolding extents_ok
-same-used h t f1 a b n e zero l m o u = refl
-same-used h t f1 a b n e (suc k) l m o u =
-    ap₂ (λ (x : List ℕ) (y : Bool). extent_ok h t n e x && y) (in-format1 f1 a e l m (omega arith) ∙ sym (in-format1 f1 b e l o (omega arith)))
-    (same-used h t f1 a b n (suc e) k l m o (omega arith))
+same_used h t f1 a b n e zero l m o u = refl
+same_used h t f1 a b n e (suc k) l m o u =
+    ap₂ (λ (x : List ℕ) (y : Bool). extent_ok h t n e x && y) (in_format1 f1 a e l m (omega arith) ∙ sym (in_format1 f1 b e l o (omega arith)))
+    (same_used h t f1 a b n (suc e) k l m o (omega arith))
 
 -- ---- the answers, by their tests
 
@@ -60,43 +60,43 @@ abbrev pub form_if : Bool → ℕ → Judged
 form_if true q = sound_label q
 form_if false q = unsound
 
-few-bad : (a x u : Bool) → good_if (a && u) ≡ unsound → good_if (a && (x && u)) ≡ unsound
-few-bad true true u e = e
-few-bad true false u e = refl
-few-bad false x u e = refl
+few_bad : (a x u : Bool) → good_if (a && u) ≡ unsound → good_if (a && (x && u)) ≡ unsound
+few_bad true true u e = e
+few_bad true false u e = refl
+few_bad false x u e = refl
 
-few-good : (a x u : Bool) (q : ℕ) → good_if (a && u) ≡ sound_label q → good_if (a && (x && u)) ≡ form_if x q
-few-good true true u q e = e
-few-good true false u q e = refl
-few-good false true u q e = e
-few-good false false u q e = refl
+few_good : (a x u : Bool) (q : ℕ) → good_if (a && u) ≡ sound_label q → good_if (a && (x && u)) ≡ form_if x q
+few_good true true u q e = e
+few_good true false u q e = refl
+few_good false true u q e = e
+few_good false false u q e = refl
 
-third-bad : (a x u : Bool) (p : ℕ) → good_third (or_zero (a && u) p) ≡ unsound → good_third (or_zero (a && (x && u)) p) ≡ unsound
-third-bad true true u p e = e
-third-bad true false u p e = refl
-third-bad false x u p e = refl
+third_bad : (a x u : Bool) (p : ℕ) → good_third (or_zero (a && u) p) ≡ unsound → good_third (or_zero (a && (x && u)) p) ≡ unsound
+third_bad true true u p e = e
+third_bad true false u p e = refl
+third_bad false x u p e = refl
 
-third-good : (a x u : Bool) (p q : ℕ) → good_third (or_zero (a && u) p) ≡ sound_label q → good_third (or_zero (a && (x && u)) p) ≡ form_if x q
-third-good true true u p q e = e
-third-good true false u p q e = refl
-third-good false true u p q e = e
-third-good false false u p q e = refl
+third_good : (a x u : Bool) (p q : ℕ) → good_third (or_zero (a && u) p) ≡ sound_label q → good_third (or_zero (a && (x && u)) p) ≡ form_if x q
+third_good true true u p q e = e
+third_good true false u p q e = refl
+third_good false true u p q e = e
+third_good false false u p q e = refl
 
-few-slot : (b : Bool) (q : ℕ) → good_if b ≡ sound_label q → 0 ≡ q
-few-slot true q e = same-third e
-few-slot false q e = not_sound e
+few_slot : (b : Bool) (q : ℕ) → good_if b ≡ sound_label q → 0 ≡ q
+few_slot true q e = same_third e
+few_slot false q e = not_sound e
 
-third-slot : (b : Bool) (p q : ℕ) → good_third (or_zero b p) ≡ sound_label q → p ≡ q
-third-slot true zero q e = not_sound e
-third-slot true (suc p) q e = same-third e
-third-slot false p q e = not_sound e
+third_slot : (b : Bool) (p q : ℕ) → good_third (or_zero b p) ≡ sound_label q → p ≡ q
+third_slot true zero q e = not_sound e
+third_slot true (suc p) q e = same_third e
+third_slot false p q e = not_sound e
 
 -- ---- a label
 
-pub one-few : (r : List ℕ) → one_ok r ≡ true → get_or r 59 0 ≤ 16
+pub one_few : (r : List ℕ) → one_ok r ≡ true → get_or r 59 0 ≤ 16
 unfolding one_ok
-one-few r e =
-    let a = and_l (within 1 16 (get_or r 59 0)) _ (true-is e) in
+one_few r e =
+    let a = and_l (within 1 16 (get_or r 59 0)) _ (true_is e) in
     let b = and_r (leb 1 (get_or r 59 0)) (leb (get_or r 59 0) 16) a in
     leb-true _ _ (is_true b)
 
@@ -107,25 +107,25 @@ module _ (g : Geometry) (limit : Limits g) (t : List ℕ) (long : (j : ℕ) → 
   abbrev n : ℕ
   n = get_or f1 59 0
 
-  few-parts : n ≤ 3 → few_ok g.heads (tracks g) f1 n ≡ (all_are 0 (part 135 5 f1) && (used_ok g f1 f1 n && unused_ok f1 f1 n (3 - n)))
+  few_parts : n ≤ 3 → few_ok g.heads (tracks g) f1 n ≡ (all_are 0 (part 135 5 f1) && (used_ok g f1 f1 n && unused_ok f1 f1 n (3 - n)))
   unfolding few_ok
-  few-parts u = ap (λ (b : Bool). all_are 0 (part 135 5 f1) && b) (parts_are g.heads (tracks g) f1 f1 n 3 u)
+  few_parts u = ap (λ (b : Bool). all_are 0 (part 135 5 f1) && b) (parts_are g.heads (tracks g) f1 f1 n 3 u)
 
-  third-parts : n ≤ 16 → third_of g t f1 n ≡ or_zero (three_ok (slot_bytes t (named_third g f1)) && (used_ok g f1 (slot_bytes t (named_third g f1)) n && unused_ok f1 (slot_bytes t (named_third g f1)) n (16 - n))) (named_third g f1)
+  third_parts : n ≤ 16 → third_of g t f1 n ≡ or_zero (three_ok (slot_bytes t (named_third g f1)) && (used_ok g f1 (slot_bytes t (named_third g f1)) n && unused_ok f1 (slot_bytes t (named_third g f1)) n (16 - n))) (named_third g f1)
   unfolding third_of
-  third-parts u = ap (λ (b : Bool). or_zero (three_ok (slot_bytes t (named_third g f1)) && b) (named_third g f1)) (parts_are g.heads (tracks g) f1 (slot_bytes t (named_third g f1)) n 16 u)
+  third_parts u = ap (λ (b : Bool). or_zero (three_ok (slot_bytes t (named_third g f1)) && b) (named_third g f1)) (parts_are g.heads (tracks g) f1 (slot_bytes t (named_third g f1)) n 16 u)
 
-  pub shape-bad : shape_of g t k ≡ unsound → form_of g t k ≡ unsound
+  pub shape_bad : shape_of g t k ≡ unsound → form_of g t k ≡ unsound
   unfolding shape_of form_of few_shape third_shape
-  shape-bad e =
+  shape_bad e =
       by (one_ok f1)
       (λ a.
       by (leb n 3)
-      (λ b. rw (a, b) (ap good_if (few-parts (leb-true _ _ b)) ∙ few-bad (all_are 0 (part 135 5 f1)) (used_ok g f1 f1 n) (unused_ok f1 f1 n (3 - n)) (rw (a, b) at e)))
+      (λ b. rw (a, b) (ap good_if (few_parts (leb-true _ _ b)) ∙ few_bad (all_are 0 (part 135 5 f1)) (used_ok g f1 f1 n) (unused_ok f1 f1 n (3 - n)) (rw (a, b) at e)))
       (λ b.
       rw (a, b)
-      (ap good_third (third-parts (one-few f1 a))
-      ∙ third-bad (three_ok (slot_bytes t (named_third g f1))) (used_ok g f1 (slot_bytes t (named_third g f1)) n) (unused_ok f1 (slot_bytes t (named_third g f1)) n (16 - n)) (named_third g f1) (rw (a, b) at e))))
+      (ap good_third (third_parts (one_few f1 a))
+      ∙ third_bad (three_ok (slot_bytes t (named_third g f1))) (used_ok g f1 (slot_bytes t (named_third g f1)) n) (unused_ok f1 (slot_bytes t (named_third g f1)) n (16 - n)) (named_third g f1) (rw (a, b) at e))))
       (λ a. rw a)
 
   pub record Shaped (q : ℕ) : Type 0 where
@@ -133,37 +133,37 @@ module _ (g : Geometry) (limit : Limits g) (t : List ℕ) (long : (j : ℕ) → 
     pub few : n ≤ 16
     pub form : form_of g t k ≡ form_if (used_ok g f1 (slot_bytes t q) n) q
 
-  pub shape-good : (q : ℕ) → shape_of g t k ≡ sound_label q → Shaped q
+  pub shape_good : (q : ℕ) → shape_of g t k ≡ sound_label q → Shaped q
   unfolding shape_of form_of few_shape third_shape
-  shape-good q e =
+  shape_good q e =
       by (one_ok f1)
       (λ a.
       by (leb n 3)
       (λ b.
       let f = rw (a, b) at e in
-      let z : 0 ≡ q = few-slot (all_are 0 (part 135 5 f1) && unused_ok f1 f1 n (3 - n)) q f in
+      let z : 0 ≡ q = few_slot (all_are 0 (part 135 5 f1) && unused_ok f1 f1 n (3 - n)) q f in
       let w : q < slots g = omega (arith, limit.least) in
       let u = leb-true _ _ b in
       record {
         slot = w;
-        few = one-few f1 a;
+        few = one_few f1 a;
         form =
             rw (a, b)
-            (ap good_if (few-parts u)
-            ∙ few-good (all_are 0 (part 135 5 f1)) (used_ok g f1 f1 n) (unused_ok f1 f1 n (3 - n)) q f
-            ∙ ap (λ (x : Bool). form_if x q) (same-used g.heads (tracks g) f1 f1 (slot_bytes t q) n 0 n (long k inside) (long k inside) (long q w) (omega arith)));
+            (ap good_if (few_parts u)
+            ∙ few_good (all_are 0 (part 135 5 f1)) (used_ok g f1 f1 n) (unused_ok f1 f1 n (3 - n)) q f
+            ∙ ap (λ (x : Bool). form_if x q) (same_used g.heads (tracks g) f1 f1 (slot_bytes t q) n 0 n (long k inside) (long k inside) (long q w) (omega arith)));
       })
       (λ b.
       let f = rw (a, b) at e in
       let p : ℕ = named_third g f1 in
-      let z : p ≡ q = third-slot (three_ok (slot_bytes t p) && unused_ok f1 (slot_bytes t p) n (16 - n)) p q f in
+      let z : p ≡ q = third_slot (three_ok (slot_bytes t p) && unused_ok f1 (slot_bytes t p) n (16 - n)) p q f in
       record {
-        slot = subst (λ (i : ℕ). i < slots g) z (linked-below g f1 limit);
-        few = one-few f1 a;
+        slot = subst (λ (i : ℕ). i < slots g) z (linked_below g f1 limit);
+        few = one_few f1 a;
         form =
             rw (a, b)
-            (ap good_third (third-parts (one-few f1 a))
-            ∙ third-good (three_ok (slot_bytes t p)) (used_ok g f1 (slot_bytes t p) n) (unused_ok f1 (slot_bytes t p) n (16 - n)) p q f
+            (ap good_third (third_parts (one_few f1 a))
+            ∙ third_good (three_ok (slot_bytes t p)) (used_ok g f1 (slot_bytes t p) n) (unused_ok f1 (slot_bytes t p) n (16 - n)) p q f
             ∙ ap (λ (i : ℕ). form_if (used_ok g f1 (slot_bytes t i) n) q) z);
       }))
       (λ a. not_sound (rw a at e))

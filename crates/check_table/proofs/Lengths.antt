@@ -8,14 +8,14 @@ use lib.Dec.{leb}
 use lib.ListN.{length}
 use Rattle.rules.specs.Table.{good_length}
 
-pub odd-length : (t : List ℕ) → (length t % 140 ≡ 0 → ⊥) → false ≡ good_length t
+pub odd_length : (t : List ℕ) → (length t % 140 ≡ 0 → ⊥) → false ≡ good_length t
 unfolding good_length
-odd-length t f = rw (ne_eqb (length t % 140) 0 f)
+odd_length t f = rw (ne_eqb (length t % 140) 0 f)
 
-pub few-records : (t : List ℕ) → length t % 140 ≡ 0 → length t / 140 < 3 → false ≡ good_length t
+pub few_records : (t : List ℕ) → length t % 140 ≡ 0 → length t / 140 < 3 → false ≡ good_length t
 unfolding good_length
-few-records t e u = rw (eq-eqb (length t % 140) 0 e, lt-leb 3 (length t / 140) u)
+few_records t e u = rw (eq-eqb (length t % 140) 0 e, lt-leb 3 (length t / 140) u)
 
-pub some-records : (t : List ℕ) → length t % 140 ≡ 0 → 3 ≤ length t / 140 → leb (length t / 140) 468 ≡ good_length t
+pub some_records : (t : List ℕ) → length t % 140 ≡ 0 → 3 ≤ length t / 140 → leb (length t / 140) 468 ≡ good_length t
 unfolding good_length
-some-records t e u = rw (eq-eqb (length t % 140) 0 e, le-leb 3 (length t / 140) u)
+some_records t e u = rw (eq-eqb (length t % 140) 0 e, le-leb 3 (length t / 140) u)

@@ -13,28 +13,28 @@ use Rattle.dscb.specs.Records.{slot_bytes}
 use Rattle.check_table.specs.Check.{Roomy, ones}
 
 -- words of ones: every track is free
-ones-free : (n : ℕ) → AllFree (ones n) 0 (64 * n)
+ones_free : (n : ℕ) → AllFree (ones n) 0 (64 * n)
 unfolding free_bit
-ones-free n t u h = rw (get_or-replicate {A = ℕ} n (t / 64) 0xffff_ffff_ffff_ffff 0 (omega arith)) (all_ones (t % 64) (omega arith))
+ones_free n t u h = rw (get_or-replicate {A = ℕ} n (t / 64) 0xffff_ffff_ffff_ffff 0 (omega arith)) (all_ones (t % 64) (omega arith))
 
-fresh-ones : (m : List ℕ) (n : ℕ) → m ≡ ones n → (length m ≡ n) × AllFree m 0 (64 * length m)
-fresh-ones m n e =
+fresh_ones : (m : List ℕ) (n : ℕ) → m ≡ ones n → (length m ≡ n) × AllFree m 0 (64 * length m)
+fresh_ones m n e =
     let l : length m ≡ n = ap length e ∙ length-replicate {A = ℕ} n 0xffff_ffff_ffff_ffff in
-    (l, subst (λ (x : List ℕ). AllFree x 0 (64 * length m)) (sym e) (λ t u h. ones-free n t u (omega arith)))
+    (l, subst (λ (x : List ℕ). AllFree x 0 (64 * length m)) (sym e) (λ t u h. ones_free n t u (omega arith)))
 
 -- 1,024 words have room for every volume
-pub roomy-large : (t m : List ℕ) → m ≡ ones 1024 → Roomy t m
-roomy-large t m e =
-    let f = fresh-ones m 1024 e in
+pub roomy_large : (t m : List ℕ) → m ≡ ones 1024 → Roomy t m
+roomy_large t m e =
+    let f = fresh_ones m 1024 e in
     record {
       enough = λ lim. let u = lim.tracks_most in omega arith;
       fresh = f.1;
     }
 
 -- 64 words have room for 4,096 tracks
-pub roomy-small : (t m : List ℕ) → tracks (read_geometry (slot_bytes t 0)) ≤ 4096 → m ≡ ones 64 → Roomy t m
-roomy-small t m u e =
-    let f = fresh-ones m 64 e in
+pub roomy_small : (t m : List ℕ) → tracks (read_geometry (slot_bytes t 0)) ≤ 4096 → m ≡ ones 64 → Roomy t m
+roomy_small t m u e =
+    let f = fresh_ones m 64 e in
     record {
       enough = λ lim. omega arith;
       fresh = f.1;
@@ -44,5 +44,5 @@ roomy-small t m u e =
 pub room_for : (t m : List ℕ) (g : Geometry) → Roomy t m → g ≡ read_geometry (slot_bytes t 0) → Limits g → tracks g ≤ 64 * length m
 room_for t m g x e lim = subst (λ (h : Geometry). tracks h ≤ 64 * length m) (sym e) (x.enough (subst Limits e lim))
 
-pub free-for : (t m : List ℕ) (g : Geometry) → Roomy t m → g ≡ read_geometry (slot_bytes t 0) → Limits g → AllFree m 0 (tracks g)
-free-for t m g x e lim i u h = let w = room_for t m g x e lim in x.fresh i u (omega arith)
+pub free_for : (t m : List ℕ) (g : Geometry) → Roomy t m → g ≡ read_geometry (slot_bytes t 0) → Limits g → AllFree m 0 (tracks g)
+free_for t m g x e lim i u h = let w = room_for t m g x e lim in x.fresh i u (omega arith)

@@ -8,62 +8,62 @@ use lib.Dec.{T}
 use lib.ListN.{get_or, length}
 use Rattle.model.specs.Basics.{same}
 use Rattle.model.specs.Model.{Geometry, Volume, held, run, slots, tracks, unused}
-use Rattle.model.proofs.Lists.{by, clash, is_true, same_refl, same→eq, true-is}
-use Rattle.model.proofs.Runs.{hit-below}
+use Rattle.model.proofs.Lists.{by, clash, is_true, same_refl, same→eq, true_is}
+use Rattle.model.proofs.Runs.{hit_below}
 use Rattle.rules.specs.Layout.{format4}
 use Rattle.rules.specs.Reading.{chop, read, read_geometry, read_records}
 use Rattle.rules.specs.Table.{limits, taken}
-use Rattle.rules.proofs.Taken.{length-encode, taken_is}
+use Rattle.rules.proofs.Taken.{length_encode, taken_is}
 use Rattle.rules.specs.Predicates.{Limits}
-use Rattle.rules.proofs.Meaning.{records_of, sound-taken, taken-sound}
+use Rattle.rules.proofs.Meaning.{records_of, sound_taken, taken_sound}
 use Rattle.bitmap.specs.Map.{AllFree, FreedBelow, Shows, Taken}
-use Rattle.bitmap.proofs.Held.{shows-opened, shows-take, taken_true}
+use Rattle.bitmap.proofs.Held.{shows_opened, shows_take, taken_true}
 use Rattle.dscb.specs.Records.{slot_bytes}
-use Rattle.dscb.proofs.Records.{chop-slot}
+use Rattle.dscb.proofs.Records.{chop_slot}
 use Rattle.dscb.specs.Forms.{geometry_of}
 use Rattle.check_label.specs.Marks.{units}
-use Rattle.check_table.proofs.Scan.{unit-tally}
+use Rattle.check_table.proofs.Scan.{unit_tally}
 use Rattle.check_table.specs.Spare.{Spared, highest_slot}
-use Rattle.check_table.proofs.Unused.{count-unused}
+use Rattle.check_table.proofs.Unused.{count_unused}
 use Rattle.check_table.specs.declared.Verdict.{Verdict}
 use Rattle.check_table.specs.Check.{Checked, Contents, MapsBegun, RestTold, Shown, TellsVolume, volume_at}
-use Rattle.check_table.proofs.Read.{records-are, volume-is}
+use Rattle.check_table.proofs.Read.{records_are, volume_is}
 
 -- ---- the maps
 
 -- slot 0, or the first track, of a map in which nothing is held
 first_taken : (m m₁ m₂ : List ℕ) (n : ℕ) (r : Bool) → 1 ≤ n → FreedBelow m m₁ n → Taken m₁ m₂ 0 1 r → Shows m₂ n (run 0 1 ∷ [])
 first_taken m m₁ m₂ n r pos b x =
-    let h = shows-opened m m₁ n b in
+    let h = shows_opened m m₁ n b in
     let a : AllFree m₁ 0 1 = λ t u w. let z = h t (omega arith) in omega arith in
     let e = taken_true m₁ m₂ 0 1 r a x in
-    shows-take m₁ m₂ n 0 1 [] h a (x.made e)
+    shows_take m₁ m₂ n 0 1 [] h a (x.made e)
 
 module _ (g : Geometry) (limit : Limits g) (m m₁ m₂ : List ℕ) (r₁ r₂ : Bool) (b : AllFree m 0 (tracks g))
     (x : Taken m m₁ g.vtoc_start (g.vtoc_start + g.vtoc_tracks) r₁) (y : Taken m₁ m₂ 0 1 r₂) where
-  pub tracks-begun : Shows m₂ (tracks g) (held g [])
+  pub tracks_begun : Shows m₂ (tracks g) (held g [])
   unfolding held
-  tracks-begun =
+  tracks_begun =
       let h : Shows m (tracks g) [] = λ t u. let z = b t (omega arith) u in omega arith in
       let n = limit.ends in
       let f : AllFree m g.vtoc_start (g.vtoc_start + g.vtoc_tracks) = λ t u w. b t (omega arith) (omega arith) in
       let e = taken_true m m₁ g.vtoc_start (g.vtoc_start + g.vtoc_tracks) r₁ f x in
-      let k = shows-take m m₁ (tracks g) g.vtoc_start g.vtoc_tracks [] h f (x.made e) in
+      let k = shows_take m m₁ (tracks g) g.vtoc_start g.vtoc_tracks [] h f (x.made e) in
       let s = limit.start in
       let p : AllFree m₁ 0 1 = λ t u w.
       let z = k t (omega arith) in
-      let c = hit-below (run g.vtoc_start g.vtoc_tracks) t (omega arith) in
+      let c = hit_below (run g.vtoc_start g.vtoc_tracks) t (omega arith) in
       omega arith
       in
       let q = taken_true m₁ m₂ 0 1 r₂ p y in
-      shows-take m₁ m₂ (tracks g) 0 1 (run g.vtoc_start g.vtoc_tracks ∷ []) k p (y.made q)
+      shows_take m₁ m₂ (tracks g) 0 1 (run g.vtoc_start g.vtoc_tracks ∷ []) k p (y.made q)
 
-  pub maps-begun : (s s₁ s₂ : List ℕ) (r₃ : Bool) (n : ℕ) → n ≡ slots g → FreedBelow s s₁ n → Taken s₁ s₂ 0 1 r₃ → MapsBegun g m m₂ s s₂
-  maps-begun s s₁ s₂ r₃ n e c z =
+  pub maps_begun : (s s₁ s₂ : List ℕ) (r₃ : Bool) (n : ℕ) → n ≡ slots g → FreedBelow s s₁ n → Taken s₁ s₂ 0 1 r₃ → MapsBegun g m m₂ s s₂
+  maps_begun s s₁ s₂ r₃ n e c z =
       record {
         long_map = y.long ∙ x.long;
         long_slots = z.long ∙ c.long;
-        free_tracks = tracks-begun;
+        free_tracks = tracks_begun;
         free_slots = first_taken s s₁ s₂ (slots g) r₃ (omega (arith, limit.least)) (subst (FreedBelow s s₁) e c) z;
       }
 
@@ -73,15 +73,15 @@ module _ (g : Geometry) (t s : List ℕ) (clear : Bool) (count n : ℕ) (all : n
   x : Spared t (slots g) s clear count
   x = subst (λ (k : ℕ). Spared t k s clear count) all spared
 
-  pub rest-unclear : clear ≡ false → (v : Verdict) → v.taken ≡ false → RestTold g t s v
-  rest-unclear e v f =
+  pub rest_unclear : clear ≡ false → (v : Verdict) → v.taken ≡ false → RestTold g t s v
+  rest_unclear e v f =
       record {
         yes = λ q. clash q f;
         geometry_is = λ q. clash q f;
         count_is = λ q. clash q f;
         count_most = λ q. clash q f;
         highest_is = λ q. clash q f;
-        no = λ _ us h y. x.wrong e (λ k u i. y.zero k u (let a = h k u in let c = unit-tally k us in omega arith));
+        no = λ _ us h y. x.wrong e (λ k u i. y.zero k u (let a = h k u in let c = unit_tally k us in omega arith));
       }
 
   -- the verdict v, whose numbers are those that the format 4 is made of
@@ -90,90 +90,90 @@ module _ (g : Geometry) (t s : List ℕ) (clear : Bool) (count n : ℕ) (all : n
     high : v.highest ≡ highest_slot t (slots g)
     high = highest ∙ ap (highest_slot t) all
 
-    count-is : (us : List ℕ) → Shows s (slots g) (units us) → count ≡ length (unused (slots g) us)
-    count-is us w = x.many e ∙ count-unused s (slots g) us (λ k u. let a = w k u in let c = unit-tally k us in omega arith)
+    count_is : (us : List ℕ) → Shows s (slots g) (units us) → count ≡ length (unused (slots g) us)
+    count_is us w = x.many e ∙ count_unused s (slots g) us (λ k u. let a = w k u in let c = unit_tally k us in omega arith)
 
-    made-is : (us : List ℕ) → Shows s (slots g) (units us) → made ≡ format4 g (highest_slot t (slots g)) (length (unused (slots g) us))
-    made-is us w = four ∙ ap (λ (k : ℕ). format4 g k count) high ∙ ap (format4 g (highest_slot t (slots g))) (count-is us w)
+    made_is : (us : List ℕ) → Shows s (slots g) (units us) → made ≡ format4 g (highest_slot t (slots g)) (length (unused (slots g) us))
+    made_is us w = four ∙ ap (λ (k : ℕ). format4 g k count) high ∙ ap (format4 g (highest_slot t (slots g))) (count_is us w)
 
-    pub rest-told : RestTold g t s v
-    rest-told =
+    pub rest_told : RestTold g t s v
+    rest_told =
         record {
           geometry_is = λ _. is;
-          count_is = λ _ us w. many ∙ count-is us w;
+          count_is = λ _ us w. many ∙ count_is us w;
           count_most = λ _. let a = x.most in omega arith;
           highest_is = λ _. high;
           yes = λ q us w.
               record {
-                zero = λ k u z. x.zero e k u (let a = w k u in let c = unit-tally k us in omega arith);
-                four = sym (made-is us w) ∙ same→eq made rec (true-is (sym o ∙ q)) ∙ first;
+                zero = λ k u z. x.zero e k u (let a = w k u in let c = unit_tally k us in omega arith);
+                four = sym (made_is us w) ∙ same→eq made rec (true_is (sym o ∙ q)) ∙ first;
               };
           no = λ q us w y.
-              let i : made ≡ rec = made-is us w ∙ y.four ∙ sym first in
+              let i : made ≡ rec = made_is us w ∙ y.four ∙ sym first in
               clash (ap (same made) (sym i) ∙ is_true (same_refl made)) (sym o ∙ q);
         }
 
 -- ---- refused at once
 
 refused : (t : List ℕ) → (T (taken t) → ⊥) → false ≡ taken t
-refused t f = by (taken t) (λ e. absurd (f (true-is e))) (λ e. sym e)
+refused t f = by (taken t) (λ e. absurd (f (true_is e))) (λ e. sym e)
 
 -- nothing was marked in the maps, and the verdict v says so
 module _ (t m s : List ℕ) (v : Verdict) (out : v.taken ≡ false) where
-  no-maps : (T (taken t) → ⊥) → Checked t m m s s v
-  no-maps f = record { long_map = refl; long_slots = refl; told = out ∙ refused t f; shown = λ q. clash q out; tells = λ q. clash q out }
+  no_maps : (T (taken t) → ⊥) → Checked t m m s s v
+  no_maps f = record { long_map = refl; long_slots = refl; told = out ∙ refused t f; shown = λ q. clash q out; tells = λ q. clash q out }
 
-pub taken-long : (t : List ℕ) → T (taken t) → length t ≡ slots (read t).geometry * 140
-taken-long t x = let p = taken_is t x in ap length (sym p.1) ∙ length-encode (read t) p.0
+pub taken_long : (t : List ℕ) → T (taken t) → length t ≡ slots (read t).geometry * 140
+taken_long t x = let p = taken_is t x in ap length (sym p.1) ∙ length_encode (read t) p.0
 
-pub geometry-read : (t : List ℕ) → 140 ≤ length t → (read t).geometry ≡ read_geometry (slot_bytes t 0)
+pub geometry_read : (t : List ℕ) → 140 ≤ length t → (read t).geometry ≡ read_geometry (slot_bytes t 0)
 unfolding read read_records
-geometry-read t u = ap read_geometry (chop-slot (length t / 140) t 0 (omega arith))
+geometry_read t u = ap read_geometry (chop_slot (length t / 140) t 0 (omega arith))
 
-four-id : (g : Geometry) (a b : ℕ) → get_or (format4 g a b) 44 0 ≡ 0xF4
+four_id : (g : Geometry) (a b : ℕ) → get_or (format4 g a b) 44 0 ≡ 0xF4
 unfolding format4
-four-id g a b = refl
+four_id g a b = refl
 
 module _ (t m s : List ℕ) (v : Verdict) (out : v.taken ≡ false) where
   pub too_short : length t < 140 → Checked t m m s s v
-  too_short u = no-maps t m s v out (λ x. let l = taken-long t x in let n = (taken-sound t x).limits.least in omega arith)
+  too_short u = no_maps t m s v out (λ x. let l = taken_long t x in let n = (taken_sound t x).limits.least in omega arith)
 
   module _ (u : 140 ≤ length t) where
-    pub no-four : (rec : List ℕ) → rec ≡ slot_bytes t 0 → (get_or rec 44 0 ≡ 0xF4 → ⊥) → Checked t m m s s v
-    no-four rec e f =
-        no-maps t m s v out (λ x.
-        let y = taken-sound t x in
-        f (ap (λ (r : List ℕ). get_or r 44 0) (e ∙ sym (chop-slot (length t / 140) t 0 (omega arith)) ∙ sym y.four) ∙ four-id (read t).geometry _ _))
+    pub no_four : (rec : List ℕ) → rec ≡ slot_bytes t 0 → (get_or rec 44 0 ≡ 0xF4 → ⊥) → Checked t m m s s v
+    no_four rec e f =
+        no_maps t m s v out (λ x.
+        let y = taken_sound t x in
+        f (ap (λ (r : List ℕ). get_or r 44 0) (e ∙ sym (chop_slot (length t / 140) t 0 (omega arith)) ∙ sym y.four) ∙ four_id (read t).geometry _ _))
 
     module _ (g : Geometry) (e : g ≡ read_geometry (slot_bytes t 0)) where
-      pub out-of-limits : limits g ≡ false → Checked t m m s s v
-      out-of-limits f =
-          no-maps t m s v out (λ x.
-          let q : (read t).geometry ≡ g = geometry-read t u ∙ sym e in
+      pub out_of_limits : limits g ≡ false → Checked t m m s s v
+      out_of_limits f =
+          no_maps t m s v out (λ x.
+          let q : (read t).geometry ≡ g = geometry_read t u ∙ sym e in
           clash (is_true (taken_is t x).0.limit) (ap limits q ∙ f))
 
-      pub wrong-length : (n : ℕ) → n ≡ slots g → (length t ≡ 140 * n → ⊥) → Checked t m m s s v
-      wrong-length n all f =
-          no-maps t m s v out (λ x.
-          let q : slots (read t).geometry ≡ slots g = ap slots (geometry-read t u ∙ sym e) in
-          let l = taken-long t x in
+      pub wrong_length : (n : ℕ) → n ≡ slots g → (length t ≡ 140 * n → ⊥) → Checked t m m s s v
+      wrong_length n all f =
+          no_maps t m s v out (λ x.
+          let q : slots (read t).geometry ≡ slots g = ap slots (geometry_read t u ∙ sym e) in
+          let l = taken_long t x in
           f (omega arith))
 
 -- ---- the contents decide
 
-pub contents-decide : (t m m' s s' : List ℕ) (g : Geometry) (r : Verdict) → Limits g → g ≡ read_geometry (slot_bytes t 0) → length t ≡ 140 * slots g → Contents g t m m' s s' r
+pub contents_decide : (t m m' s s' : List ℕ) (g : Geometry) (r : Verdict) → Limits g → g ≡ read_geometry (slot_bytes t 0) → length t ≡ 140 * slots g → Contents g t m m' s s' r
     → Checked t m m' s s' r
-contents-decide t m m' s s' g r limit e len x =
+contents_decide t m m' s s' g r limit e len x =
     let n = limit.least in
-    let v : read t ≡ volume_at g t = volume-is g t len (omega arith) e in
-    let c : records_of t ≡ chop (slots g) t = records-are g t len in
+    let v : read t ≡ volume_at g t = volume_is g t len (omega arith) e in
+    let c : records_of t ≡ chop (slots g) t = records_are g t len in
     record {
       long_map = x.long_map;
       long_slots = x.long_slots;
       told =
           by r.taken
-          (λ q. q ∙ sym (is_true (sound-taken t (let z : length t % 140 ≡ 0 = omega arith in z) (rw (v, c) (x.yes q)))))
-          (λ q. q ∙ refused t (λ y. x.no q (let z = taken-sound t y in rw (v, c) at z)));
+          (λ q. q ∙ sym (is_true (sound_taken t (let z : length t % 140 ≡ 0 = omega arith in z) (rw (v, c) (x.yes q)))))
+          (λ q. q ∙ refused t (λ y. x.no q (let z = taken_sound t y in rw (v, c) at z)));
       shown = λ q. subst (λ (w : Volume). Shown w m' s') (sym v) (x.shown q);
       tells = λ q. subst (λ (w : Volume). TellsVolume w (geometry_of r.geometry) r.format0s r.highest) (sym v) (x.tells q);
     }

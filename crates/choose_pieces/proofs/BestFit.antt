@@ -15,9 +15,9 @@ use Rattle.choose_pieces.specs.Pass.{better, best_after, no_run, run_or_none, fi
 
 -- ---- one more candidate
 
-is-run : (c : Run) → 1 ≤ c.count → run_or_none c ≡ some c
+is_run : (c : Run) → 1 ≤ c.count → run_or_none c ≡ some c
 unfolding run_or_none
-is-run c h = rw (le-leb 1 c.count h)
+is_run c h = rw (le-leb 1 c.count h)
 
 is_none : (c : Run) → c.count ≡ 0 → run_or_none c ≡ none
 unfolding run_or_none
@@ -28,17 +28,17 @@ earlier none o = o
 earlier (some b) o = shorter b o
 
 -- c is shorter than b, and so is the shortest with c in front
-skip-longer : (b c : Run) (o : Option Run) → c.count < b.count → shorter b (shorter c o) ≡ shorter c o
-skip-longer b c none h = rw (lt-leb b.count c.count h)
-skip-longer b c (some d) h =
+skip_longer : (b c : Run) (o : Option Run) → c.count < b.count → shorter b (shorter c o) ≡ shorter c o
+skip_longer b c none h = rw (lt-leb b.count c.count h)
+skip_longer b c (some d) h =
     by (leb c.count d.count)
     (λ q. simp (q, lt-leb b.count c.count h))
     (λ q. simp (q, lt-leb b.count d.count (omega (arith, leb-false c.count d.count q))))
 
 -- c is no shorter than b, which is in front
-skip-later : (b c : Run) (o : Option Run) → b.count ≤ c.count → shorter b (shorter c o) ≡ shorter b o
-skip-later b c none h = rw (le-leb b.count c.count h)
-skip-later b c (some d) h =
+skip_later : (b c : Run) (o : Option Run) → b.count ≤ c.count → shorter b (shorter c o) ≡ shorter b o
+skip_later b c none h = rw (le-leb b.count c.count h)
+skip_later b c (some d) h =
     by (leb c.count d.count)
     (λ q. simp (q, le-leb b.count c.count h, le-leb b.count d.count (omega (arith, leb-true c.count d.count q))))
     (λ q. simp q)
@@ -48,51 +48,51 @@ module _ (n : ℕ) (pos : 1 ≤ n) (b c : Run) where
   unfolding fits_better
   too_short h = rw (lt-leb n c.count h)
 
-  first-fit : n ≤ c.count → b.count ≡ 0 → better n b c ≡ c
+  first_fit : n ≤ c.count → b.count ≡ 0 → better n b c ≡ c
   unfolding fits_better
-  first-fit h e = rw (le-leb n c.count h, eq-eqb b.count 0 e)
+  first_fit h e = rw (le-leb n c.count h, eq-eqb b.count 0 e)
 
-  shorter-fit : n ≤ c.count → (b.count ≡ 0 → ⊥) → c.count < b.count → better n b c ≡ c
+  shorter_fit : n ≤ c.count → (b.count ≡ 0 → ⊥) → c.count < b.count → better n b c ≡ c
   unfolding fits_better
-  shorter-fit h e k = rw (le-leb n c.count h, ne_eqb b.count 0 e, lt-ltb c.count b.count k)
+  shorter_fit h e k = rw (le-leb n c.count h, ne_eqb b.count 0 e, lt-ltb c.count b.count k)
 
-  other-fit : n ≤ c.count → (b.count ≡ 0 → ⊥) → b.count ≤ c.count → better n b c ≡ b
+  other_fit : n ≤ c.count → (b.count ≡ 0 → ⊥) → b.count ≤ c.count → better n b c ≡ b
   unfolding fits_better
-  other-fit h e k = rw (le-leb n c.count h, ne_eqb b.count 0 e, le-ltb c.count b.count k)
+  other_fit h e k = rw (le-leb n c.count h, ne_eqb b.count 0 e, le-ltb c.count b.count k)
 
   one_more : (o : Option Run) → n ≤ c.count → earlier (run_or_none (better n b c)) o ≡ earlier (run_or_none b) (shorter c o)
   one_more o h =
       by (eqb b.count 0)
       (λ q.
       let e : b.count ≡ 0 = eqb-true _ _ q in
-      rw (first-fit h e, is-run c (omega arith), is_none b e))
+      rw (first_fit h e, is_run c (omega arith), is_none b e))
       (λ q.
       let e : b.count ≡ 0 → ⊥ = eqb-false _ _ q in
       by (ltb c.count b.count)
-      (λ k. let l : c.count < b.count = ltb-true _ _ k in rw (shorter-fit h e l, is-run c (omega arith), is-run b (omega arith)) (sym (skip-longer b c o l)))
-      (λ k. let l : b.count ≤ c.count = ltb-false _ _ k in rw (other-fit h e l, is-run b (omega arith)) (sym (skip-later b c o l))))
+      (λ k. let l : c.count < b.count = ltb-true _ _ k in rw (shorter_fit h e l, is_run c (omega arith), is_run b (omega arith)) (sym (skip_longer b c o l)))
+      (λ k. let l : b.count ≤ c.count = ltb-false _ _ k in rw (other_fit h e l, is_run b (omega arith)) (sym (skip_later b c o l))))
 
 -- ---- all of them
 
 -- once the best has exactly n units, no candidate is better
-pub exact-stays : (u n : ℕ) (b : Run) (rs : List Run) → 1 ≤ n → b.count ≡ n → best_after u n b rs ≡ b
-exact-stays u n b [] pos e = refl
-exact-stays u n b (r ∷ rs) pos e = ap (λ (x : Run). best_after u n x rs) (one (whole_in u r)) ∙ exact-stays u n b rs pos e
+pub exact_stays : (u n : ℕ) (b : Run) (rs : List Run) → 1 ≤ n → b.count ≡ n → best_after u n b rs ≡ b
+exact_stays u n b [] pos e = refl
+exact_stays u n b (r ∷ rs) pos e = ap (λ (x : Run). best_after u n x rs) (one (whole_in u r)) ∙ exact_stays u n b rs pos e
   where
     one : (c : Run) → better n b c ≡ b
-    one c = by (leb n c.count) (λ h. let k : n ≤ c.count = leb-true _ _ h in other-fit n pos b c k (λ z. omega arith) (omega arith)) (λ h. too_short n pos b c (leb-false _ _ h))
+    one c = by (leb n c.count) (λ h. let k : n ≤ c.count = leb-true _ _ h in other_fit n pos b c k (λ z. omega arith) (omega arith)) (λ h. too_short n pos b c (leb-false _ _ h))
 
-from-left : (u n : ℕ) (b : Run) (rs : List Run) → 1 ≤ n
+from_left : (u n : ℕ) (b : Run) (rs : List Run) → 1 ≤ n
     → run_or_none (best_after u n b rs) ≡ earlier (run_or_none b) (shortest (serving n (candidates u rs)))
-from-left u n b [] pos = go (run_or_none b)
+from_left u n b [] pos = go (run_or_none b)
   where
     go : (o : Option Run) → o ≡ earlier o none
     go none = refl
     go (some b) = refl
-from-left u n b (r ∷ rs) pos =
+from_left u n b (r ∷ rs) pos =
     let c = whole_in u r in
     let o = shortest (serving n (candidates u rs)) in
-    let i = from-left u n (better n b c) rs pos in
+    let i = from_left u n (better n b c) rs pos in
     by (leb n c.count)
     (λ h.
     let k : n ≤ c.count = leb-true _ _ h in
@@ -105,5 +105,5 @@ from-left u n b (r ∷ rs) pos =
     skipped true c cs h = rw h
     skipped false c cs h = refl
 
-pub best-law : (u n : ℕ) (rs : List Run) → 1 ≤ n → run_or_none (best_after u n no_run rs) ≡ shortest (serving n (candidates u rs))
-best-law u n rs pos = from-left u n no_run rs pos ∙ ap (λ (x : Option Run). earlier x (shortest (serving n (candidates u rs)))) (is_none no_run refl)
+pub best_law : (u n : ℕ) (rs : List Run) → 1 ≤ n → run_or_none (best_after u n no_run rs) ≡ shortest (serving n (candidates u rs))
+best_law u n rs pos = from_left u n no_run rs pos ∙ ap (λ (x : Option Run). earlier x (shortest (serving n (candidates u rs)))) (is_none no_run refl)

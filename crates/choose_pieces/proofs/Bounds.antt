@@ -16,8 +16,8 @@ whole_is u from to n h e =
     ap (run ((from + u - 1) / u)) (e ∙ ap (λ (x : ℕ). x / u - (from + u - 1) / u) q)
 
 -- units of one track
-pub whole-one : (u from to : ℕ) → from ≤ to → u ≡ 1 → run from (to - from) ≡ whole_in u (run from (to - from))
-whole-one u from to h e =
+pub whole_one : (u from to : ℕ) → from ≤ to → u ≡ 1 → run from (to - from) ≡ whole_in u (run from (to - from))
+whole_one u from to h e =
     let a : from ≡ (from + 1 - 1) / 1 = sym (div-one (from + 1 - 1) ∙ (let q : from + 1 - 1 ≡ from = omega arith in q)) in
     let b : (from + (to - from)) / 1 ≡ from + (to - from) = div-one (from + (to - from)) in
     let c : to - from ≡ (from + (to - from)) / 1 - (from + 1 - 1) / 1 = omega arith in
@@ -34,18 +34,18 @@ small u ds pos w k =
 -- ---- the rows that the code holds
 
 -- as omega reads it
-pub rows-small : (rs : List (List ℕ)) → Small (to_runs rs)
+pub rows_small : (rs : List (List ℕ)) → Small (to_runs rs)
     → (get_or (get_or rs 0 []) 1 0 ≤ 65535) × (get_or (get_or rs 1 []) 1 0 ≤ 65535) × (get_or (get_or rs 2 []) 1 0 ≤ 65535)
     × (get_or (get_or rs 3 []) 1 0 ≤ 65535) × (get_or (get_or rs 4 []) 1 0 ≤ 65535)
-rows-small rs w = (at 0, at 1, at 2, at 3, at 4)
+rows_small rs w = (at 0, at 1, at 2, at 3, at 4)
   where
     at : (k : ℕ) → get_or (get_or rs k []) 1 0 ≤ 65535
     at k = subst (λ (r : Run). r.count ≤ 65535) (get_or-map to_run rs k []) (w k)
 
 -- the first n units of candidate k have tracks of 16 bits
-pub part-within : (u : ℕ) (rs : List (List ℕ)) (k : ℕ) (c : List ℕ) (n : ℕ) → Within u (to_runs rs) → c ≡ get_or rs k [] → n ≤ get_or c 1 0
+pub part_within : (u : ℕ) (rs : List (List ℕ)) (k : ℕ) (c : List ℕ) (n : ℕ) → Within u (to_runs rs) → c ≡ get_or rs k [] → n ≤ get_or c 1 0
     → (get_or c 0 0 * u ≤ 65535) × (n * u ≤ 65535)
-part-within u rs k c n w e h =
+part_within u rs k c n w e h =
     let a = subst (λ (r : Run). (r.start + r.count) * u ≤ 65535) (get_or-map to_run rs k [] ∙ ap to_run (sym e)) (w k) in
     let b = mul-le-mul_right u h in
     (omega arith, omega arith)

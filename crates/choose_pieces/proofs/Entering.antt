@@ -39,20 +39,20 @@ module _ (n : ℕ) (c : List ℕ) (five₀ : List (List ℕ)) (held : List ℕ) 
       ∙ one_further d (inserted_at n (to_run held) r)
       ∙ rw (add-one, take-suc five k [] h)
 
-pub enter-done : (n : ℕ) (c : List ℕ) (five₀ : List (List ℕ)) (held : List ℕ) (five : List (List ℕ)) (k : ℕ) → length five ≤ k → Entering n c five₀ held five k
+pub enter_done : (n : ℕ) (c : List ℕ) (five₀ : List (List ℕ)) (held : List ℕ) (five : List (List ℕ)) (k : ℕ) → length five ≤ k → Entering n c five₀ held five k
     → to_runs five ≡ inserted_at n (to_run c) (to_runs five₀)
 unfolding inserted_at
-enter-done n c five₀ held five k h e =
+enter_done n c five₀ held five k h e =
     sym (e ∙ rw (take_all k five h, drop_of_length-le five {i = k} h) (append-nil (to_runs five)))
 
 fifth : (five : List (List ℕ)) → (get_or (to_runs five) 4 no_run).count ≡ get_or (get_or five 4 []) 1 0
 fifth five = ap (λ (r : Run). r.count) (get_or-map to_run five 4 [])
 
-pub enter-not : (c : List ℕ) (five : List (List ℕ)) → get_or c 1 0 ≤ get_or (get_or five 4 []) 1 0 → to_runs five ≡ entered (to_run c) (to_runs five)
+pub enter_not : (c : List ℕ) (five : List (List ℕ)) → get_or c 1 0 ≤ get_or (get_or five 4 []) 1 0 → to_runs five ≡ entered (to_run c) (to_runs five)
 unfolding entered
-enter-not c five h = rw (le-ltb (get_or (to_runs five) 4 no_run).count (get_or c 1 0) (omega (arith, fifth five)))
+enter_not c five h = rw (le-ltb (get_or (to_runs five) 4 no_run).count (get_or c 1 0) (omega (arith, fifth five)))
 
-pub enter-is : (c : List ℕ) (five five' : List (List ℕ)) → get_or (get_or five 4 []) 1 0 < get_or c 1 0 → to_runs five' ≡ inserted_at (get_or c 1 0) (to_run c) (to_runs five)
+pub enter_is : (c : List ℕ) (five five' : List (List ℕ)) → get_or (get_or five 4 []) 1 0 < get_or c 1 0 → to_runs five' ≡ inserted_at (get_or c 1 0) (to_run c) (to_runs five)
     → to_runs five' ≡ entered (to_run c) (to_runs five)
 unfolding entered
-enter-is c five five' h e = rw (lt-ltb (get_or (to_runs five) 4 no_run).count (get_or c 1 0) (omega (arith, fifth five))) e
+enter_is c five five' h e = rw (lt-ltb (get_or (to_runs five) 4 no_run).count (get_or c 1 0) (omega (arith, fifth five))) e

@@ -17,21 +17,21 @@ unfolding granted_runs choose
 fitting = refl
 
 -- step 3: 7 tracks are 15–19, then 7–8
-longest-first : granted_runs no_option 1 7 (run 7 3 ∷ run 15 5 ∷ []) ≡ some (run 15 5 ∷ run 7 2 ∷ [])
+longest_first_lem : granted_runs no_option 1 7 (run 7 3 ∷ run 15 5 ∷ []) ≡ some (run 15 5 ∷ run 7 2 ∷ [])
 unfolding granted_runs choose
-longest-first = refl
+longest_first_lem = refl
 
 -- six free tracks in six holes are not six tracks
-six-holes : granted_runs no_option 1 6 (run 1 1 ∷ run 3 1 ∷ run 5 1 ∷ run 7 1 ∷ run 9 1 ∷ run 11 1 ∷ []) ≡ none
+six_holes : granted_runs no_option 1 6 (run 1 1 ∷ run 3 1 ∷ run 5 1 ∷ run 7 1 ∷ run 9 1 ∷ run 11 1 ∷ []) ≡ none
 unfolding granted_runs choose
-six-holes = refl
+six_holes = refl
 
 -- ten tracks that cut two cylinders of five have one whole one
-cut-cylinders : granted_runs no_option 5 2 (run 7 10 ∷ []) ≡ none
+cut_cylinders : granted_runs no_option 5 2 (run 7 10 ∷ []) ≡ none
 unfolding granted_runs choose
-cut-cylinders = refl
+cut_cylinders = refl
 
 -- of two that fit alike, the lower; its head
-lowest-on-ties : granted_runs no_option 1 2 (run 3 4 ∷ run 10 3 ∷ run 20 3 ∷ []) ≡ some (run 10 2 ∷ [])
+lowest_on_ties : granted_runs no_option 1 2 (run 3 4 ∷ run 10 3 ∷ run 20 3 ∷ []) ≡ some (run 10 2 ∷ [])
 unfolding granted_runs choose
-lowest-on-ties = refl
+lowest_on_ties = refl

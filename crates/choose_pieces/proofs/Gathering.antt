@@ -20,37 +20,37 @@ use Rattle.choose_pieces.specs.Pass.{to_run, to_runs, no_run, padded}
 -- ---- laws of `gather`
 
 -- places that are filled up give nothing
-pub gather-padded : (k n : ℕ) (ds : List Run) → 1 ≤ n → gather n (padded k ds) ≡ gather n (take k ds)
+pub gather_padded : (k n : ℕ) (ds : List Run) → 1 ≤ n → gather n (padded k ds) ≡ gather n (take k ds)
 unfolding padded
-gather-padded zero n ds h = refl
-gather-padded (suc k) n [] h =
+gather_padded zero n ds h = refl
+gather_padded (suc k) n [] h =
     let e : n - 0 ≡ n = omega arith in
-    rw (lt-leb n 0 h, e) (ap (map_option (λ ps. no_run ∷ ps)) (gather-padded k n [] h ∙ ap (gather n) (take-nil k)))
-gather-padded (suc k) n (d ∷ ds) h =
+    rw (lt-leb n 0 h, e) (ap (map_option (λ ps. no_run ∷ ps)) (gather_padded k n [] h ∙ ap (gather n) (take-nil k)))
+gather_padded (suc k) n (d ∷ ds) h =
     by (leb n d.count) (λ q. rw q)
     (λ q.
     let l : d.count < n = leb-false _ _ q in
-    rw q (ap (map_option (λ ps. d ∷ ps)) (gather-padded k (n - d.count) ds (omega arith))))
+    rw q (ap (map_option (λ ps. d ∷ ps)) (gather_padded k (n - d.count) ds (omega arith))))
 
-gather-short : (n : ℕ) (ds : List Run) → total ds < n → gather n ds ≡ none
-gather-short n [] h = refl
-gather-short n (d ∷ ds) h =
+gather_short : (n : ℕ) (ds : List Run) → total ds < n → gather n ds ≡ none
+gather_short n [] h = refl
+gather_short n (d ∷ ds) h =
     let k : leb n d.count ≡ false = lt-leb n d.count (omega arith) in
-    rw (k, gather-short (n - d.count) ds (omega arith))
+    rw (k, gather_short (n - d.count) ds (omega arith))
 
 pub gathered_none : (u n : ℕ) (ds : List Run) → total ds < n → no_pieces ≡ grant_of (map_option (map (scale u)) (gather n ds))
 unfolding grant_of
-gathered_none u n ds h = rw (gather-short n ds h)
+gathered_none u n ds h = rw (gather_short n ds h)
 
-pub total-five : (rs : List (List ℕ)) → length rs ≡ 5
+pub total_five : (rs : List (List ℕ)) → length rs ≡ 5
     → get_or (get_or rs 0 []) 1 0 + get_or (get_or rs 1 []) 1 0 + get_or (get_or rs 2 []) 1 0 + get_or (get_or rs 3 []) 1 0 + get_or (get_or rs 4 []) 1 0 ≡ total (to_runs rs)
-total-five [] h = absurd (omega arith)
-total-five (a ∷ []) h = absurd (omega arith)
-total-five (a ∷ b ∷ []) h = absurd (omega arith)
-total-five (a ∷ b ∷ c ∷ []) h = absurd (omega arith)
-total-five (a ∷ b ∷ c ∷ d ∷ []) h = absurd (omega arith)
-total-five (a ∷ b ∷ c ∷ d ∷ e ∷ []) h = omega arith
-total-five (a ∷ b ∷ c ∷ d ∷ e ∷ f ∷ rs) h = absurd (omega arith)
+total_five [] h = absurd (omega arith)
+total_five (a ∷ []) h = absurd (omega arith)
+total_five (a ∷ b ∷ []) h = absurd (omega arith)
+total_five (a ∷ b ∷ c ∷ []) h = absurd (omega arith)
+total_five (a ∷ b ∷ c ∷ d ∷ []) h = absurd (omega arith)
+total_five (a ∷ b ∷ c ∷ d ∷ e ∷ []) h = omega arith
+total_five (a ∷ b ∷ c ∷ d ∷ e ∷ f ∷ rs) h = absurd (omega arith)
 
 -- ---- the turns
 
@@ -69,8 +69,8 @@ module _ (k : ℕ) (five : List (List ℕ)) (h : k < 5) (l : length five ≡ 5) 
   next_of = ap to_runs (drop-cons five k [] (omega arith))
 
   -- one more candidate in front
-  pub one-more-of : to_runs (take (suc k) five) ≡ to_runs (take k five) ++ (to_run (get_or five k []) ∷ [])
-  one-more-of = ap to_runs (take-suc five k [] (omega arith)) ∙ map-append to_run (take k five) (get_or five k [] ∷ [])
+  pub one_more_of : to_runs (take (suc k) five) ≡ to_runs (take k five) ++ (to_run (get_or five k []) ∷ [])
+  one_more_of = ap to_runs (take-suc five k [] (omega arith)) ∙ map-append to_run (take k five) (get_or five k [] ∷ [])
 
   -- and the places that their pieces have
   module _ (u : ℕ) (g : List (List ℕ)) (places : g ≡ rows u (to_runs (take k five)) ++ drop k no_pieces) where
@@ -83,11 +83,11 @@ module _ (k : ℕ) (five : List (List ℕ)) (h : k < 5) (l : length five ≡ 5) 
         ap (λ (x : List (List ℕ)). set x k r) e ∙ set_at (rows u w) (get_or no_pieces k []) (drop (suc k) no_pieces) r k n
 
     -- the piece of candidate k, whole
-    pub stored-whole : set g k (row (scale u (to_run (get_or five k [])))) ≡ rows u (to_runs (take (suc k) five)) ++ drop (suc k) no_pieces
-    stored-whole =
+    pub stored_whole : set g k (row (scale u (to_run (get_or five k [])))) ≡ rows u (to_runs (take (suc k) five)) ++ drop (suc k) no_pieces
+    stored_whole =
         let d = to_run (get_or five k []) in
         stored_at (row (scale u d)) ∙ sym (rows_snoc u (to_runs (take k five)) d (drop (suc k) no_pieces))
-        ∙ sym (ap (λ (x : List Run). rows u x ++ drop (suc k) no_pieces) one-more-of)
+        ∙ sym (ap (λ (x : List Run). rows u x ++ drop (suc k) no_pieces) one_more_of)
 
 -- the first k candidates were taken whole; the rest is to be had of the others
 pub record PiecesFilling (u n : ℕ) (five : List (List ℕ)) (rest : ℕ) (g : List (List ℕ)) (k : ℕ) : Type 0 where
@@ -97,12 +97,12 @@ pub record PiecesFilling (u n : ℕ) (five : List (List ℕ)) (rest : ℕ) (g : 
   pub so_far : gather n (to_runs five) ≡ map_option (λ ps. to_runs (take k five) ++ ps) (gather rest (to_runs (drop k five)))
   pub places : g ≡ rows u (to_runs (take k five)) ++ drop k no_pieces
 
-map-nothing : (o : Option (List Run)) → o ≡ map_option (λ ps. [] ++ ps) o
-map-nothing none = refl
-map-nothing (some ps) = refl
+map_nothing : (o : Option (List Run)) → o ≡ map_option (λ ps. [] ++ ps) o
+map_nothing none = refl
+map_nothing (some ps) = refl
 
-pub filling-none : (u n : ℕ) (five : List (List ℕ)) → 1 ≤ n → n ≤ total (to_runs five) → PiecesFilling u n five n no_pieces 0
-filling-none u n five h l = record { few = omega arith; some = h; enough = l; so_far = map-nothing (gather n (to_runs five)); places = refl }
+pub filling_none : (u n : ℕ) (five : List (List ℕ)) → 1 ≤ n → n ≤ total (to_runs five) → PiecesFilling u n five n no_pieces 0
+filling_none u n five h l = record { few = omega arith; some = h; enough = l; so_far = map_nothing (gather n (to_runs five)); places = refl }
 
 module _ {u n : ℕ} {five : List (List ℕ)} {rest : ℕ} {g : List (List ℕ)} {k : ℕ} (f : PiecesFilling u n five rest g k) (l : length five ≡ 5) where
   stored : (r : List ℕ) → set g k r ≡ rows u (to_runs (take k five)) ++ (r ∷ drop (suc k) no_pieces)
@@ -123,10 +123,10 @@ module _ {u n : ℕ} {five : List (List ℕ)} {rest : ℕ} {g : List (List ℕ)}
         go (d ∷ ds) e t = omega arith
 
     one_more : to_runs (take (suc k) five) ≡ to_runs (take k five) ++ (to_run (get_or five k []) ∷ [])
-    one_more = one-more-of k five f.few l
+    one_more = one_more_of k five f.few l
 
-    taken-whole : gather n (to_runs five) ≡ map_option (λ ps. to_runs (take (suc k) five) ++ ps) (gather (rest - get_or (get_or five k []) 1 0) (to_runs (drop (suc k) five)))
-    taken-whole =
+    taken_whole : gather n (to_runs five) ≡ map_option (λ ps. to_runs (take (suc k) five) ++ ps) (gather (rest - get_or (get_or five k []) 1 0) (to_runs (drop (suc k) five)))
+    taken_whole =
         let d = to_run (get_or five k []) in
         let w = to_runs (take k five) in
         let o = gather (rest - d.count) (to_runs (drop (suc k) five)) in
@@ -138,10 +138,10 @@ module _ {u n : ℕ} {five : List (List ℕ)} {rest : ℕ} {g : List (List ℕ)}
         regroup w d none = refl
         regroup w d (some ps) = ap (λ (x : List Run). Option.some x) (sym (append_assoc w (d ∷ []) ps))
 
-    pub filling-next : PiecesFilling u n five (rest - get_or (get_or five k []) 1 0) (set g k (row (scale u (to_run (get_or five k []))))) (k + 1)
-    filling-next =
+    pub filling_next : PiecesFilling u n five (rest - get_or (get_or five k []) 1 0) (set g k (row (scale u (to_run (get_or five k []))))) (k + 1)
+    filling_next =
         rw (add-one k)
-        (record { few = further; some = omega arith; enough = left_over; so_far = taken-whole; places = stored-whole k five f.few l u g f.places })
+        (record { few = further; some = omega arith; enough = left_over; so_far = taken_whole; places = stored_whole k five f.few l u g f.places })
 
   module _ (h : rest ≤ get_or (get_or five k []) 1 0) where
     -- the last piece is the first part of candidate k
@@ -156,9 +156,9 @@ module _ {u n : ℕ} {five : List (List ℕ)} {rest : ℕ} {g : List (List ℕ)}
         f.so_far ∙ ap (λ (x : List Run). map_option (λ ps. w ++ ps) (gather rest x)) next
         ∙ ap (λ (b : Bool). map_option (λ ps. w ++ ps) (cond b (Option.some (first_part rest d ∷ [])) (map_option (λ ps. d ∷ ps) (gather (rest - d.count) (to_runs (drop (suc k) five)))))) (le-leb rest d.count h)
 
-    pub filling-done : set g k (row (scale u (run (get_or (get_or five k []) 0 0) rest))) ≡ grant_of (map_option (map (scale u)) (gather n (to_runs five)))
+    pub filling_done : set g k (row (scale u (run (get_or (get_or five k []) 0 0) rest))) ≡ grant_of (map_option (map (scale u)) (gather n (to_runs five)))
     unfolding last grant_of
-    filling-done =
+    filling_done =
         let w = to_runs (take k five) in
         let ps = w ++ (last ∷ []) in
         let count : length (map (scale u) ps) ≡ suc k =

@@ -54,8 +54,8 @@ five_after u five (r ∷ rs) = five_after u (entered (whole_in u r) five) rs
 -- the free extents f take the best fit and the five longest from one state to another; the five longest are not looked at to
 -- the end where the best fit has exactly n units
 pub record LookedOver (u n : ℕ) (f : List Run) (best best' : Run) (five five' : List Run) : Type 0 where
-  pub best-is : best_after u n best f ≡ best'
-  pub five-is : (best'.count ≡ n → ⊥) → five_after u five f ≡ five'
+  pub best_is : best_after u n best f ≡ best'
+  pub five_is : (best'.count ≡ n → ⊥) → five_after u five f ≡ five'
 
 -- each entry of the format 5 r is shorter than a unit of u tracks, however many tracks a cylinder has
 abbrev pub Shorter : ℕ → List ℕ → Type 0

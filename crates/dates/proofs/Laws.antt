@@ -10,7 +10,7 @@ use lib.Dec.{T, eqb, leb, ltb, eqb→eq, leb→le}
 use lib.ListN.{drop, get_or, length, length-drop, set, take}
 use lib.Seq.{take_all}
 use Rattle.model.specs.Basics.{bit, get2, map_option, same, zeros}
-use Rattle.model.proofs.Lists.{and_l, and_r, both, by, clash, is_true, same_refl, same→eq, true-is}
+use Rattle.model.proofs.Lists.{and_l, and_r, both, by, clash, is_true, same_refl, same→eq, true_is}
 use Rattle.rules.specs.Dates.{Date, date, date_in, days_in, expiry_from, from_packed, from_stored, good_date, later, leap, packed_form, stored_form, to_packed, to_stored, with_expiry}
 use Rattle.rules.proofs.Dates.{Good, good}
 use Rattle.dates.specs.Digits.{day_in, digits_in, two_digits, year_in}
@@ -21,19 +21,19 @@ pub common : (y : ℕ) → (y % 4 ≡ 0 → ⊥) → false ≡ leap (1900 + y)
 common y h = rw (ne_eqb ((1900 + y) % 4) 0 (λ e. h (omega arith)))
 
 -- of 1900 and 2000, the years here that end a century, 2000 is a leap year
-pub a-fourth : (y : ℕ) → y < 200 → y % 4 ≡ 0 → not (eqb y 0) ≡ leap (1900 + y)
-a-fourth y l f =
+pub a_fourth : (y : ℕ) → y < 200 → y % 4 ≡ 0 → not (eqb y 0) ≡ leap (1900 + y)
+a_fourth y l f =
     by (eqb y 0)
     (λ z. rw (eqb-true y 0 z))
     (λ z.
-    let n = ne-zero y (eqb-false y 0 z) in
+    let n = ne_zero y (eqb-false y 0 z) in
     by (eqb ((1900 + y) % 100) 0)
     (λ k. let e : y ≡ 100 = hundred y l n (eqb-true ((1900 + y) % 100) 0 k) in rw e)
     (λ k. rw (z, eq-eqb ((1900 + y) % 4) 0 (omega arith), k)))
   where
-    ne-zero : (y : ℕ) → (y ≡ 0 → ⊥) → 1 ≤ y
-    ne-zero zero h = absurd (h refl)
-    ne-zero (suc y) h = omega arith
+    ne_zero : (y : ℕ) → (y ≡ 0 → ⊥) → 1 ≤ y
+    ne_zero zero h = absurd (h refl)
+    ne_zero (suc y) h = omega arith
 
     hundred : (y : ℕ) → y < 200 → 1 ≤ y → (1900 + y) % 100 ≡ 0 → y ≡ 100
     hundred y l n e = omega arith
@@ -44,26 +44,26 @@ module _ (y d : ℕ) where
   abbrev e : Date
   e = date (1900 + y) d
 
-  pub too-late : 200 ≤ y → false ≡ good_date e
-  too-late h = rw (le-leb 1900 (1900 + y) (omega arith), lt-leb (1900 + y) 2099 (omega arith))
+  pub too_late : 200 ≤ y → false ≡ good_date e
+  too_late h = rw (le-leb 1900 (1900 + y) (omega arith), lt-leb (1900 + y) 2099 (omega arith))
 
   module _ (h : y < 200) where
-    by-day : good_date e ≡ (leb 1 d && leb d (days_in (1900 + y)))
-    by-day = rw (le-leb 1900 (1900 + y) (omega arith), le-leb (1900 + y) 2099 (omega arith))
+    by_day : good_date e ≡ (leb 1 d && leb d (days_in (1900 + y)))
+    by_day = rw (le-leb 1900 (1900 + y) (omega arith), le-leb (1900 + y) 2099 (omega arith))
 
-    pub too-early : d < 1 → false ≡ good_date e
-    too-early l = sym (by-day ∙ rw (lt-leb 1 d l))
+    pub too_early : d < 1 → false ≡ good_date e
+    too_early l = sym (by_day ∙ rw (lt-leb 1 d l))
 
     module _ (l : 1 ≤ d) where
       by_end : good_date e ≡ leb d (days_in (1900 + y))
-      by_end = by-day ∙ rw (le-leb 1 d l)
+      by_end = by_day ∙ rw (le-leb 1 d l)
 
-      pub any-year : d ≤ 365 → true ≡ good_date e
-      any-year u = sym (by_end ∙ le-leb d (days_in (1900 + y)) (omega arith))
+      pub any_year : d ≤ 365 → true ≡ good_date e
+      any_year u = sym (by_end ∙ le-leb d (days_in (1900 + y)) (omega arith))
 
       module _ (u : 366 ≤ d) where
-        pub no-year : (d ≡ 366 → ⊥) → false ≡ good_date e
-        no-year n = sym (by_end ∙ lt-leb d (days_in (1900 + y)) (past (leap (1900 + y)) (beyond d u n)))
+        pub no_year : (d ≡ 366 → ⊥) → false ≡ good_date e
+        no_year n = sym (by_end ∙ lt-leb d (days_in (1900 + y)) (past (leap (1900 + y)) (beyond d u n)))
           where
             beyond : (d : ℕ) → 366 ≤ d → (d ≡ 366 → ⊥) → 367 ≤ d
             beyond d u n = by (leb 367 d) (λ k. leb-true 367 d k) (λ k. let j = leb-false 367 d k in absurd (n (omega arith)))
@@ -72,15 +72,15 @@ module _ (y d : ℕ) where
             past true m = omega arith
             past false m = omega arith
 
-        pub leap-year : d ≡ 366 → (b : Bool) → b ≡ leap (1900 + y) → b ≡ good_date e
-        leap-year q b r = sym (by_end ∙ ap₂ (λ (i : ℕ) (k : Bool). leb i (365 + bit k)) q (sym r) ∙ either b)
+        pub leap_year : d ≡ 366 → (b : Bool) → b ≡ leap (1900 + y) → b ≡ good_date e
+        leap_year q b r = sym (by_end ∙ ap₂ (λ (i : ℕ) (k : Bool). leb i (365 + bit k)) q (sym r) ∙ either b)
           where
             either : (b : Bool) → leb 366 (365 + bit b) ≡ b
             either true = refl
             either false = refl
 
   pub bounds : (ok : Bool) → ok ≡ good_date e → ok ≡ true → (y < 200) × (d < 400)
-  bounds ok h k = let g = good e (true-is (sym h ∙ k)) in let a = g.last in let b = g.most in (omega arith, omega arith)
+  bounds ok h k = let g = good e (true_is (sym h ∙ k)) in let a = g.last in let b = g.most in (omega arith, omega arith)
 
 -- ---- lists of three and of four
 
@@ -91,36 +91,36 @@ by_three P f (a ∷ b ∷ []) e = absurd (omega arith)
 by_three P f (a ∷ b ∷ c ∷ []) e = f a b c
 by_three P f (a ∷ b ∷ c ∷ d ∷ s) e = absurd (omega arith)
 
-by-four : (P : List ℕ → Type 0) → ((a b c d : ℕ) → P (a ∷ b ∷ c ∷ d ∷ [])) → (s : List ℕ) → length s ≡ 4 → P s
-by-four P f [] e = absurd (omega arith)
-by-four P f (a ∷ s) e = by_three (λ s. P (a ∷ s)) (f a) s (omega arith)
+by_four : (P : List ℕ → Type 0) → ((a b c d : ℕ) → P (a ∷ b ∷ c ∷ d ∷ [])) → (s : List ℕ) → length s ≡ 4 → P s
+by_four P f [] e = absurd (omega arith)
+by_four P f (a ∷ s) e = by_three (λ s. P (a ∷ s)) (f a) s (omega arith)
 
 other_length : (xs ys : List ℕ) → (length ys ≡ length xs → ⊥) → same xs ys ≡ false
-other_length xs ys h = by (same xs ys) (λ e. absurd (h (sym (ap length (same→eq xs ys (true-is e)))))) (λ e. e)
+other_length xs ys h = by (same xs ys) (λ e. absurd (h (sym (ap length (same→eq xs ys (true_is e)))))) (λ e. e)
 
-and-false : (a b : Bool) → b ≡ false → (a && b) ≡ false
-and-false true b e = e
-and-false false b e = refl
+and_false : (a b : Bool) → b ≡ false → (a && b) ≡ false
+and_false true b e = e
+and_false false b e = refl
 
 -- ---- the forms
 
 pub two_digits_lem : (n : ℕ) → n < 100 → (n + 6 * (n / 10) ≡ n / 10 * 16 + n % 10) × (n + 6 * (n / 10) < 256)
 two_digits_lem n h = (omega arith, omega arith)
 
-packed-as : (y d : ℕ) → y / 100 ∷ (y / 10 % 10 * 16 + y % 10) ∷ (d / 100 * 16 + d / 10 % 10) ∷ (d % 10 * 16 + 15) ∷ [] ≡ packed_form (date (1900 + y) d)
-packed-as y d =
+packed_as : (y d : ℕ) → y / 100 ∷ (y / 10 % 10 * 16 + y % 10) ∷ (d / 100 * 16 + d / 10 % 10) ∷ (d % 10 * 16 + 15) ∷ [] ≡ packed_form (date (1900 + y) d)
+packed_as y d =
     ap₂ (λ (c z : ℕ). c ∷ (z / 10 % 10 * 16 + z % 10) ∷ (d / 100 * 16 + d / 10 % 10) ∷ (d % 10 * 16 + 15) ∷ [])
     (ap (λ (z : ℕ). z / 100) (sym (less y)) ∙ omega arith) (sym (less y))
   where
     less : (y : ℕ) → 1900 + y - 1900 ≡ y
     less y = omega arith
 
-pub packed-is : (y d b c : ℕ) → b ≡ y % 100 / 10 * 16 + y % 100 % 10 → c ≡ d / 10 / 10 * 16 + d / 10 % 10
+pub packed_is : (y d b c : ℕ) → b ≡ y % 100 / 10 * 16 + y % 100 % 10 → c ≡ d / 10 / 10 * 16 + d / 10 % 10
     → y / 100 ∷ b ∷ c ∷ (d % 10 * 16 + 15) ∷ [] ≡ packed_form (date (1900 + y) d)
-packed-is y d b c eb ec =
+packed_is y d b c eb ec =
     ap₂ (λ (i j : ℕ). y / 100 ∷ i ∷ j ∷ (d % 10 * 16 + 15) ∷ [])
     (eb ∙ ap₂ (λ (i j : ℕ). i * 16 + j) (tens y) (ones y)) (ec ∙ ap (λ (i : ℕ). i * 16 + d / 10 % 10) (hundreds d))
-    ∙ packed-as y d
+    ∙ packed_as y d
   where
     tens : (n : ℕ) → n % 100 / 10 ≡ n / 10 % 10
     tens n = omega arith
@@ -141,60 +141,60 @@ module _ (form other : Date → List ℕ) (e : Date) (bs : List ℕ) where
   converts true h = rw h
   converts false h = rw h
 
-  pub converts-bad : (ok : Bool) → ok ≡ good_date e → ok ≡ false → map_option other (date_in form e bs) ≡ none
-  converts-bad ok h k = converts false (ap (λ (b : Bool). b && same (form e) bs) (sym h ∙ k))
+  pub converts_bad : (ok : Bool) → ok ≡ good_date e → ok ≡ false → map_option other (date_in form e bs) ≡ none
+  converts_bad ok h k = converts false (ap (λ (b : Bool). b && same (form e) bs) (sym h ∙ k))
 
-  converts-other : same (form e) bs ≡ false → map_option other (date_in form e bs) ≡ none
-  converts-other k = converts false (and-false (good_date e) (same (form e) bs) k)
+  converts_other : same (form e) bs ≡ false → map_option other (date_in form e bs) ≡ none
+  converts_other k = converts false (and_false (good_date e) (same (form e) bs) k)
 
-  converts-good : (ok : Bool) → ok ≡ good_date e → ok ≡ true → same (form e) bs ≡ true → map_option other (date_in form e bs) ≡ some (other e)
-  converts-good ok h k s = converts true (ap₂ ◌&&◌ (sym h ∙ k) s)
+  converts_good : (ok : Bool) → ok ≡ good_date e → ok ≡ true → same (form e) bs ≡ true → map_option other (date_in form e bs) ≡ some (other e)
+  converts_good ok h k s = converts true (ap₂ ◌&&◌ (sym h ∙ k) s)
 
 -- packed to stored
 
-pub year-is : (p : List ℕ) (a b : ℕ) → a ≡ get_or p 0 0 → b ≡ get_or p 1 0 → 100 * (a % 16) + 10 * (b / 16) + b % 16 ≡ year_in p
+pub year_is : (p : List ℕ) (a b : ℕ) → a ≡ get_or p 0 0 → b ≡ get_or p 1 0 → 100 * (a % 16) + 10 * (b / 16) + b % 16 ≡ year_in p
 unfolding year_in
-year-is p a b e f = ap₂ (λ (a b : ℕ). 100 * (a % 16) + 10 * (b / 16) + b % 16) e f
+year_is p a b e f = ap₂ (λ (a b : ℕ). 100 * (a % 16) + 10 * (b / 16) + b % 16) e f
 
-pub day-is : (p : List ℕ) (a b : ℕ) → a ≡ get_or p 2 0 → b ≡ get_or p 3 0 → 100 * (a / 16) + 10 * (a % 16) + b / 16 ≡ day_in p
+pub day_is : (p : List ℕ) (a b : ℕ) → a ≡ get_or p 2 0 → b ≡ get_or p 3 0 → 100 * (a / 16) + 10 * (a % 16) + b / 16 ≡ day_in p
 unfolding day_in
-day-is p a b e f = ap₂ (λ (a b : ℕ). 100 * (a / 16) + 10 * (a % 16) + b / 16) e f
+day_is p a b e f = ap₂ (λ (a b : ℕ). 100 * (a / 16) + 10 * (a % 16) + b / 16) e f
 
 pub stored_short : (p : List ℕ) → (length p ≡ 4 → ⊥) → to_stored p ≡ none
 unfolding to_stored
-stored_short p h = converts-other packed_form stored_form (from_packed p) p (other_length (packed_form (from_packed p)) p h)
+stored_short p h = converts_other packed_form stored_form (from_packed p) p (other_length (packed_form (from_packed p)) p h)
 
-told-four : (p : List ℕ) → length p ≡ 4 → date (1900 + year_in p) (day_in p) ≡ from_packed p
+told_four : (p : List ℕ) → length p ≡ 4 → date (1900 + year_in p) (day_in p) ≡ from_packed p
 unfolding year_in day_in
-told-four p l = by-four (λ p. date (1900 + year_in p) (day_in p) ≡ from_packed p) (λ a b c d. ap (λ (y : ℕ). date y (100 * (c / 16) + 10 * (c % 16) + d / 16)) (omega arith)) p l
+told_four p l = by_four (λ p. date (1900 + year_in p) (day_in p) ≡ from_packed p) (λ a b c d. ap (λ (y : ℕ). date y (100 * (c / 16) + 10 * (c % 16) + d / 16)) (omega arith)) p l
 
 -- ---- whether they are digits, byte by byte
 
-pub two-bad : (b : ℕ) → 0x99 < b → false ≡ two_digits b
-two-bad b h = rw (lt-leb b 0x99 h)
+pub two_bad : (b : ℕ) → 0x99 < b → false ≡ two_digits b
+two_bad b h = rw (lt-leb b 0x99 h)
 
-pub two-as : (b : ℕ) → b ≤ 0x99 → leb (b % 16) 9 ≡ two_digits b
-two-as b h = rw (le-leb b 0x99 h)
+pub two_as : (b : ℕ) → b ≤ 0x99 → leb (b % 16) 9 ≡ two_digits b
+two_as b h = rw (le-leb b 0x99 h)
 
 module _ (p : List ℕ) where
-  pub first-bad : 1 < get_or p 0 0 → false ≡ digits_in p
+  pub first_bad : 1 < get_or p 0 0 → false ≡ digits_in p
   unfolding digits_in
-  first-bad h = rw (lt-leb (get_or p 0 0) 1 h)
+  first_bad h = rw (lt-leb (get_or p 0 0) 1 h)
 
   module _ (a : get_or p 0 0 ≤ 1) (x : Bool) (ex : x ≡ two_digits (get_or p 1 0)) where
-    pub second-bad : x ≡ false → false ≡ digits_in p
+    pub second_bad : x ≡ false → false ≡ digits_in p
     unfolding digits_in
-    second-bad k = rw (le-leb (get_or p 0 0) 1 a, sym ex ∙ k)
+    second_bad k = rw (le-leb (get_or p 0 0) 1 a, sym ex ∙ k)
 
     module _ (tx : x ≡ true) (y : Bool) (ey : y ≡ two_digits (get_or p 2 0)) where
-      pub third-bad : y ≡ false → false ≡ digits_in p
+      pub third_bad : y ≡ false → false ≡ digits_in p
       unfolding digits_in
-      third-bad k = rw (le-leb (get_or p 0 0) 1 a, sym ex ∙ tx, sym ey ∙ k)
+      third_bad k = rw (le-leb (get_or p 0 0) 1 a, sym ex ∙ tx, sym ey ∙ k)
 
       module _ (ty : y ≡ true) where
-        pub fourth-bad : 0x9F < get_or p 3 0 → false ≡ digits_in p
+        pub fourth_bad : 0x9F < get_or p 3 0 → false ≡ digits_in p
         unfolding digits_in
-        fourth-bad h = rw (le-leb (get_or p 0 0) 1 a, sym ex ∙ tx, sym ey ∙ ty, lt-leb (get_or p 3 0) 0x9F h)
+        fourth_bad h = rw (le-leb (get_or p 0 0) 1 a, sym ex ∙ tx, sym ey ∙ ty, lt-leb (get_or p 3 0) 0x9F h)
 
         pub by_sign : get_or p 3 0 ≤ 0x9F → eqb (get_or p 3 0 % 16) 15 ≡ digits_in p
         unfolding digits_in
@@ -203,20 +203,20 @@ module _ (p : List ℕ) where
 -- ---- digits: those of a packed date are, and what has them is the packed form of what it tells
 
 module _ (c h l : ℕ) (uh : h ≤ 9) (ul : l ≤ 9) where
-  hundreds-of : (100 * c + 10 * h + l) / 100 ≡ c
-  hundreds-of = omega arith
+  hundreds_of : (100 * c + 10 * h + l) / 100 ≡ c
+  hundreds_of = omega arith
 
-  tens-of : (100 * c + 10 * h + l) / 10 % 10 ≡ h
-  tens-of = let e : (100 * c + 10 * h + l) / 10 ≡ 10 * c + h = omega arith in ap (λ (n : ℕ). n % 10) e ∙ last
+  tens_of : (100 * c + 10 * h + l) / 10 % 10 ≡ h
+  tens_of = let e : (100 * c + 10 * h + l) / 10 ≡ 10 * c + h = omega arith in ap (λ (n : ℕ). n % 10) e ∙ last
     where
       last : (10 * c + h) % 10 ≡ h
       last = omega arith
 
-  ones-of : (100 * c + 10 * h + l) % 10 ≡ l
-  ones-of = omega arith
+  ones_of : (100 * c + 10 * h + l) % 10 ≡ l
+  ones_of = omega arith
 
-halves-back : (b : ℕ) → b / 16 * 16 + b % 16 ≡ b
-halves-back b = omega arith
+halves_back : (b : ℕ) → b / 16 * 16 + b % 16 ≡ b
+halves_back b = omega arith
 
 high_digit : (b n : ℕ) → b ≤ 16 * n + 15 → b / 16 ≤ n
 high_digit b n h = omega arith
@@ -252,50 +252,50 @@ again : (a b c d : ℕ) → Digits a b c d → packed_form (date (1900 + (100 * 
 again a b c d g =
     let i = g.first in
     let s : a % 16 ≡ a = small a i in
-    sym (packed-as (100 * (a % 16) + 10 * (b / 16) + b % 16) (100 * (c / 16) + 10 * (c % 16) + d / 16))
+    sym (packed_as (100 * (a % 16) + 10 * (b / 16) + b % 16) (100 * (c / 16) + 10 * (c % 16) + d / 16))
     ∙ rw (
-      hundreds-of (a % 16) (b / 16) (b % 16) g.second.0 g.second.1,
-      tens-of (a % 16) (b / 16) (b % 16) g.second.0 g.second.1,
-      ones-of (a % 16) (b / 16) (b % 16) g.second.0 g.second.1,
-      hundreds-of (c / 16) (c % 16) (d / 16) g.third.1 g.fourth.0,
-      tens-of (c / 16) (c % 16) (d / 16) g.third.1 g.fourth.0,
-      ones-of (c / 16) (c % 16) (d / 16) g.third.1 g.fourth.0,
+      hundreds_of (a % 16) (b / 16) (b % 16) g.second.0 g.second.1,
+      tens_of (a % 16) (b / 16) (b % 16) g.second.0 g.second.1,
+      ones_of (a % 16) (b / 16) (b % 16) g.second.0 g.second.1,
+      hundreds_of (c / 16) (c % 16) (d / 16) g.third.1 g.fourth.0,
+      tens_of (c / 16) (c % 16) (d / 16) g.third.1 g.fourth.0,
+      ones_of (c / 16) (c % 16) (d / 16) g.third.1 g.fourth.0,
       s,
-      halves-back b,
-      halves-back c,
+      halves_back b,
+      halves_back c,
     )
-    (ap (λ (x : ℕ). a ∷ b ∷ c ∷ x ∷ []) (ap (λ (x : ℕ). d / 16 * 16 + x) (sym g.fourth.1) ∙ halves-back d))
+    (ap (λ (x : ℕ). a ∷ b ∷ c ∷ x ∷ []) (ap (λ (x : ℕ). d / 16 * 16 + x) (sym g.fourth.1) ∙ halves_back d))
   where
     small : (a : ℕ) → a ≤ 1 → a % 16 ≡ a
     small a h = omega arith
 
-packed-again : (p : List ℕ) → length p ≡ 4 → T (digits_in p) → packed_form (date (1900 + year_in p) (day_in p)) ≡ p
+packed_again : (p : List ℕ) → length p ≡ 4 → T (digits_in p) → packed_form (date (1900 + year_in p) (day_in p)) ≡ p
 unfolding year_in day_in
-packed-again p l t =
-    by-four (λ p. T (digits_in p) → packed_form (date (1900 + year_in p) (day_in p)) ≡ p) (λ a b c d t. again a b c d (digits a b c d t)) p l t
+packed_again p l t =
+    by_four (λ p. T (digits_in p) → packed_form (date (1900 + year_in p) (day_in p)) ≡ p) (λ a b c d t. again a b c d (digits a b c d t)) p l t
 
 two_good : (h l : ℕ) → h ≤ 9 → l ≤ 9 → T (two_digits (h * 16 + l))
-two_good h l uh ul = both (leb (h * 16 + l) 0x99) (leb ((h * 16 + l) % 16) 9) (true-is (le-leb (h * 16 + l) 0x99 (omega arith))) (true-is (le-leb ((h * 16 + l) % 16) 9 (low h l ul)))
+two_good h l uh ul = both (leb (h * 16 + l) 0x99) (leb ((h * 16 + l) % 16) 9) (true_is (le-leb (h * 16 + l) 0x99 (omega arith))) (true_is (le-leb ((h * 16 + l) % 16) 9 (low h l ul)))
   where
     low : (h l : ℕ) → l ≤ 9 → (h * 16 + l) % 16 ≤ 9
     low h l u = omega arith
 
-all-five : (a b c d e : Bool) → T a → T b → T c → T d → T e → T (a && (b && (c && (d && e))))
-all-five a b c d e ta tb tc td te = both a (b && (c && (d && e))) ta (both b (c && (d && e)) tb (both c (d && e) tc (both d e td te)))
+all_five : (a b c d e : Bool) → T a → T b → T c → T d → T e → T (a && (b && (c && (d && e))))
+all_five a b c d e ta tb tc td te = both a (b && (c && (d && e))) ta (both b (c && (d && e)) tb (both c (d && e) tc (both d e td te)))
 
-date-digits : (d : Date) → Good d → T (digits_in (packed_form d))
+date_digits : (d : Date) → Good d → T (digits_in (packed_form d))
 unfolding digits_in
-date-digits d g =
+date_digits d g =
     let f = g.first in
     let la = g.last in
     let m = g.most in
     let y : ℕ = d.year - 1900 in
-    all-five (leb (0 * 16 + y / 100) 1) (two_digits (y / 10 % 10 * 16 + y % 10)) (two_digits (d.day / 100 * 16 + d.day / 10 % 10)) (leb (d.day % 10 * 16 + 15) 0x9F) (eqb ((d.day % 10 * 16 + 15) % 16) 15)
-    (true-is (le-leb (0 * 16 + y / 100) 1 (century d.year la)))
+    all_five (leb (0 * 16 + y / 100) 1) (two_digits (y / 10 % 10 * 16 + y % 10)) (two_digits (d.day / 100 * 16 + d.day / 10 % 10)) (leb (d.day % 10 * 16 + 15) 0x9F) (eqb ((d.day % 10 * 16 + 15) % 16) 15)
+    (true_is (le-leb (0 * 16 + y / 100) 1 (century d.year la)))
     (two_good (y / 10 % 10) (y % 10) (digit (y / 10)) (digit y))
     (two_good (d.day / 100) (d.day / 10 % 10) (hundred d.day m) (digit (d.day / 10)))
-    (true-is (le-leb (d.day % 10 * 16 + 15) 0x9F (ending d.day)))
-    (true-is (eq-eqb ((d.day % 10 * 16 + 15) % 16) 15 (sign (d.day % 10))))
+    (true_is (le-leb (d.day % 10 * 16 + 15) 0x9F (ending d.day)))
+    (true_is (eq-eqb ((d.day % 10 * 16 + 15) % 16) 15 (sign (d.day % 10))))
   where
     digit : (n : ℕ) → n % 10 ≤ 9
     digit n = omega arith
@@ -313,18 +313,18 @@ date-digits d g =
     sign n = omega arith
 
 module _ (p : List ℕ) (l : length p ≡ 4) (ds : Bool) (hd : ds ≡ digits_in p) where
-  pub no-digits : ds ≡ false → to_stored p ≡ none
+  pub no_digits : ds ≡ false → to_stored p ≡ none
   unfolding to_stored
-  no-digits k =
+  no_digits k =
       by (good_date (from_packed p))
       (λ g.
-      converts-other packed_form stored_form (from_packed p) p
+      converts_other packed_form stored_form (from_packed p) p
       (by {X = same (packed_form (from_packed p)) p ≡ false} (same (packed_form (from_packed p)) p)
       (λ s.
-      let q : packed_form (from_packed p) ≡ p = same→eq (packed_form (from_packed p)) p (true-is s) in
-      clash (is_true (subst (λ (x : List ℕ). T (digits_in x)) q (date-digits (from_packed p) (good (from_packed p) (true-is g))))) (sym hd ∙ k))
+      let q : packed_form (from_packed p) ≡ p = same→eq (packed_form (from_packed p)) p (true_is s) in
+      clash (is_true (subst (λ (x : List ℕ). T (digits_in x)) q (date_digits (from_packed p) (good (from_packed p) (true_is g))))) (sym hd ∙ k))
       (λ s. s)))
-      (λ g. converts-bad packed_form stored_form (from_packed p) p false (sym g) refl)
+      (λ g. converts_bad packed_form stored_form (from_packed p) p false (sym g) refl)
 
   module _ (y d : ℕ) (ey : y ≡ year_in p) (ed : d ≡ day_in p) where
     abbrev told : Date
@@ -333,75 +333,75 @@ module _ (p : List ℕ) (l : length p ≡ 4) (ds : Bool) (hd : ds ≡ digits_in 
     told_is : told ≡ date (1900 + year_in p) (day_in p)
     told_is = ap₂ (λ (y d : ℕ). date (1900 + y) d) ey ed
 
-    to-stored-is : to_stored p ≡ map_option stored_form (date_in packed_form told p)
+    to_stored_is : to_stored p ≡ map_option stored_form (date_in packed_form told p)
     unfolding to_stored
-    to-stored-is = ap (λ (e : Date). map_option stored_form (date_in packed_form e p)) (sym (told_is ∙ told-four p l))
+    to_stored_is = ap (λ (e : Date). map_option stored_form (date_in packed_form e p)) (sym (told_is ∙ told_four p l))
 
     module _ (ok : Bool) (h : ok ≡ good_date told) where
-      pub stored-bad : ok ≡ false → to_stored p ≡ none
-      stored-bad k = to-stored-is ∙ converts-bad packed_form stored_form told p ok h k
+      pub stored_bad : ok ≡ false → to_stored p ≡ none
+      stored_bad k = to_stored_is ∙ converts_bad packed_form stored_form told p ok h k
 
-      pub stored-good : ds ≡ true → ok ≡ true → (r : List ℕ) → r ≡ stored_form told → to_stored p ≡ some r
-      stored-good m k r er =
-          let q : packed_form told ≡ p = ap packed_form told_is ∙ packed-again p l (true-is (sym hd ∙ m)) in
-          to-stored-is
-          ∙ converts-good packed_form stored_form told p ok h k (ap (same (packed_form told)) (sym q) ∙ is_true (same_refl (packed_form told)))
+      pub stored_good : ds ≡ true → ok ≡ true → (r : List ℕ) → r ≡ stored_form told → to_stored p ≡ some r
+      stored_good m k r er =
+          let q : packed_form told ≡ p = ap packed_form told_is ∙ packed_again p l (true_is (sym hd ∙ m)) in
+          to_stored_is
+          ∙ converts_good packed_form stored_form told p ok h k (ap (same (packed_form told)) (sym q) ∙ is_true (same_refl (packed_form told)))
           ∙ ap some (sym er)
 
 -- stored to packed
 
-pub day-from : (s : List ℕ) {high low : ℕ} → high ≡ get_or s 1 0 → low ≡ get_or s 2 0 → high * 256 + low ≡ get2 s 1
-day-from s e f = ap₂ (λ (h l : ℕ). h * 256 + l) e f
+pub day_from : (s : List ℕ) {high low : ℕ} → high ≡ get_or s 1 0 → low ≡ get_or s 2 0 → high * 256 + low ≡ get2 s 1
+day_from s e f = ap₂ (λ (h l : ℕ). h * 256 + l) e f
 
-pub packed-short : (s : List ℕ) → (length s ≡ 3 → ⊥) → to_packed s ≡ none
+pub packed_short : (s : List ℕ) → (length s ≡ 3 → ⊥) → to_packed s ≡ none
 unfolding to_packed
-packed-short s h = converts-other stored_form packed_form (from_stored s) s (other_length (stored_form (from_stored s)) s h)
+packed_short s h = converts_other stored_form packed_form (from_stored s) s (other_length (stored_form (from_stored s)) s h)
 
 module _ (s : List ℕ) (l : length s ≡ 3) (y d : ℕ) (ey : y ≡ get_or s 0 0) (ed : d ≡ get2 s 1) where
   abbrev kept : Date
   kept = date (1900 + y) d
 
-  to-packed-is : to_packed s ≡ map_option packed_form (date_in stored_form kept s)
+  to_packed_is : to_packed s ≡ map_option packed_form (date_in stored_form kept s)
   unfolding to_packed
-  to-packed-is = ap (λ (e : Date). map_option packed_form (date_in stored_form e s)) (ap₂ (λ (y d : ℕ). date (1900 + y) d) (sym ey) (sym ed))
+  to_packed_is = ap (λ (e : Date). map_option packed_form (date_in stored_form e s)) (ap₂ (λ (y d : ℕ). date (1900 + y) d) (sym ey) (sym ed))
 
   module _ (ok : Bool) (h : ok ≡ good_date kept) where
-    pub packed-bad : ok ≡ false → to_packed s ≡ none
-    packed-bad k = to-packed-is ∙ converts-bad stored_form packed_form kept s ok h k
+    pub packed_bad : ok ≡ false → to_packed s ≡ none
+    packed_bad k = to_packed_is ∙ converts_bad stored_form packed_form kept s ok h k
 
     -- any three bytes are the form of what they tell
     stored_back : get_or s 2 0 < 256 → stored_form kept ≡ s
     stored_back u = sym (stored_is y d) ∙ ap₂ (λ (y d : ℕ). y ∷ d / 256 ∷ d % 256 ∷ []) ey ed ∙ by_three (λ s. get_or s 2 0 < 256 → get_or s 0 0 ∷ get2 s 1 / 256 ∷ get2 s 1 % 256 ∷ [] ≡ s) (λ a b c u. ap₂ (λ (x y : ℕ). a ∷ x ∷ y ∷ []) (omega arith) (omega arith)) s l u
 
-    pub packed-good : get_or s 2 0 < 256 → ok ≡ true → (q : List ℕ) → q ≡ packed_form kept → to_packed s ≡ some q
-    packed-good u k q eq =
-        to-packed-is
-        ∙ converts-good stored_form packed_form kept s ok h k (ap (same (stored_form kept)) (sym (stored_back u)) ∙ is_true (same_refl (stored_form kept)))
+    pub packed_good : get_or s 2 0 < 256 → ok ≡ true → (q : List ℕ) → q ≡ packed_form kept → to_packed s ≡ some q
+    packed_good u k q eq =
+        to_packed_is
+        ∙ converts_good stored_form packed_form kept s ok h k (ap (same (stored_form kept)) (sym (stored_back u)) ∙ is_true (same_refl (stored_form kept)))
         ∙ ap some (sym eq)
 
 -- ---- allocate's expiry date
 
-pub expiry-none : (e : List ℕ) (s : Bool) → s ≡ same e (zeros 4) → s ≡ true → expiry_from e ≡ some (zeros 3)
+pub expiry_none : (e : List ℕ) (s : Bool) → s ≡ same e (zeros 4) → s ≡ true → expiry_from e ≡ some (zeros 3)
 unfolding expiry_from
-expiry-none e s h k = rw (sym h ∙ k)
+expiry_none e s h k = rw (sym h ∙ k)
 
-pub expiry-some : (e : List ℕ) (s : Bool) → s ≡ same e (zeros 4) → s ≡ false → expiry_from e ≡ to_stored e
+pub expiry_some : (e : List ℕ) (s : Bool) → s ≡ same e (zeros 4) → s ≡ false → expiry_from e ≡ to_stored e
 unfolding expiry_from
-expiry-some e s h k = rw (sym h ∙ k)
+expiry_some e s h k = rw (sym h ∙ k)
 
-set-three : (i : ℕ) (r : List ℕ) (a b c : ℕ) → i + 2 < length r
+set_three : (i : ℕ) (r : List ℕ) (a b c : ℕ) → i + 2 < length r
     → set (set (set r i a) (suc i) b) (suc (suc i)) c ≡ take i r ++ (a ∷ b ∷ c ∷ drop (suc (suc (suc i))) r)
-set-three i [] a b c h = absurd (omega arith)
-set-three zero (x ∷ []) a b c h = absurd (omega arith)
-set-three zero (x ∷ y ∷ []) a b c h = absurd (omega arith)
-set-three zero (x ∷ y ∷ z ∷ r) a b c h = refl
-set-three (suc i) (x ∷ r) a b c h = ap (λ (l : List ℕ). x ∷ l) (set-three i r a b c (omega arith))
+set_three i [] a b c h = absurd (omega arith)
+set_three zero (x ∷ []) a b c h = absurd (omega arith)
+set_three zero (x ∷ y ∷ []) a b c h = absurd (omega arith)
+set_three zero (x ∷ y ∷ z ∷ r) a b c h = refl
+set_three (suc i) (x ∷ r) a b c h = ap (λ (l : List ℕ). x ∷ l) (set_three i r a b c (omega arith))
 
-pub expiry-put : (s at : List ℕ) → length s ≡ 3 → length at ≡ 52 → set (set (set at 11 (get_or s 0 0)) 12 (get_or s 1 0)) 13 (get_or s 2 0) ≡ with_expiry s at
+pub expiry_put : (s at : List ℕ) → length s ≡ 3 → length at ≡ 52 → set (set (set at 11 (get_or s 0 0)) 12 (get_or s 1 0)) 13 (get_or s 2 0) ≡ with_expiry s at
 unfolding with_expiry
-expiry-put s at ls la =
+expiry_put s at ls la =
     let k = length-drop 14 at in
-    set-three 11 at (get_or s 0 0) (get_or s 1 0) (get_or s 2 0) (omega arith)
+    set_three 11 at (get_or s 0 0) (get_or s 1 0) (get_or s 2 0) (omega arith)
     ∙ ap₂ (λ (x y : List ℕ). take 11 at ++ (x ++ y)) (three s ls) (sym (take_all 38 (drop 14 at) (omega arith)))
   where
     three : (s : List ℕ) → length s ≡ 3 → get_or s 0 0 ∷ get_or s 1 0 ∷ get_or s 2 0 ∷ [] ≡ s
@@ -412,19 +412,19 @@ expiry-put s at ls la =
 pub told_none : {o : Option (List ℕ)} (ok : Bool) (bs : List ℕ) → o ≡ cond ok (some bs) none → ok ≡ false → o ≡ none
 told_none ok bs e k = e ∙ ap (λ (b : Bool). cond b (some bs) none) k
 
-pub told-some : {o : Option (List ℕ)} (ok : Bool) (bs : List ℕ) → o ≡ cond ok (some bs) none → ok ≡ true → o ≡ some bs
-told-some ok bs e k = e ∙ ap (λ (b : Bool). cond b (some bs) none) k
+pub told_some : {o : Option (List ℕ)} (ok : Bool) (bs : List ℕ) → o ≡ cond ok (some bs) none → ok ≡ true → o ≡ some bs
+told_some ok bs e k = e ∙ ap (λ (b : Bool). cond b (some bs) none) k
 
 -- ---- which of two is later
 
 module _ (s t : List ℕ) where
-  pub later-year : get_or t 0 0 < get_or s 0 0 → true ≡ later s t
-  later-year h = rw (lt-ltb (get_or t 0 0) (get_or s 0 0) h)
+  pub later_year : get_or t 0 0 < get_or s 0 0 → true ≡ later s t
+  later_year h = rw (lt-ltb (get_or t 0 0) (get_or s 0 0) h)
 
   module _ (h : get_or s 0 0 ≤ get_or t 0 0) where
-    pub earlier-year : (get_or s 0 0 ≡ get_or t 0 0 → ⊥) → false ≡ later s t
-    earlier-year n = rw (le-ltb (get_or t 0 0) (get_or s 0 0) h, ne_eqb (get_or s 0 0) (get_or t 0 0) n)
+    pub earlier_year : (get_or s 0 0 ≡ get_or t 0 0 → ⊥) → false ≡ later s t
+    earlier_year n = rw (le-ltb (get_or t 0 0) (get_or s 0 0) h, ne_eqb (get_or s 0 0) (get_or t 0 0) n)
 
-    pub by-days : get_or s 0 0 ≡ get_or t 0 0 → (d e : ℕ) → d ≡ get2 s 1 → e ≡ get2 t 1 → ltb e d ≡ later s t
-    by-days q d e ed ee =
+    pub by_days : get_or s 0 0 ≡ get_or t 0 0 → (d e : ℕ) → d ≡ get2 s 1 → e ≡ get2 t 1 → ltb e d ≡ later s t
+    by_days q d e ed ee =
         sym (rw (le-ltb (get_or t 0 0) (get_or s 0 0) h, eq-eqb (get_or s 0 0) (get_or t 0 0) q) (ap₂ (λ (x y : ℕ). ltb x y) (sym ee) (sym ed)))

@@ -17,14 +17,14 @@ use Rattle.model.proofs.Lists.{and_l, and_r, by, is_true}
 use Rattle.rules.specs.Layout.{cchh, extent_bytes}
 use Rattle.rules.specs.Reading.{read_extent, track_at}
 use Rattle.rules.specs.Table.{good_type}
-use Rattle.rules.proofs.Bytes.{be2-back}
+use Rattle.rules.proofs.Bytes.{be2_back}
 use Rattle.rules.specs.Predicates.{GoodExtent}
 use Rattle.rows.specs.Words.{Bytes}
 use Rattle.dscb.specs.Tests.{good_ten, type_ok}
 
 -- the track c * h + f, with f below h, is in cylinder c and is its track f
-pub cyl-of : (c h f : ℕ) → f < h → (c * h + f) / h ≡ c
-cyl-of c h f u = mul-add-div_right (omega arith) c f ∙ ap (λ (x : ℕ). c + x) (div-eq_of_lt u) ∙ add-zero c
+pub cyl_of : (c h f : ℕ) → f < h → (c * h + f) / h ≡ c
+cyl_of c h f u = mul-add-div_right (omega arith) c f ∙ ap (λ (x : ℕ). c + x) (div-eq_of_lt u) ∙ add-zero c
 
 pub head_of : (c h f : ℕ) → f < h → (c * h + f) % h ≡ f
 head_of c h f u = ap (λ (x : ℕ). x % h) (add_comm (c * h) f) ∙ add-mul-mod_self_right f c h ∙ mod-eq_of_lt u
@@ -32,14 +32,14 @@ head_of c h f u = ap (λ (x : ℕ). x % h) (add_comm (c * h) f) ∙ add-mul-mod_
 pub two_back : (a b : ℕ) → b < 256 → be2 (a * 256 + b) ≡ a ∷ b ∷ []
 two_back a b u = ap₂ (λ (x y : ℕ). x ∷ y ∷ []) (omega arith) (omega arith)
 
-pub cchh-back : (g : Geometry) (a b c d : ℕ) → b < 256 → d < 256 → c * 256 + d < g.heads → cchh g ((a * 256 + b) * g.heads + (c * 256 + d)) ≡ a ∷ b ∷ c ∷ d ∷ []
-cchh-back g a b c d u v w =
-    ap₂ (λ (x y : ℕ). be2 x ++ be2 y) (cyl-of (a * 256 + b) g.heads (c * 256 + d) w) (head_of (a * 256 + b) g.heads (c * 256 + d) w)
+pub cchh_back : (g : Geometry) (a b c d : ℕ) → b < 256 → d < 256 → c * 256 + d < g.heads → cchh g ((a * 256 + b) * g.heads + (c * 256 + d)) ≡ a ∷ b ∷ c ∷ d ∷ []
+cchh_back g a b c d u v w =
+    ap₂ (λ (x y : ℕ). be2 x ++ be2 y) (cyl_of (a * 256 + b) g.heads (c * 256 + d) w) (head_of (a * 256 + b) g.heads (c * 256 + d) w)
     ∙ ap₂ (λ (x y : List ℕ). x ++ y) (two_back a b u) (two_back c d v)
 
 -- a list of five and one of ten by their bytes
-pub five-of : (x : List ℕ) → length x ≡ 5 → x ≡ get_or x 0 0 ∷ get_or x 1 0 ∷ get_or x 2 0 ∷ get_or x 3 0 ∷ get_or x 4 0 ∷ []
-five-of x e =
+pub five_of : (x : List ℕ) → length x ≡ 5 → x ≡ get_or x 0 0 ∷ get_or x 1 0 ∷ get_or x 2 0 ∷ get_or x 3 0 ∷ get_or x 4 0 ∷ []
+five_of x e =
     drop-cons x 0 0 (omega arith)
     ∙ ap (λ (l : List ℕ). get_or x 0 0 ∷ l) (drop-cons x 1 0 (omega arith)
     ∙ ap (λ (l : List ℕ). get_or x 1 0 ∷ l) (drop-cons x 2 0 (omega arith)
@@ -47,9 +47,9 @@ five-of x e =
     ∙ ap (λ (l : List ℕ). get_or x 3 0 ∷ l) (drop-cons x 4 0 (omega arith)
     ∙ ap (λ (l : List ℕ). get_or x 4 0 ∷ l) (drop_of_length-le x {i = 5} (omega arith))))))
 
-ten-of : (x : List ℕ) → length x ≡ 10
+ten_of : (x : List ℕ) → length x ≡ 10
     → x ≡ get_or x 0 0 ∷ get_or x 1 0 ∷ get_or x 2 0 ∷ get_or x 3 0 ∷ get_or x 4 0 ∷ get_or x 5 0 ∷ get_or x 6 0 ∷ get_or x 7 0 ∷ get_or x 8 0 ∷ get_or x 9 0 ∷ []
-ten-of x e =
+ten_of x e =
     drop-cons x 0 0 (omega arith)
     ∙ ap (λ (l : List ℕ). get_or x 0 0 ∷ l) (drop-cons x 1 0 (omega arith)
     ∙ ap (λ (l : List ℕ). get_or x 1 0 ∷ l) (drop-cons x 2 0 (omega arith)
@@ -92,14 +92,14 @@ ten→ h t i x p =
       typed = and_r (ltb (track_at h x 6) t) _ p4;
     }
 
-whole-cylinders : (h c d f l : ℕ) → f ≡ 0 → l + 1 ≡ h → c * h + f ≤ d * h + l → (d * h + l + 1 - (c * h + f)) % h ≡ 0
-whole-cylinders h c d f l z y w =
+whole_cylinders : (h c d f l : ℕ) → f ≡ 0 → l + 1 ≡ h → c * h + f ≤ d * h + l → (d * h + l + 1 - (c * h + f)) % h ≡ 0
+whole_cylinders h c d f l z y w =
     let X = d * h + l + 1 - (c * h + f) in
     let e : X + c * h ≡ h + d * h = omega arith in
     sym (add-mul-mod_self_right X c h) ∙ ap (λ (n : ℕ). n % h) e ∙ add-mul-mod_self_right h d h ∙ mod_self h
 
-type-good : (h k c f d l : ℕ) → f < h → l < h → c * h + f ≤ d * h + l → T (type_ok h k f l) → T (good_type h k (run (c * h + f) (d * h + l + 1 - (c * h + f))))
-type-good h k c f d l u v w p =
+type_good : (h k c f d l : ℕ) → f < h → l < h → c * h + f ≤ d * h + l → T (type_ok h k f l) → T (good_type h k (run (c * h + f) (d * h + l + 1 - (c * h + f))))
+type_good h k c f d l u v w p =
     by (eqb k 0x01)
     (λ e. rw e tt)
     (λ e.
@@ -109,7 +109,7 @@ type-good h k c f d l u v w p =
     let z : f ≡ 0 = eqb-true _ _ (is_true (and_l (eqb f 0) _ q2)) in
     let y : l + 1 ≡ h = eqb-true _ _ (is_true (and_r (eqb f 0) _ q2)) in
     let a : (c * h + f) % h ≡ 0 = head_of c h f u ∙ z in
-    let b : (d * h + l + 1 - (c * h + f)) % h ≡ 0 = whole-cylinders h c d f l z y w in
+    let b : (d * h + l + 1 - (c * h + f)) % h ≡ 0 = whole_cylinders h c d f l z y w in
     let k8 : eqb k 0x81 ≡ true = is_true q1 in
     rw (e, k8, a, b) tt)
 
@@ -124,32 +124,32 @@ module _ (g : Geometry) (i : ℕ) (x : List ℕ) (len : length x ≡ 10) (small 
   b = track_at h x 6
 
   -- WRITTEN: the layout writes these bytes for the extent that they give
-  pub ten-written : extent_bytes g i (read_extent h x) ≡ x
-  ten-written =
+  pub ten_written : extent_bytes g i (read_extent h x) ≡ x
+  ten_written =
       let o : a ≤ b = s.order in
       let e : a + (b + 1 - a) - 1 ≡ b = omega arith in
-      let p = cchh-back g (get_or x 2 0) (get_or x 3 0) (get_or x 4 0) (get_or x 5 0) (small 3) (small 5) s.first in
-      let q = cchh-back g (get_or x 6 0) (get_or x 7 0) (get_or x 8 0) (get_or x 9 0) (small 7) (small 9) s.last in
+      let p = cchh_back g (get_or x 2 0) (get_or x 3 0) (get_or x 4 0) (get_or x 5 0) (small 3) (small 5) s.first in
+      let q = cchh_back g (get_or x 6 0) (get_or x 7 0) (get_or x 8 0) (get_or x 9 0) (small 7) (small 9) s.last in
       ap (λ (z : ℕ). get_or x 0 0 ∷ i ∷ cchh g a ++ cchh g z) e
       ∙ ap₂ (λ (y z : List ℕ). get_or x 0 0 ∷ i ∷ y ++ z) p q
       ∙ ap (λ (j : ℕ). get_or x 0 0 ∷ j ∷ get_or x 2 0 ∷ get_or x 3 0 ∷ get_or x 4 0 ∷ get_or x 5 0 ∷ get_or x 6 0 ∷ get_or x 7 0 ∷ get_or x 8 0 ∷ get_or x 9 0 ∷ []) (sym s.number)
-      ∙ sym (ten-of x len)
+      ∙ sym (ten_of x len)
 
   -- GOOD: the extent that they give obeys the rules
-  pub ten-good : GoodExtent g (read_extent h x)
-  ten-good =
+  pub ten_good : GoodExtent g (read_extent h x)
+  ten_good =
       let o : a ≤ b = s.order in
       let u : b < tracks g = s.ends in
       record {
-        typed = type-good h (get_or x 0 0) (get2 x 2) (get2 x 4) (get2 x 6) (get2 x 8) s.first s.last o s.typed;
+        typed = type_good h (get_or x 0 0) (get2 x 2) (get2 x 4) (get2 x 6) (get2 x 8) s.first s.last o s.typed;
         full = omega arith;
         ends = omega arith;
       }
 
 -- ---- and back: what the layout writes for a good extent passes the test
 
-ends-cylinder : (n h : ℕ) → 1 ≤ h → (n + 1) % h ≡ 0 → n % h + 1 ≡ h
-ends-cylinder n h pos e =
+ends_cylinder : (n h : ℕ) → 1 ≤ h → (n + 1) % h ≡ 0 → n % h + 1 ≡ h
+ends_cylinder n h pos e =
     let r : n % h < h = mod-lt n (omega arith) in
     let s : n / h * h + n % h ≡ n = div-add-mod' n h in
     elim (dec_le h (n % h + 1)) [
@@ -162,8 +162,8 @@ ends-cylinder n h pos e =
           )
     ]
 
-sum-mod : (a b h : ℕ) → 1 ≤ h → a % h ≡ 0 → b % h ≡ 0 → (a + b) % h ≡ 0
-sum-mod a b h pos p q =
+sum_mod : (a b h : ℕ) → 1 ≤ h → a % h ≡ 0 → b % h ≡ 0 → (a + b) % h ≡ 0
+sum_mod a b h pos p q =
     let s : b / h * h + b % h ≡ b = div-add-mod' b h in
     let e : a + b ≡ a + b / h * h = omega arith in
     ap (λ (z : ℕ). z % h) e ∙ add-mul-mod_self_right a (b / h) h ∙ p
@@ -178,8 +178,8 @@ module _ (g : Geometry) (pos : 1 ≤ g.heads) (i : ℕ) (e : Extent) (good : Goo
   abbrev upto : ℕ
   upto = e.over.start + e.over.count - 1
 
-  type-back : T (type_ok hd e.type_byte (from % hd) (upto % hd))
-  type-back =
+  type_back : T (type_ok hd e.type_byte (from % hd) (upto % hd))
+  type_back =
       by (eqb e.type_byte 0x01)
       (λ z. rw z tt)
       (λ z.
@@ -190,19 +190,19 @@ module _ (g : Geometry) (pos : 1 ≤ g.heads) (i : ℕ) (e : Extent) (good : Goo
       let z1 : e.over.count % hd ≡ 0 = eqb-true _ _ (is_true (and_r (eqb e.type_byte 0x81 && eqb (from % hd) 0) _ q)) in
       let f = good.full in
       let u : upto + 1 ≡ from + e.over.count = omega arith in
-      let w : upto % hd + 1 ≡ hd = ends-cylinder upto hd pos (ap (λ (n : ℕ). n % hd) u ∙ sum-mod from e.over.count hd pos (eqb-true _ _ z0) z1) in
+      let w : upto % hd + 1 ≡ hd = ends_cylinder upto hd pos (ap (λ (n : ℕ). n % hd) u ∙ sum_mod from e.over.count hd pos (eqb-true _ _ z0) z1) in
       let w' : eqb (upto % hd + 1) hd ≡ true = eq-eqb _ _ w in
       rw (z, k8, z0, w') tt)
 
-  pub ten-passes : T (good_ten hd (tracks g) i (extent_bytes g i e))
+  pub ten_passes : T (good_ten hd (tracks g) i (extent_bytes g i e))
   unfolding good_ten
-  ten-passes =
+  ten_passes =
       let f = good.full in
       let n = good.ends in
-      let a2 = be2-back (from / hd) in
-      let a4 = be2-back (from % hd) in
-      let a6 = be2-back (upto / hd) in
-      let a8 = be2-back (upto % hd) in
+      let a2 = be2_back (from / hd) in
+      let a4 = be2_back (from % hd) in
+      let a6 = be2_back (upto / hd) in
+      let a8 = be2_back (upto % hd) in
       let s : from / hd * hd + from % hd ≡ from = div-add-mod' from hd in
       let t : upto / hd * hd + upto % hd ≡ upto = div-add-mod' upto hd in
       let b1 : ltb (from % hd) hd ≡ true = lt-ltb _ _ (mod-lt from pos) in
@@ -210,5 +210,5 @@ module _ (g : Geometry) (pos : 1 ≤ g.heads) (i : ℕ) (e : Extent) (good : Goo
       let b3 : eqb i i ≡ true = eq-eqb i i refl in
       let b4 : leb from upto ≡ true = le-leb from upto (omega arith) in
       let b5 : ltb upto (tracks g) ≡ true = lt-ltb upto (tracks g) (omega arith) in
-      let b6 : type_ok hd e.type_byte (from % hd) (upto % hd) ≡ true = is_true type-back in
+      let b6 : type_ok hd e.type_byte (from % hd) (upto % hd) ≡ true = is_true type_back in
       rw (a2, a4, a6, a8, s, t, b1, b2, b3, b4, b5, b6) tt

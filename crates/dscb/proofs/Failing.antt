@@ -9,28 +9,28 @@ use lib.ListN.{get_or}
 use Rattle.model.specs.Basics.{get2}
 use Rattle.rules.specs.Reading.{track_at}
 use Rattle.dscb.specs.Tests.{good_ten, slot_named, type_ok}
-use Rattle.rows.proofs.Rows.{and-false}
+use Rattle.rows.proofs.Rows.{and_false}
 
 module _ (h t i : ℕ) (x : List ℕ) where
-  pub bad-first : h ≤ get2 x 4 → false ≡ good_ten h t i x
+  pub bad_first : h ≤ get2 x 4 → false ≡ good_ten h t i x
   unfolding good_ten
-  bad-first u = rw (le-ltb (get2 x 4) h u)
+  bad_first u = rw (le-ltb (get2 x 4) h u)
 
   pub bad_last : h ≤ get2 x 8 → false ≡ good_ten h t i x
   unfolding good_ten
-  bad_last u = rw (le-ltb (get2 x 8) h u, and-false)
+  bad_last u = rw (le-ltb (get2 x 8) h u, and_false)
 
-  pub bad-number : (get_or x 1 0 ≡ i → ⊥) → false ≡ good_ten h t i x
+  pub bad_number : (get_or x 1 0 ≡ i → ⊥) → false ≡ good_ten h t i x
   unfolding good_ten
-  bad-number u = rw (ne_eqb (get_or x 1 0) i u, and-false, and-false)
+  bad_number u = rw (ne_eqb (get_or x 1 0) i u, and_false, and_false)
 
-  pub bad-order : track_at h x 6 < track_at h x 2 → false ≡ good_ten h t i x
+  pub bad_order : track_at h x 6 < track_at h x 2 → false ≡ good_ten h t i x
   unfolding good_ten
-  bad-order u = rw (lt-leb (track_at h x 2) (track_at h x 6) u, and-false, and-false, and-false)
+  bad_order u = rw (lt-leb (track_at h x 2) (track_at h x 6) u, and_false, and_false, and_false)
 
-  pub bad-end : t ≤ track_at h x 6 → false ≡ good_ten h t i x
+  pub bad_end : t ≤ track_at h x 6 → false ≡ good_ten h t i x
   unfolding good_ten
-  bad-end u = rw (le-ltb (track_at h x 6) t u, and-false, and-false, and-false, and-false)
+  bad_end u = rw (le-ltb (track_at h x 6) t u, and_false, and_false, and_false, and_false)
 
   pub all_but : (k f l : ℕ) → k ≡ get_or x 0 0 → f ≡ get2 x 4 → l ≡ get2 x 8 → f < h → l < h → get_or x 1 0 ≡ i
       → track_at h x 2 ≤ track_at h x 6 → track_at h x 6 < t → type_ok h k f l ≡ good_ten h t i x
@@ -48,26 +48,26 @@ module _ (h t i : ℕ) (x : List ℕ) where
       )
 
 module _ (h d s n : ℕ) (x : List ℕ) where
-  pub no-head : h ≤ get2 x 2 → 0 ≡ slot_named h d s n x
+  pub no_head : h ≤ get2 x 2 → 0 ≡ slot_named h d s n x
   unfolding slot_named
-  no-head u = rw (le-ltb (get2 x 2) h u)
+  no_head u = rw (le-ltb (get2 x 2) h u)
 
   pub no_record : get_or x 4 0 < 1 → 0 ≡ slot_named h d s n x
   unfolding slot_named
-  no_record u = rw (lt-leb 1 (get_or x 4 0) u, and-false)
+  no_record u = rw (lt-leb 1 (get_or x 4 0) u, and_false)
 
-  pub past-records : d < get_or x 4 0 → 0 ≡ slot_named h d s n x
+  pub past_records : d < get_or x 4 0 → 0 ≡ slot_named h d s n x
   unfolding slot_named
-  past-records u = rw (lt-leb (get_or x 4 0) d u, and-false, and-false)
+  past_records u = rw (lt-leb (get_or x 4 0) d u, and_false, and_false)
 
-  pub before-vtoc : track_at h x 0 < s → 0 ≡ slot_named h d s n x
+  pub before_vtoc : track_at h x 0 < s → 0 ≡ slot_named h d s n x
   unfolding slot_named
-  before-vtoc u = rw (lt-leb s (track_at h x 0) u, and-false, and-false, and-false)
+  before_vtoc u = rw (lt-leb s (track_at h x 0) u, and_false, and_false, and_false)
 
   module _ (t r : ℕ) (et : t ≡ track_at h x 0) (er : r ≡ get_or x 4 0) where
-    pub past-slots : n ≤ (t - s) * d + r - 1 → 0 ≡ slot_named h d s n x
+    pub past_slots : n ≤ (t - s) * d + r - 1 → 0 ≡ slot_named h d s n x
     unfolding slot_named
-    past-slots u = rw (← et, ← er, le-ltb ((t - s) * d + r - 1) n u, and-false, and-false, and-false, and-false)
+    past_slots u = rw (← et, ← er, le-ltb ((t - s) * d + r - 1) n u, and_false, and_false, and_false, and_false)
 
     pub slot_is : get2 x 2 < h → 1 ≤ r → r ≤ d → s ≤ t → (t - s) * d + r - 1 < n → (t - s) * d + r - 1 ≡ slot_named h d s n x
     unfolding slot_named

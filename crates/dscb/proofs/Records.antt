@@ -16,9 +16,9 @@ pub length_part : (i n : ℕ) (r : List ℕ) → i + n ≤ length r → length (
 length_part i n r h = length-take n (drop i r) ∙ omega (arith, length-drop i r)
 
 -- `&mut t[a..]` was lent to a copy of r and is back
-pub copied-in : (t r p : List ℕ) (a : ℕ) → a + length r ≤ length t → p ≡ take (length r) r ++ drop (length r) (mid_of a (length t - a) t)
+pub copied_in : (t r p : List ℕ) (a : ℕ) → a + length r ≤ length t → p ≡ take (length r) r ++ drop (length r) (mid_of a (length t - a) t)
     → put_mid a (length t - a) t p ≡ take a t ++ (r ++ drop (a + length r) t)
-copied-in t r p a h e =
+copied_in t r p a h e =
     let all : take (length t - a) (drop a t) ≡ drop a t = take_all (length t - a) (drop a t) (simp length-drop (omega arith)) in
     let none : drop (length t - a) (drop a t) ≡ [] = drop_of_length-le (drop a t) {i = length t - a} (simp length-drop (omega arith)) in
     rw (e, none, all, take-length, drop-drop, append-nil)
@@ -30,9 +30,9 @@ module _ (t : List ℕ) (k : ℕ) (r : List ℕ) (len : length r ≡ 140) (fits 
   long : length front ≡ 140 * k
   long = length-take (140 * k) t ∙ omega arith
 
-  pub put-length : length (put_record t k r) ≡ length t
+  pub put_length : length (put_record t k r) ≡ length t
   unfolding put_record
-  put-length = simp (length-append, length-take, length-drop) (omega arith)
+  put_length = simp (length-append, length-take, length-drop) (omega arith)
 
   -- the record just put
   pub put_same : slot_bytes (put_record t k r) k ≡ r
@@ -74,13 +74,13 @@ module _ (t : List ℕ) (k : ℕ) (r : List ℕ) (len : length r ≡ 140) (fits 
 
 -- ---- the table as the list of its records
 
-pub length-chop : (n : ℕ) (t : List ℕ) → length (chop n t) ≡ n
-length-chop zero t = refl
-length-chop (suc n) t = ap suc (length-chop n (drop 140 t))
+pub length_chop : (n : ℕ) (t : List ℕ) → length (chop n t) ≡ n
+length_chop zero t = refl
+length_chop (suc n) t = ap suc (length_chop n (drop 140 t))
 
-pub chop-slot : (n : ℕ) (t : List ℕ) (k : ℕ) → k < n → record_at (chop n t) k ≡ slot_bytes t k
-chop-slot zero t k h = absurd (omega arith)
-chop-slot (suc n) t zero h = refl
-chop-slot (suc n) t (suc k) h =
+pub chop_slot : (n : ℕ) (t : List ℕ) (k : ℕ) → k < n → record_at (chop n t) k ≡ slot_bytes t k
+chop_slot zero t k h = absurd (omega arith)
+chop_slot (suc n) t zero h = refl
+chop_slot (suc n) t (suc k) h =
     let e : 140 + 140 * k ≡ 140 * suc k = omega arith in
-    chop-slot n (drop 140 t) k (omega arith) ∙ ap (take 140) (drop-drop (140 * k) 140 t ∙ ap (λ (x : ℕ). drop x t) e)
+    chop_slot n (drop 140 t) k (omega arith) ∙ ap (take 140) (drop-drop (140 * k) 140 t ∙ ap (λ (x : ℕ). drop x t) e)

@@ -11,36 +11,36 @@ use lib.ListN.{get_or, drop}
 use lib.Seq.{get_or-take, get_or-drop}
 use Rattle.model.specs.Basics.{get2, get3, part, within}
 use Rattle.model.specs.Model.{Geometry}
-use Rattle.model.proofs.Lists.{and_l, and_r, by, is_true, true-is}
+use Rattle.model.proofs.Lists.{and_l, and_r, by, is_true, true_is}
 use Rattle.rules.specs.Reading.{read_geometry, track_at}
 use Rattle.rules.specs.Table.{good_name, good_unit, limits}
 use Rattle.rules.proofs.Valid.{limits→}
 use Rattle.rules.specs.Predicates.{Limits}
 use Rattle.dscb.specs.Tests.{good_ten}
 use Rattle.rows.specs.Words.{all_are}
-use Rattle.ebcdic.proofs.Names.{agree, agree-is, for-all}
+use Rattle.ebcdic.proofs.Names.{agree, agree_is, for_all}
 use Rattle.dscb.specs.Forms.{extent_ok, one_ok, three_ok}
 
 -- a test that implies what is not so is false
 pub refuted : {A : Type 0} (b : Bool) → (T b → A) → (A → ⊥) → false ≡ b
-refuted b f n = by b (λ e. absurd (n (f (true-is e)))) (λ e. sym e)
+refuted b f n = by b (λ e. absurd (n (f (true_is e)))) (λ e. sym e)
 
 -- ---- the limits
 
-pub no-limits : (g : Geometry) → (Limits g → ⊥) → false ≡ limits g
-no-limits g n = refuted (limits g) (limits→ g) n
+pub no_limits : (g : Geometry) → (Limits g → ⊥) → false ≡ limits g
+no_limits g n = refuted (limits g) (limits→ g) n
 
 -- ---- a part of a record, read in the record
 
-pub byte-part : (i n j : ℕ) (r : List ℕ) → j < n → get_or (part i n r) j 0 ≡ get_or r (i + j) 0
-byte-part i n j r u = get_or-take n (drop i r) j 0 u ∙ get_or-drop i r j 0
+pub byte_part : (i n j : ℕ) (r : List ℕ) → j < n → get_or (part i n r) j 0 ≡ get_or r (i + j) 0
+byte_part i n j r u = get_or-take n (drop i r) j 0 u ∙ get_or-drop i r j 0
 
-pub track-part : (h i n j : ℕ) (r : List ℕ) → j + 3 < n → track_at h (part i n r) j ≡ track_at h r (i + j)
-track-part h i n j r u =
-    let a = byte-part i n j r (omega arith) in
-    let b = byte-part i n (j + 1) r (omega arith) in
-    let c = byte-part i n (j + 2) r (omega arith) in
-    let d = byte-part i n (j + 2 + 1) r (omega arith) in
+pub track_part : (h i n j : ℕ) (r : List ℕ) → j + 3 < n → track_at h (part i n r) j ≡ track_at h r (i + j)
+track_part h i n j r u =
+    let a = byte_part i n j r (omega arith) in
+    let b = byte_part i n (j + 1) r (omega arith) in
+    let c = byte_part i n (j + 2) r (omega arith) in
+    let d = byte_part i n (j + 2 + 1) r (omega arith) in
     let e1 : i + (j + 1) ≡ i + j + 1 = omega arith in
     let e2 : i + (j + 2) ≡ i + j + 2 = omega arith in
     let e3 : i + (j + 2 + 1) ≡ i + j + 2 + 1 = omega arith in
@@ -49,18 +49,18 @@ track-part h i n j r u =
 -- ---- the unit
 
 -- one test tells both units of space among the bytes: computed
-space-unit : (u : ℕ) → u < 256 → (eqb u 0x80 || eqb u 0xC0) ≡ eqb (bit_and u 0xBF) 0x80
-space-unit u h = agree-is _ _ (for-all (λ x. agree (eqb x 0x80 || eqb x 0xC0) (eqb (bit_and x 0xBF) 0x80)) 0 256 tt u (omega arith) (omega arith))
+space_unit : (u : ℕ) → u < 256 → (eqb u 0x80 || eqb u 0xC0) ≡ eqb (bit_and u 0xBF) 0x80
+space_unit u h = agree_is _ _ (for_all (λ x. agree (eqb x 0x80 || eqb x 0xC0) (eqb (bit_and x 0xBF) 0x80)) 0 256 tt u (omega arith) (omega arith))
 
 module _ (u s : ℕ) (h : u < 256) where
-  pub unit-space : bit_and u 0xBF ≡ 0x80 → true ≡ good_unit u s
-  unit-space e = rw (space-unit u h, eq-eqb (bit_and u 0xBF) 0x80 e)
+  pub unit_space : bit_and u 0xBF ≡ 0x80 → true ≡ good_unit u s
+  unit_space e = rw (space_unit u h, eq-eqb (bit_and u 0xBF) 0x80 e)
 
-  pub unit-other : (bit_and u 0xBF ≡ 0x80 → ⊥) → (u ≡ 0x00 → ⊥) → false ≡ good_unit u s
-  unit-other m n = rw (space-unit u h, ne_eqb (bit_and u 0xBF) 0x80 m, ne_eqb u 0x00 n)
+  pub unit_other : (bit_and u 0xBF ≡ 0x80 → ⊥) → (u ≡ 0x00 → ⊥) → false ≡ good_unit u s
+  unit_other m n = rw (space_unit u h, ne_eqb (bit_and u 0xBF) 0x80 m, ne_eqb u 0x00 n)
 
-  pub unit-absolute : (bit_and u 0xBF ≡ 0x80 → ⊥) → u ≡ 0x00 → eqb s 0 ≡ good_unit u s
-  unit-absolute m e = rw (space-unit u h, ne_eqb (bit_and u 0xBF) 0x80 m, eq-eqb u 0x00 e)
+  pub unit_absolute : (bit_and u 0xBF ≡ 0x80 → ⊥) → u ≡ 0x00 → eqb s 0 ≡ good_unit u s
+  unit_absolute m e = rw (space_unit u h, ne_eqb (bit_and u 0xBF) 0x80 m, eq-eqb u 0x00 e)
 
 -- ---- the formats
 
@@ -105,12 +105,12 @@ three→ r p =
       tail = and_r (all_are 0x03 (part 0 4 r)) _ q;
     }
 
-pub three-last : (r : List ℕ) → get_or r 44 0 ≡ 0xF3 → all_are 0x03 (part 0 4 r) ≡ true → all_are 0 (part 135 5 r) ≡ three_ok r
+pub three_last : (r : List ℕ) → get_or r 44 0 ≡ 0xF3 → all_are 0x03 (part 0 4 r) ≡ true → all_are 0 (part 135 5 r) ≡ three_ok r
 unfolding three_ok
-three-last r a b = rw (eq-eqb (get_or r 44 0) 0xF3 a, b)
+three_last r a b = rw (eq-eqb (get_or r 44 0) 0xF3 a, b)
 
 pub →three : (r : List ℕ) → ThreeOk r → T (three_ok r)
-→three r x = subst T (three-last r x.id (is_true x.key)) x.tail
+→three r x = subst T (three_last r x.id (is_true x.key)) x.tail
 
 -- an extent in use, and one that is not
 module _ (h t n e : ℕ) (x : List ℕ) where
@@ -118,15 +118,15 @@ module _ (h t n e : ℕ) (x : List ℕ) where
   unfolding extent_ok
   in_use u = rw (lt-ltb e n u)
 
-  pub not-in-use : n ≤ e → all_are 0 x ≡ extent_ok h t n e x
+  pub not_in_use : n ≤ e → all_are 0 x ≡ extent_ok h t n e x
   unfolding extent_ok
-  not-in-use u = rw (le-ltb e n u)
+  not_in_use u = rw (le-ltb e n u)
 
 -- the geometry of a format 4, by its numbers
-pub geometry-is : (r : List ℕ) (c h d s e : ℕ) → c ≡ get2 r 62 → h ≡ get2 r 64 → d ≡ get_or r 74 0 → s ≡ track_at h r 107 → e ≡ track_at h r 111
+pub geometry_is_lem : (r : List ℕ) (c h d s e : ℕ) → c ≡ get2 r 62 → h ≡ get2 r 64 → d ≡ get_or r 74 0 → s ≡ track_at h r 107 → e ≡ track_at h r 111
     → ◌≡◌ {A = Geometry} (record { cylinders = c; heads = h; records = d; vtoc_start = s; vtoc_tracks = e + 1 - s }) (read_geometry r)
 unfolding read_geometry
-geometry-is r c h d s e ec eh ed es ee =
-    let s' : s ≡ track_at (get2 r 64) (part 105 10 r) 2 = es ∙ ap (λ (x : ℕ). track_at x r 107) eh ∙ sym (track-part (get2 r 64) 105 10 2 r (omega arith)) in
-    let e' : e ≡ track_at (get2 r 64) (part 105 10 r) 6 = ee ∙ ap (λ (x : ℕ). track_at x r 111) eh ∙ sym (track-part (get2 r 64) 105 10 6 r (omega arith)) in
+geometry_is_lem r c h d s e ec eh ed es ee =
+    let s' : s ≡ track_at (get2 r 64) (part 105 10 r) 2 = es ∙ ap (λ (x : ℕ). track_at x r 107) eh ∙ sym (track_part (get2 r 64) 105 10 2 r (omega arith)) in
+    let e' : e ≡ track_at (get2 r 64) (part 105 10 r) 6 = ee ∙ ap (λ (x : ℕ). track_at x r 111) eh ∙ sym (track_part (get2 r 64) 105 10 6 r (omega arith)) in
     λ i. record { cylinders = ec i; heads = eh i; records = ed i; vtoc_start = s' i; vtoc_tracks = e' i + 1 - s' i }

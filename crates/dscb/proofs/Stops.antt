@@ -11,7 +11,7 @@ use lib.Dec.{T, leb, ltb}
 use lib.ListN.{get_or}
 use Rattle.model.specs.Basics.{get2}
 use Rattle.model.specs.Model.{Geometry, slots, tracks}
-use Rattle.model.proofs.Lists.{and_l, and_r, by, clash, is_true, true-is}
+use Rattle.model.proofs.Lists.{and_l, and_r, by, clash, is_true, true_is}
 use Rattle.rules.specs.Predicates.{Limits}
 use Rattle.rules.specs.Reading.{read_geometry, track_at}
 use Rattle.rules.specs.Table.{limits}
@@ -19,8 +19,8 @@ use Rattle.rules.proofs.Valid.{→limits}
 use Rattle.dscb.specs.Forms.{Gives, geometry_of}
 use Rattle.dscb.specs.Tests.{good_ten, slot_named}
 use Rattle.dscb.specs.declared.Geometry.{Geometry as Numbers}
-use Rattle.dscb.proofs.Failing.{bad-end, bad-order, past-slots}
-use Rattle.dscb.proofs.Sound.{geometry-is, no-limits}
+use Rattle.dscb.proofs.Failing.{bad_end, bad_order, past_slots}
+use Rattle.dscb.proofs.Sound.{geometry_is_lem, no_limits}
 
 -- ---- a product, made of the bytes of a factor
 
@@ -39,11 +39,11 @@ module _ (a b : ℕ) where
   low_fits v = let p : a % 256 ≤ 255 = omega arith in mul-le-mul p v
 
   -- the stop: the part of the high byte is more than the product may be
-  pub high-past : (most : ℕ) → b ≤ 255 → most / 256 < a / 256 * b → false ≡ (leb b 255 && leb (a * b) most)
-  high-past most v u = let e = by_bytes in let w : most < a * b = omega arith in rw (lt-leb (a * b) most w, le-leb b 255 v)
+  pub high_past : (most : ℕ) → b ≤ 255 → most / 256 < a / 256 * b → false ≡ (leb b 255 && leb (a * b) most)
+  high_past most v u = let e = by_bytes in let w : most < a * b = omega arith in rw (lt-leb (a * b) most w, le-leb b 255 v)
 
-  pub low-tells : (most : ℕ) → b ≤ 255 → a / 256 * b ≤ most / 256 → leb (a % 256 * b) (most - 256 * (a / 256 * b)) ≡ (leb b 255 && leb (a * b) most)
-  low-tells most v u =
+  pub low_tells : (most : ℕ) → b ≤ 255 → a / 256 * b ≤ most / 256 → leb (a % 256 * b) (most - 256 * (a / 256 * b)) ≡ (leb b 255 && leb (a * b) most)
+  low_tells most v u =
       let e = by_bytes in
       by (leb (a % 256 * b) (most - 256 * (a / 256 * b)))
       (λ q.
@@ -58,94 +58,94 @@ module _ (a b : ℕ) where
       q ∙ r)
 
   -- what the test tells
-  pub product-fits : (most : ℕ) (r : Bool) → r ≡ (leb b 255 && leb (a * b) most) → r ≡ true → (b ≤ 255) × (a * b ≤ most)
-  product-fits most r e q =
-      let p : T (leb b 255 && leb (a * b) most) = true-is (sym e ∙ q) in
+  pub product_fits : (most : ℕ) (r : Bool) → r ≡ (leb b 255 && leb (a * b) most) → r ≡ true → (b ≤ 255) × (a * b ≤ most)
+  product_fits most r e q =
+      let p : T (leb b 255 && leb (a * b) most) = true_is (sym e ∙ q) in
       (leb-true _ _ (is_true (and_l (leb b 255) _ p)), leb-true _ _ (is_true (and_r (leb b 255) _ p)))
 
-  pub product-past : (most : ℕ) (r : Bool) → r ≡ (leb b 255 && leb (a * b) most) → r ≡ false → b ≤ 255 → a * b ≤ most → ⊥
-  product-past most r e q v u = let s : true ≡ r = rw (e, le-leb b 255 v, le-leb (a * b) most u) in clash (sym s) q
+  pub product_past : (most : ℕ) (r : Bool) → r ≡ (leb b 255 && leb (a * b) most) → r ≡ false → b ≤ 255 → a * b ≤ most → ⊥
+  product_past most r e q v u = let s : true ≡ r = rw (e, le-leb b 255 v, le-leb (a * b) most u) in clash (sym s) q
 
 -- ---- cylinders and tracks
 
 module _ (c h cc : ℕ) where
   -- what begins in no cylinder of the volume lies behind its end
-  pub cylinder-past : c ≤ cc → c * h ≤ cc * h
-  cylinder-past u = mul-le-mul u (le_refl h)
+  pub cylinder_past : c ≤ cc → c * h ≤ cc * h
+  cylinder_past u = mul-le-mul u (le_refl h)
 
   -- what begins in one of them, with a head below h, lies on it
-  pub cylinder-fits : cc < c → cc * h + h ≤ c * h
-  cylinder-fits u = let p : cc + 1 ≤ c = omega arith in let m = mul-le-mul p (le_refl h) in omega (arith, add-mul cc 1 h)
+  pub cylinder_fits : cc < c → cc * h + h ≤ c * h
+  cylinder_fits u = let p : cc + 1 ≤ c = omega arith in let m = mul-le-mul p (le_refl h) in omega (arith, add-mul cc 1 h)
 
 -- the track whose cylinder, p, and head, q, stand at place i
 module _ (h p q i : ℕ) (s : List ℕ) (ep : p ≡ get2 s i) (eq : q ≡ get2 s (i + 2)) where
-  pub track-is : p * h + q ≡ track_at h s i
-  track-is = ap₂ (λ (x y : ℕ). x * h + y) ep eq
+  pub track_is : p * h + q ≡ track_at h s i
+  track_is = ap₂ (λ (x y : ℕ). x * h + y) ep eq
 
-  pub track-fits : track_at h s i ≤ 65535 → (p * h ≤ 65535) × (p * h + q ≤ 65535)
-  track-fits u = let e = track-is in (omega arith, omega arith)
+  pub track_fits : track_at h s i ≤ 65535 → (p * h ≤ 65535) × (p * h + q ≤ 65535)
+  track_fits u = let e = track_is in (omega arith, omega arith)
 
   -- on a volume of c cylinders, or its end
   module _ (c : ℕ) where
-    pub past-cylinders : c ≤ p → c * h ≡ min (c * h) (track_at h s i)
-    past-cylinders u = let e = track-is in let l = cylinder-past c h p u in omega arith
+    pub past_cylinders : c ≤ p → c * h ≡ min (c * h) (track_at h s i)
+    past_cylinders u = let e = track_is in let l = cylinder_past c h p u in omega arith
 
-    pub past-heads : p < c → c * h - p * h ≤ q → c * h ≡ min (c * h) (track_at h s i)
-    past-heads u v = let e = track-is in let l = cylinder-fits c h p u in omega arith
+    pub past_heads : p < c → c * h - p * h ≤ q → c * h ≡ min (c * h) (track_at h s i)
+    past_heads u v = let e = track_is in let l = cylinder_fits c h p u in omega arith
 
-    pub on-cylinder : p < c → q < c * h - p * h → p * h + q ≡ min (c * h) (track_at h s i)
-    on-cylinder u v = let e = track-is in omega arith
+    pub on_cylinder : p < c → q < c * h - p * h → p * h + q ≡ min (c * h) (track_at h s i)
+    on_cylinder u v = let e = track_is in omega arith
 
 -- ---- extents
 
 module _ (c h i : ℕ) (x : List ℕ) where
   -- the stop at the volume's end, and that what it passes fits
-  pub end-past : c ≤ get2 x 6 → false ≡ good_ten h (c * h) i x
-  end-past u = let p = cylinder-past c h (get2 x 6) u in bad-end h (c * h) i x (omega arith)
+  pub end_past : c ≤ get2 x 6 → false ≡ good_ten h (c * h) i x
+  end_past u = let p = cylinder_past c h (get2 x 6) u in bad_end h (c * h) i x (omega arith)
 
   pub end_fits : get2 x 6 < c → get2 x 8 < h → track_at h x 6 < c * h
-  end_fits u v = let p = cylinder-fits c h (get2 x 6) u in omega arith
+  end_fits u v = let p = cylinder_fits c h (get2 x 6) u in omega arith
 
   -- the stop at an extent that begins in a later cylinder than it ends in, and that the first track of any other fits
-  pub later-cylinder : get2 x 6 < get2 x 2 → get2 x 8 < h → false ≡ good_ten h (c * h) i x
-  later-cylinder u v = let p = cylinder-fits (get2 x 2) h (get2 x 6) u in bad-order h (c * h) i x (omega arith)
+  pub later_cylinder : get2 x 6 < get2 x 2 → get2 x 8 < h → false ≡ good_ten h (c * h) i x
+  later_cylinder u v = let p = cylinder_fits (get2 x 2) h (get2 x 6) u in bad_order h (c * h) i x (omega arith)
 
   pub first_fits : get2 x 2 ≤ get2 x 6 → get2 x 6 < c → get2 x 4 < h → track_at h x 2 < c * h
-  first_fits w u v = let d : get2 x 2 < c = omega arith in let p = cylinder-fits c h (get2 x 2) d in omega arith
+  first_fits w u v = let d : get2 x 2 < c = omega arith in let p = cylinder_fits c h (get2 x 2) d in omega arith
 
   -- a good extent meets no stop
-  pub good-passes : good_ten h (c * h) i x ≡ true → get2 x 8 < h → (get2 x 6 < c) × (get2 x 2 ≤ get2 x 6)
-  good-passes e v = (
-    by (ltb (get2 x 6) c) (λ q. ltb-true _ _ q) (λ q. clash e (sym (end-past (ltb-false _ _ q)))),
-    by (leb (get2 x 2) (get2 x 6)) (λ q. leb-true _ _ q) (λ q. clash e (sym (later-cylinder (leb-false _ _ q) v))),
+  pub good_passes : good_ten h (c * h) i x ≡ true → get2 x 8 < h → (get2 x 6 < c) × (get2 x 2 ≤ get2 x 6)
+  good_passes e v = (
+    by (ltb (get2 x 6) c) (λ q. ltb-true _ _ q) (λ q. clash e (sym (end_past (ltb-false _ _ q)))),
+    by (leb (get2 x 2) (get2 x 6)) (λ q. leb-true _ _ q) (λ q. clash e (sym (later_cylinder (leb-false _ _ q) v))),
   )
 
 -- ---- addresses
 
 module _ (g : Geometry) (x : List ℕ) (l : Limits g) where
   -- what lies behind the VTOC is no slot's address
-  pub vtoc-past : 1 ≤ get_or x 4 0 → g.vtoc_tracks ≤ track_at g.heads x 0 - g.vtoc_start → 0 ≡ slot_named g.heads g.records g.vtoc_start (slots g) x
-  vtoc-past a u =
+  pub vtoc_past : 1 ≤ get_or x 4 0 → g.vtoc_tracks ≤ track_at g.heads x 0 - g.vtoc_start → 0 ≡ slot_named g.heads g.records g.vtoc_start (slots g) x
+  vtoc_past a u =
       let t = track_at g.heads x 0 in
-      let p = cylinder-past g.vtoc_tracks g.records (t - g.vtoc_start) u in
-      past-slots g.heads g.records g.vtoc_start (slots g) x t (get_or x 4 0) refl refl (omega arith)
+      let p = cylinder_past g.vtoc_tracks g.records (t - g.vtoc_start) u in
+      past_slots g.heads g.records g.vtoc_start (slots g) x t (get_or x 4 0) refl refl (omega arith)
 
-  pub volume-past : 1 ≤ get_or x 4 0 → g.cylinders ≤ get2 x 0 → 0 ≡ slot_named g.heads g.records g.vtoc_start (slots g) x
-  volume-past a u =
-      let p = cylinder-past g.cylinders g.heads (get2 x 0) u in
-      vtoc-past a (omega (arith, l.ends))
+  pub volume_past : 1 ≤ get_or x 4 0 → g.cylinders ≤ get2 x 0 → 0 ≡ slot_named g.heads g.records g.vtoc_start (slots g) x
+  volume_past a u =
+      let p = cylinder_past g.cylinders g.heads (get2 x 0) u in
+      vtoc_past a (omega (arith, l.ends))
 
   -- the address of a slot meets neither
-  pub named-passes : 1 ≤ get_or x 4 0 → 1 ≤ slot_named g.heads g.records g.vtoc_start (slots g) x
+  pub named_passes : 1 ≤ get_or x 4 0 → 1 ≤ slot_named g.heads g.records g.vtoc_start (slots g) x
       → (get2 x 0 < g.cylinders) × (track_at g.heads x 0 - g.vtoc_start < g.vtoc_tracks)
-  named-passes a some = (
-    by (ltb (get2 x 0) g.cylinders) (λ q. ltb-true _ _ q) (λ q. absurd (omega (arith, volume-past a (ltb-false _ _ q)))),
-    by (ltb (track_at g.heads x 0 - g.vtoc_start) g.vtoc_tracks) (λ q. ltb-true _ _ q) (λ q. absurd (omega (arith, vtoc-past a (ltb-false _ _ q)))),
+  named_passes a some = (
+    by (ltb (get2 x 0) g.cylinders) (λ q. ltb-true _ _ q) (λ q. absurd (omega (arith, volume_past a (ltb-false _ _ q)))),
+    by (ltb (track_at g.heads x 0 - g.vtoc_start) g.vtoc_tracks) (λ q. ltb-true _ _ q) (λ q. absurd (omega (arith, vtoc_past a (ltb-false _ _ q)))),
   )
 
   -- the number of any other slot fits
-  pub slot-inside : (t r : ℕ) → r ≤ g.records → 1 ≤ r → t - g.vtoc_start < g.vtoc_tracks → (t - g.vtoc_start) * g.records + r - 1 < slots g
-  slot-inside t r a b u = let p = cylinder-fits g.vtoc_tracks g.records (t - g.vtoc_start) u in omega arith
+  pub slot_inside : (t r : ℕ) → r ≤ g.records → 1 ≤ r → t - g.vtoc_start < g.vtoc_tracks → (t - g.vtoc_start) * g.records + r - 1 < slots g
+  slot_inside t r a b u = let p = cylinder_fits g.vtoc_tracks g.records (t - g.vtoc_start) u in omega arith
 
 -- ---- the geometry
 
@@ -156,9 +156,9 @@ factors (suc a) zero u = absurd (omega (arith, mul-zero (suc a)))
 factors (suc a) (suc b) u = (omega arith, omega arith)
 
 -- the limits, all but that there are three slots
-pub limits-last : (g : Geometry) → (g.heads ≤ 255) × (tracks g ≤ 65535) → 1 ≤ g.vtoc_start → g.vtoc_start ≤ tracks g → g.vtoc_tracks ≤ tracks g - g.vtoc_start
+pub limits_last : (g : Geometry) → (g.heads ≤ 255) × (tracks g ≤ 65535) → 1 ≤ g.vtoc_start → g.vtoc_start ≤ tracks g → g.vtoc_tracks ≤ tracks g - g.vtoc_start
     → (g.records ≤ 255) × (slots g ≤ 468) → leb 3 (slots g) ≡ limits g
-limits-last g a b c d e =
+limits_last g a b c d e =
     let ch = factors g.cylinders g.heads (omega arith) in
     by (leb 3 (slots g))
     (λ p.
@@ -181,7 +181,7 @@ limits-last g a b c d e =
       least = some;
       most = e.1;
     }))))
-    (λ p. let few = leb-false 3 (slots g) p in p ∙ no-limits g (λ x. absurd (omega (arith, x.least))))
+    (λ p. let few = leb-false 3 (slots g) p in p ∙ no_limits g (λ x. absurd (omega (arith, x.least))))
 
 -- numbers that meet the limits have 16 bits
 pub record Sixteen (g : Geometry) : Type 0 where
@@ -203,49 +203,49 @@ sixteen g l =
     }
 
 -- numbers that meet the limits meet no stop of a product
-pub limits-pass : (g : Geometry) → Limits g
+pub limits_pass : (g : Geometry) → Limits g
     → (true ≡ (leb g.heads 255 && leb (g.cylinders * g.heads) 65535)) × (true ≡ (leb g.records 255 && leb (g.vtoc_tracks * g.records) 468))
-limits-pass g l =
+limits_pass g l =
     (rw (le-leb g.heads 255 l.heads_most, le-leb (tracks g) 65535 l.tracks_most), rw (le-leb g.records 255 l.records_most, le-leb (slots g) 468 l.most))
 
 module _ (x : Geometry) (n : Numbers) where
   -- where the limits are broken, any numbers that break them serve
   pub gives_none : (Limits x → ⊥) → limits (geometry_of n) ≡ false → Gives x n
-  gives_none broken none = record { within = λ p. clash p (sym (no-limits x broken)); beyond = λ _. none }
+  gives_none broken none = record { within = λ p. clash p (sym (no_limits x broken)); beyond = λ _. none }
 
   pub gives_same : geometry_of n ≡ x → Gives x n
   gives_same e = record { within = λ _. e; beyond = λ p. ap limits e ∙ p }
 
   -- so the test of the numbers is that of the geometry
-  pub given-good : Gives x n → limits (geometry_of n) ≡ true → geometry_of n ≡ x
-  given-good g p = by (limits x) (λ q. g.within q) (λ q. clash p (g.beyond q))
+  pub given_good : Gives x n → limits (geometry_of n) ≡ true → geometry_of n ≡ x
+  given_good g p = by (limits x) (λ q. g.within q) (λ q. clash p (g.beyond q))
 
-  pub given-bad : Gives x n → limits (geometry_of n) ≡ false → limits x ≡ false
-  given-bad g p = by (limits x) (λ q. clash (ap limits (g.within q) ∙ q) p) (λ q. q)
+  pub given_bad : Gives x n → limits (geometry_of n) ≡ false → limits x ≡ false
+  given_bad g p = by (limits x) (λ q. clash (ap limits (g.within q) ∙ q) p) (λ q. q)
 
 -- the VTOC of c cylinders of h tracks, from track s to track e, as a format 4 tells of it
 abbrev pub vtoc_from : (c h d s e : ℕ) → Geometry
 vtoc_from c h d s e = record { cylinders = c; heads = h; records = d; vtoc_start = s; vtoc_tracks = e + 1 - s }
 
 module _ (c h d s e : ℕ) where
-  pub ends-first : min (c * h) e < min (c * h) s → Limits (vtoc_from c h d s e) → ⊥
-  ends-first u l = absurd (omega (arith, l.vtoc))
+  pub ends_first : min (c * h) e < min (c * h) s → Limits (vtoc_from c h d s e) → ⊥
+  ends_first u l = absurd (omega (arith, l.vtoc))
 
-  pub ends-past : c * h ≤ min (c * h) e → Limits (vtoc_from c h d s e) → ⊥
-  ends-past u l = absurd (omega (arith, l.vtoc, l.ends))
+  pub ends_past : c * h ≤ min (c * h) e → Limits (vtoc_from c h d s e) → ⊥
+  ends_past u l = absurd (omega (arith, l.vtoc, l.ends))
 
 -- a format 4 whose numbers break the limits, and one whose VTOC is on the volume; c, h and d are read from it, f and l are the first and the
 -- last track of the VTOC, or the volume's end
 module _ (r : List ℕ) (c h : ℕ) (ec : c ≡ get2 r 62) (eh : h ≡ get2 r 64) where
   pub read_none : (n : Numbers) → (Limits (vtoc_from c h (get_or r 74 0) (track_at h r 107) (track_at h r 111)) → ⊥) → limits (geometry_of n) ≡ false → Gives (read_geometry r) n
   read_none n broken none =
-      subst (λ (x : Geometry). Gives x n) (geometry-is r c h _ _ _ ec eh refl refl refl)
+      subst (λ (x : Geometry). Gives x n) (geometry_is_lem r c h _ _ _ ec eh refl refl refl)
       (gives_none (vtoc_from c h (get_or r 74 0) (track_at h r 107) (track_at h r 111)) n broken none)
 
   same_read : (d f l : ℕ) → d ≡ get_or r 74 0 → f ≡ track_at h r 107 → l ≡ track_at h r 111 → l - f + 1 ≡ l + 1 - f
       → ◌≡◌ {A = Geometry} (record { cylinders = c; heads = h; records = d; vtoc_start = f; vtoc_tracks = l - f + 1 }) (read_geometry r)
   same_read d f l ed es ee long =
-      ap (λ (k : ℕ). record { cylinders = c; heads = h; records = d; vtoc_start = f; vtoc_tracks = k }) long ∙ geometry-is r c h d f l ec eh ed es ee
+      ap (λ (k : ℕ). record { cylinders = c; heads = h; records = d; vtoc_start = f; vtoc_tracks = k }) long ∙ geometry_is_lem r c h d f l ec eh ed es ee
 
   pub read_same : (n : Numbers) (d f l : ℕ) → d ≡ get_or r 74 0 → f ≡ min (c * h) (track_at h r 107) → l ≡ min (c * h) (track_at h r 111) → f ≤ l → l < c * h
       → geometry_of n ≡ record { cylinders = c; heads = h; records = d; vtoc_start = f; vtoc_tracks = l - f + 1 } → Gives (read_geometry r) n

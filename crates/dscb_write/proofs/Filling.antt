@@ -7,9 +7,9 @@ use lib.ListN.{drop_of_length-le, length-take, length-replicate, take-append-dro
 use lib.Seq.{take_all, take-append-add, drop-drop, take-nil}
 use native.Mathlib.Nat.{mul-suc, mul-zero}
 use Rattle.model.specs.Basics.{fill, zeros}
-use Rattle.rules.proofs.Bytes.{fill-split, length-fill}
+use Rattle.rules.proofs.Bytes.{fill_split, length_fill}
 use Rattle.dscb_write.specs.Put.{put_at}
-use Rattle.dscb_write.proofs.Putting.{fields-put, put-left, put_right}
+use Rattle.dscb_write.proofs.Putting.{fields_put, put_left, put_right}
 
 -- what is put, with what stands before and behind it
 put_is : (r : List ℕ) (i : ℕ) (xs : List ℕ) → i + length xs ≤ length r → put_at r i xs ≡ take i r ++ (xs ++ drop (i + length xs) r)
@@ -21,49 +21,49 @@ put_is r i xs h =
     ∙ put_right (take i r) (drop i r) 0 xs i (omega arith)
     ∙ ap (λ (l : List ℕ). take i r ++ l)
     (ap (λ (l : List ℕ). put_at l 0 xs) (sym (take-append-drop (length xs) (drop i r)))
-    ∙ put-left (take (length xs) (drop i r)) (drop (length xs) (drop i r)) 0 xs (omega arith)
-    ∙ ap₂ (λ (x y : List ℕ). x ++ y) (fields-put (take (length xs) (drop i r)) xs (omega arith)) (drop-drop (length xs) i r))
+    ∙ put_left (take (length xs) (drop i r)) (drop (length xs) (drop i r)) 0 xs (omega arith)
+    ∙ ap₂ (λ (x y : List ℕ). x ++ y) (fields_put (take (length xs) (drop i r)) xs (omega arith)) (drop-drop (length xs) i r))
 
 -- into zeros
-zeros-put : (m : ℕ) (ys : List ℕ) → length ys ≤ m → put_at (zeros m) 0 ys ≡ ys ++ zeros (m - length ys)
-zeros-put m ys h =
+zeros_put : (m : ℕ) (ys : List ℕ) → length ys ≤ m → put_at (zeros m) 0 ys ≡ ys ++ zeros (m - length ys)
+zeros_put m ys h =
     let e : m ≡ length ys + (m - length ys) = omega arith in
     let z = length-replicate {A = ℕ} (length ys) 0 in
     ap (λ (k : ℕ). put_at (zeros k) 0 ys) e
     ∙ ap (λ (r : List ℕ). put_at r 0 ys) (sym (replicate-append-replicate (length ys) (m - length ys) 0))
-    ∙ put-left (zeros (length ys)) (zeros (m - length ys)) 0 ys (omega arith)
-    ∙ ap (λ (r : List ℕ). r ++ zeros (m - length ys)) (fields-put (zeros (length ys)) ys z)
+    ∙ put_left (zeros (length ys)) (zeros (m - length ys)) 0 ys (omega arith)
+    ∙ ap (λ (r : List ℕ). r ++ zeros (m - length ys)) (fields_put (zeros (length ys)) ys z)
 
 -- A PART MORE, behind what is there
 pub put_fill : (n : ℕ) (xs ys : List ℕ) → length xs + length ys ≤ n → put_at (fill n xs) (length xs) ys ≡ fill n (xs ++ ys)
 put_fill n xs ys h =
     let l : length (xs ++ ys) ≡ length xs + length ys = length-append xs ys in
     let f : n - length xs - length ys ≡ n - length (xs ++ ys) = omega arith in
-    ap (λ (r : List ℕ). put_at r (length xs) ys) (fill-split n xs (omega arith))
+    ap (λ (r : List ℕ). put_at r (length xs) ys) (fill_split n xs (omega arith))
     ∙ put_right xs (zeros (n - length xs)) 0 ys (length xs) (omega arith)
-    ∙ ap (λ (r : List ℕ). xs ++ r) (zeros-put (n - length xs) ys (omega arith) ∙ ap (λ (k : ℕ). ys ++ zeros k) f)
+    ∙ ap (λ (r : List ℕ). xs ++ r) (zeros_put (n - length xs) ys (omega arith) ∙ ap (λ (k : ℕ). ys ++ zeros k) f)
     ∙ sym (append_assoc xs ys (zeros (n - length (xs ++ ys))))
-    ∙ sym (fill-split n (xs ++ ys) (omega arith))
+    ∙ sym (fill_split n (xs ++ ys) (omega arith))
 
-fill-take : (o n : ℕ) (xs : List ℕ) → o ≤ n → take o (fill n xs) ++ zeros (n - o) ≡ fill n (take o xs)
-fill-take zero n xs h = sym (fill-split n [] (omega arith))
-fill-take (suc o) zero xs h = absurd (omega arith)
-fill-take (suc o) (suc n) [] h =
+fill_take : (o n : ℕ) (xs : List ℕ) → o ≤ n → take o (fill n xs) ++ zeros (n - o) ≡ fill n (take o xs)
+fill_take zero n xs h = sym (fill_split n [] (omega arith))
+fill_take (suc o) zero xs h = absurd (omega arith)
+fill_take (suc o) (suc n) [] h =
     let e : suc n - suc o ≡ n - o = omega arith in
-    ap (λ (k : ℕ). 0 ∷ (take o (fill n []) ++ zeros k)) e ∙ ap (λ (l : List ℕ). 0 ∷ l) (fill-take o n [] (omega arith) ∙ ap (fill n) (take-nil o))
-fill-take (suc o) (suc n) (x ∷ xs) h =
+    ap (λ (k : ℕ). 0 ∷ (take o (fill n []) ++ zeros k)) e ∙ ap (λ (l : List ℕ). 0 ∷ l) (fill_take o n [] (omega arith) ∙ ap (fill n) (take-nil o))
+fill_take (suc o) (suc n) (x ∷ xs) h =
     let e : suc n - suc o ≡ n - o = omega arith in
-    ap (λ (k : ℕ). x ∷ (take o (fill n xs) ++ zeros k)) e ∙ ap (λ (l : List ℕ). x ∷ l) (fill-take o n xs (omega arith))
+    ap (λ (k : ℕ). x ∷ (take o (fill n xs) ++ zeros k)) e ∙ ap (λ (l : List ℕ). x ∷ l) (fill_take o n xs (omega arith))
 
 -- CUT SHORT: zeros from place o to the end
-pub cut-fill : (n o : ℕ) (xs : List ℕ) → o ≤ n → put_at (fill n xs) o (zeros (n - o)) ≡ fill n (take o xs)
-cut-fill n o xs h =
-    let l = length-fill n xs in
+pub cut_fill : (n o : ℕ) (xs : List ℕ) → o ≤ n → put_at (fill n xs) o (zeros (n - o)) ≡ fill n (take o xs)
+cut_fill n o xs h =
+    let l = length_fill n xs in
     let z = length-replicate {A = ℕ} (n - o) 0 in
     put_is (fill n xs) o (zeros (n - o)) (omega arith)
     ∙ ap (λ (r : List ℕ). take o (fill n xs) ++ (zeros (n - o) ++ r)) (drop_of_length-le (fill n xs) {i = o + length (zeros (n - o))} (omega arith))
     ∙ ap (λ (r : List ℕ). take o (fill n xs) ++ r) (append-nil (zeros (n - o)))
-    ∙ fill-take o n xs h
+    ∙ fill_take o n xs h
 
 -- ---- rows: one after the other, each w bytes, made by its number
 
@@ -80,10 +80,10 @@ module _ {A : Type 0} (c : ℕ → A → List ℕ) where
       ∙ sym (append_assoc (c i y) (rows (suc i) ys) (c (i + suc (length ys)) x))
 
   module _ (w : ℕ) (wide : (i : ℕ) (x : A) → length (c i x) ≡ w) where
-    rows-length : (i : ℕ) (xs : List A) → length (rows i xs) ≡ w * length xs
-    rows-length i [] = sym (mul-zero w)
-    rows-length i (x ∷ xs) =
-        length-append (c i x) (rows (suc i) xs) ∙ ap₂ (λ (a b : ℕ). a + b) (wide i x) (rows-length (suc i) xs) ∙ omega (arith, mul-suc w (length xs))
+    rows_length : (i : ℕ) (xs : List A) → length (rows i xs) ≡ w * length xs
+    rows_length i [] = sym (mul-zero w)
+    rows_length i (x ∷ xs) =
+        length-append (c i x) (rows (suc i) xs) ∙ ap₂ (λ (a b : ℕ). a + b) (wide i x) (rows_length (suc i) xs) ∙ omega (arith, mul-suc w (length xs))
 
     rows_take : (i n : ℕ) (xs : List A) → take (w * n) (rows i xs) ≡ rows i (take n xs)
     rows_take i zero xs = ap (λ (k : ℕ). take k (rows i xs)) (mul-zero w)
@@ -98,7 +98,7 @@ module _ {A : Type 0} (c : ℕ → A → List ℕ) where
     pub row_put : (n i : ℕ) (xs : List A) (x : A) → w * length xs + w ≤ n
         → put_at (fill n (rows i xs)) (w * length xs) (c (i + length xs) x) ≡ fill n (rows i (xs ++ x ∷ []))
     row_put n i xs x h =
-        let l = rows-length i xs in
+        let l = rows_length i xs in
         let k = wide (i + length xs) x in
         ap (λ (o : ℕ). put_at (fill n (rows i xs)) o (c (i + length xs) x)) (sym l)
         ∙ put_fill n (rows i xs) (c (i + length xs) x) (omega arith)
@@ -107,7 +107,7 @@ module _ {A : Type 0} (c : ℕ → A → List ℕ) where
     -- THE FIRST k
     pub row_cut : (n i : ℕ) (xs : List A) (k : ℕ) → w * k ≤ n
         → put_at (fill n (rows i xs)) (w * k) (zeros (n - w * k)) ≡ fill n (rows i (take k xs))
-    row_cut n i xs k h = cut-fill n (w * k) (rows i xs) h ∙ ap (fill n) (rows_take i k xs)
+    row_cut n i xs k h = cut_fill n (w * k) (rows i xs) h ∙ ap (fill n) (rows_take i k xs)
 
 -- ---- lists one longer
 
@@ -116,12 +116,12 @@ module _ {A : Type 0} where
   take_snoc n xs x h =
       take_all n (xs ++ x ∷ []) (simp length-append (omega arith)) ∙ ap (λ (l : List A). l ++ x ∷ []) (sym (take_all n xs (omega arith)))
 
-  pub drop-snoc : (n : ℕ) (xs : List A) (x : A) → length xs < n → drop n (xs ++ x ∷ []) ≡ drop n xs
-  drop-snoc n xs x h =
+  pub drop_snoc : (n : ℕ) (xs : List A) (x : A) → length xs < n → drop n (xs ++ x ∷ []) ≡ drop n xs
+  drop_snoc n xs x h =
       drop_of_length-le (xs ++ x ∷ []) {i = n} (simp length-append (omega arith)) ∙ sym (drop_of_length-le xs {i = n} (omega arith))
 
-  pub take-swap : (k n : ℕ) (xs : List A) → take k (take n xs) ≡ take n (take k xs)
-  take-swap zero n xs = sym (take-nil n)
-  take-swap (suc k) zero xs = refl
-  take-swap (suc k) (suc n) [] = refl
-  take-swap (suc k) (suc n) (x ∷ xs) = ap (λ (l : List A). x ∷ l) (take-swap k n xs)
+  pub take_swap : (k n : ℕ) (xs : List A) → take k (take n xs) ≡ take n (take k xs)
+  take_swap zero n xs = sym (take-nil n)
+  take_swap (suc k) zero xs = refl
+  take_swap (suc k) (suc n) [] = refl
+  take_swap (suc k) (suc n) (x ∷ xs) = ap (λ (l : List A). x ∷ l) (take_swap k n xs)

@@ -15,12 +15,12 @@ use Rattle.dscb_write.specs.Labels.{Format1, with_extent}
 
 -- ---- records and labels
 
-pub good-is : (g : Geometry) (l : Label) (r : List ℕ) → GoodLabel g l → format1 g l ≡ r → Format1 g l r
-good-is g l r x e = record { name_length = x.name_length; attributes_length = x.attributes_length; bytes = sym e }
+pub good_is : (g : Geometry) (l : Label) (r : List ℕ) → GoodLabel g l → format1 g l ≡ r → Format1 g l r
+good_is g l r x e = record { name_length = x.name_length; attributes_length = x.attributes_length; bytes = sym e }
 
-pub same-extents : (g : Geometry) (l m : Label) → l.extents ≡ m.extents → format3 g l ≡ format3 g m
+pub same_extents : (g : Geometry) (l m : Label) → l.extents ≡ m.extents → format3 g l ≡ format3 g m
 unfolding format3
-same-extents g l m e = rw e
+same_extents g l m e = rw e
 
 -- ---- extents added one after the other
 
@@ -36,17 +36,17 @@ added_next l es j d h =
 
 -- ---- the first tracks kept: whole extents, then a part of one
 
-pub keep-whole : (u : ℕ) (es : List Extent) (i n : ℕ) (d : Extent) → i < length es → (get_or es i d).over.count ≤ n
+pub keep_whole : (u : ℕ) (es : List Extent) (i n : ℕ) (d : Extent) → i < length es → (get_or es i d).over.count ≤ n
     → take i es ++ keep u n (drop i es) ≡ take (i + 1) es ++ keep u (n - (get_or es i d).over.count) (drop (i + 1) es)
-keep-whole u es i n d h fits =
+keep_whole u es i n d h fits =
     let e = get_or es i d in
     rw (drop-cons es i d h, le-leb e.over.count n fits)
     (sym (append_snoc (take i es) e (keep u (n - e.over.count) (drop (suc i) es)))
     ∙ ap₂ (λ (x : List Extent) (k : ℕ). x ++ keep u (n - e.over.count) (drop k es)) (sym (take-suc es i d h) ∙ ap (λ (k : ℕ). take k es) (sym (add-one i))) (sym (add-one i)))
 
-pub keep-part : (u : ℕ) (es : List Extent) (i n : ℕ) (d : Extent) → i < length es → n < (get_or es i d).over.count
+pub keep_part : (u : ℕ) (es : List Extent) (i n : ℕ) (d : Extent) → i < length es → n < (get_or es i d).over.count
     → take i es ++ keep u n (drop i es) ≡ take i es ++ cut u n (get_or es i d)
-keep-part u es i n d h less = let e = get_or es i d in rw (drop-cons es i d h, lt-leb e.over.count n less)
+keep_part u es i n d h less = let e = get_or es i d in rw (drop-cons es i d h, lt-leb e.over.count n less)
 
 pub keep_all : (u : ℕ) (es : List Extent) (i n : ℕ) → length es ≤ i → take i es ++ keep u n (drop i es) ≡ es
 keep_all u es i n h = rw (drop_of_length-le es {i = i} h, append-nil) (take_all i es h)

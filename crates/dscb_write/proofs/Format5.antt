@@ -14,33 +14,33 @@ use Rattle.model.proofs.Lists.{by}
 use Rattle.rules.specs.Reading.{entry_place}
 use Rattle.rules.specs.Layout.{entry, fields5, format5, link, whole}
 use Rattle.rules.proofs.Fields.{length_whole}
-use Rattle.rules.proofs.LabelBack.{length-link}
+use Rattle.rules.proofs.LabelBack.{length_link}
 use Rattle.rules.proofs.TableBack.{lengths5, lens5}
 use Rattle.bitmap.specs.Map.{NextRun, free_from}
-use Rattle.bitmap.proofs.Walk.{free-from-end}
+use Rattle.bitmap.proofs.Walk.{free_from_end}
 use Rattle.dscb_write.specs.Blank.{blank}
 use Rattle.dscb_write.specs.Fives.{Fills}
 use Rattle.dscb_write.specs.Put.{put_at}
 use Rattle.dscb_write.proofs.Extents.{entry_more}
-use Rattle.dscb_write.proofs.Filling.{drop-snoc, take_snoc}
-use Rattle.dscb_write.proofs.Putting.{put-field, put_five, set-field}
+use Rattle.dscb_write.proofs.Filling.{drop_snoc, take_snoc}
+use Rattle.dscb_write.proofs.Putting.{put_field, put_five, set_field}
 
 -- an entry stored byte by byte, with w whole cylinders and o tracks
-pub put-made : (r : List ℕ) (i : ℕ) (g : Geometry) (s c w o : ℕ) → (w ≡ c / g.heads) × (o ≡ c % g.heads)
+pub put_made : (r : List ℕ) (i : ℕ) (g : Geometry) (s c w o : ℕ) → (w ≡ c / g.heads) × (o ≡ c % g.heads)
     → set (set (set (set (set r i (s / 256)) (i + 1) (s % 256)) (i + 2) (w / 256)) (i + 3) (w % 256)) (i + 4) o ≡ put_at r i (entry g (run s c))
-put-made r i g s c w o e =
+put_made r i g s c w o e =
     put_five r i (s / 256) (s % 256) (w / 256) (w % 256) o ∙ ap₂ (λ (x y : ℕ). put_at r i (s / 256 ∷ s % 256 ∷ x / 256 ∷ x % 256 ∷ y ∷ [])) e.0 e.1
 
 -- NONE
-pub five-none : (g : Geometry) → blank 4 0x05 0xF5 ≡ format5 g [] 0
+pub five_none : (g : Geometry) → blank 4 0x05 0xF5 ≡ format5 g [] 0
 unfolding blank put_at format5
-five-none g = refl
+five_none g = refl
 
 -- THE NEXT format 5, whatever stood there
-pub five-linked : (g : Geometry) (f : List Run) (k m : ℕ) (r : List ℕ) → r ≡ format5 g f k → put_at r 135 (link g m) ≡ format5 g f m
+pub five_linked : (g : Geometry) (f : List Run) (k m : ℕ) (r : List ℕ) → r ≡ format5 g f k → put_at r 135 (link g m) ≡ format5 g f m
 unfolding format5
-five-linked g f k m r is =
-    ap (λ (x : List ℕ). put_at x 135 (link g m)) is ∙ set-field 4 lengths5 (fields5 g f k) (lens5 g f k) (omega arith) (link g m) (length-link g m)
+five_linked g f k m r is =
+    ap (λ (x : List ℕ). put_at x 135 (link g m)) is ∙ set_field 4 lengths5 (fields5 g f k) (lens5 g f k) (omega arith) (link g m) (length_link g m)
 
 module _ (g : Geometry) (f : List Run) (x : Run) (k : ℕ) (r : List ℕ) (is : r ≡ format5 g f k) where
   low : length f < 8 → put_at r (4 + 5 * length f) (entry g x) ≡ format5 g (f ++ x ∷ []) k
@@ -49,12 +49,12 @@ module _ (g : Geometry) (f : List Run) (x : Run) (k : ℕ) (r : List ℕ) (is : 
       let a : take 8 f ≡ f = take_all 8 f (omega arith) in
       let b : take 8 (f ++ x ∷ []) ≡ f ++ x ∷ [] = take_snoc 8 f x h ∙ ap (λ (y : List Run). y ++ x ∷ []) a in
       ap (λ (y : List ℕ). put_at y (4 + 5 * length f) (entry g x)) is
-      ∙ put-field 1 lengths5 (fields5 g f k) (lens5 g f k) (omega arith) (5 * length f) (entry g x) (omega arith) (4 + 5 * length f) refl
+      ∙ put_field 1 lengths5 (fields5 g f k) (lens5 g f k) (omega arith) (5 * length f) (entry g x) (omega arith) (4 + 5 * length f) refl
       ∙ ap₂ (λ (y z : List ℕ). whole (set (set (fields5 g f k) 1 y) 3 z))
       (ap (λ (y : List Run). put_at (fill 40 (flat (entry g) y)) (5 * length f) (entry g x)) a
       ∙ entry_more g 40 f x (omega arith)
       ∙ ap (λ (y : List Run). fill 40 (flat (entry g) y)) (sym b))
-      (ap (λ (y : List Run). fill 90 (flat (entry g) y)) (sym (drop-snoc 8 f x h)))
+      (ap (λ (y : List Run). fill 90 (flat (entry g) y)) (sym (drop_snoc 8 f x h)))
 
   high : 8 ≤ length f → length f < 26 → put_at r (45 + 5 * (length f - 8)) (entry g x) ≡ format5 g (f ++ x ∷ []) k
   unfolding format5
@@ -62,14 +62,14 @@ module _ (g : Geometry) (f : List Run) (x : Run) (k : ℕ) (r : List ℕ) (is : 
       let d : length f - 8 ≡ length (drop 8 f) = sym (length-drop 8 f) in
       let o : 45 + 5 * (length f - 8) ≡ 45 + 5 * length (drop 8 f) = ap (λ (n : ℕ). 45 + 5 * n) d in
       ap₂ (λ (y : List ℕ) (i : ℕ). put_at y i (entry g x)) is o
-      ∙ put-field 3 lengths5 (fields5 g f k) (lens5 g f k) (omega arith) (5 * length (drop 8 f)) (entry g x) (omega arith) (45 + 5 * length (drop 8 f)) refl
+      ∙ put_field 3 lengths5 (fields5 g f k) (lens5 g f k) (omega arith) (5 * length (drop 8 f)) (entry g x) (omega arith) (45 + 5 * length (drop 8 f)) refl
       ∙ ap₂ (λ (y z : List ℕ). whole (set (set (fields5 g f k) 1 y) 3 z))
       (ap (λ (y : List Run). fill 40 (flat (entry g) y)) (sym (take-append-le 8 f (x ∷ []) h)))
       (entry_more g 90 (drop 8 f) x (omega arith) ∙ ap (λ (y : List Run). fill 90 (flat (entry g) y)) (sym (drop-append-le 8 f (x ∷ []) h)))
 
   -- ONE ENTRY MORE
-  pub five-more : (j : ℕ) → length f ≡ j → j < 26 → put_at r (entry_place j) (entry g x) ≡ format5 g (f ++ x ∷ []) k
-  five-more j c u =
+  pub five_more : (j : ℕ) → length f ≡ j → j < 26 → put_at r (entry_place j) (entry g x) ≡ format5 g (f ++ x ∷ []) k
+  five_more j c u =
       by (ltb j 8)
       (λ b.
       let v : j < 8 = ltb-true _ _ b in
@@ -93,9 +93,9 @@ next_of (y ∷ F) (suc j) x rest e =
     )
 
 -- j entries are in the record, and the runs from track t on are left
-pub five-long : (g : Geometry) (f : List Run) (k : ℕ) → length (format5 g f k) ≡ 140
+pub five_long : (g : Geometry) (f : List Run) (k : ℕ) → length (format5 g f k) ≡ 140
 unfolding format5
-five-long g f k = length_whole lengths5 (fields5 g f k) (lens5 g f k)
+five_long g f k = length_whole lengths5 (fields5 g f k) (lens5 g f k)
 
 pub record Filling (g : Geometry) (m : List ℕ) (n at k j t : ℕ) (r : List ℕ) : Type 0 where
   pub up_to : t ≤ n
@@ -106,35 +106,35 @@ module _ (g : Geometry) (m : List ℕ) (n at k : ℕ) where
   abbrev F : List Run
   F = free_from m n at
 
-  pub filling-long : (j t : ℕ) (r : List ℕ) → Filling g m n at k j t r → length r ≡ 140
-  filling-long j t r f = ap length f.bytes ∙ five-long g (take j F) k
+  pub filling_long : (j t : ℕ) (r : List ℕ) → Filling g m n at k j t r → length r ≡ 140
+  filling_long j t r f = ap length f.bytes ∙ five_long g (take j F) k
 
-  pub filling-none : at ≤ n → (r : List ℕ) → r ≡ format5 g [] k → Filling g m n at k 0 at r
-  filling-none h r e = record { up_to = h; left = refl; bytes = e }
+  pub filling_none : at ≤ n → (r : List ℕ) → r ≡ format5 g [] k → Filling g m n at k 0 at r
+  filling_none h r e = record { up_to = h; left = refl; bytes = e }
 
-  pub filling-next : (j t a b : ℕ) (r : List ℕ) → j < 26 → Filling g m n at k j t r → NextRun m n t a b → a < n
+  pub filling_next : (j t a b : ℕ) (r : List ℕ) → j < 26 → Filling g m n at k j t r → NextRun m n t a b → a < n
       → Filling g m n at k (j + 1) b (put_at r (entry_place j) (entry g (run a (b - a))))
-  filling-next j t a b r h f x u =
+  filling_next j t a b r h f x u =
       let s = next_of F j (run a (b - a)) (free_from m n b) (sym f.left ∙ (x.more u).1) in
       record {
         up_to = x.high;
         left = sym s.2;
-        bytes = five-more g (take j F) (run a (b - a)) k r f.bytes j s.0 h ∙ ap (λ (l : List Run). format5 g l k) (sym s.1);
+        bytes = five_more g (take j F) (run a (b - a)) k r f.bytes j s.0 h ∙ ap (λ (l : List Run). format5 g l k) (sym s.1);
       }
 
   -- no run is left
-  pub filling-ends : (j t a b : ℕ) (r : List ℕ) → j ≤ 26 → Filling g m n at k j t r → NextRun m n t a b → n ≤ a → Fills g m n at k r n
-  filling-ends j t a b r h f x u =
+  pub filling_ends : (j t a b : ℕ) (r : List ℕ) → j ≤ 26 → Filling g m n at k j t r → NextRun m n t a b → n ≤ a → Fills g m n at k r n
+  filling_ends j t a b r h f x u =
       let e : drop j F ≡ [] = sym f.left ∙ x.done u in
       let l : length F ≤ j = omega (arith, length-drop j F, ap length e) in
       record {
         bytes = f.bytes ∙ ap (λ (y : List Run). format5 g y k) (take_all j F l ∙ sym (take_all 26 F (omega arith)));
-        rest = free-from-end m n ∙ sym (drop_of_length-le F {i = 26} (omega arith));
+        rest = free_from_end m n ∙ sym (drop_of_length-le F {i = 26} (omega arith));
         up_to = le_refl n;
       }
 
-  pub filling-full : (j t : ℕ) (r : List ℕ) → j ≡ 26 → Filling g m n at k j t r → Fills g m n at k r t
-  filling-full j t r e f =
+  pub filling_full : (j t : ℕ) (r : List ℕ) → j ≡ 26 → Filling g m n at k j t r → Fills g m n at k r t
+  filling_full j t r e f =
       record {
         bytes = f.bytes ∙ ap (λ (i : ℕ). format5 g (take i F) k) e;
         rest = f.left ∙ ap (λ (i : ℕ). drop i F) e;

@@ -22,41 +22,41 @@ from (x ∷ xs) i t (suc k) h =
 at_true : (b u v : Bool) → T (cond b u v) → b ≡ true → T u
 at_true b u v t e = rw e at t
 
-at-false : (b u v : Bool) → T (cond b u v) → b ≡ false → T v
-at-false b u v t e = rw e at t
+at_false : (b u v : Bool) → T (cond b u v) → b ≡ false → T v
+at_false b u v t e = rw e at t
 
-pub entry-printed : (xs : List ℕ) → T (right_from 0 xs) → (b : ℕ) → b < length xs → Printable b (get_or xs b 0)
-entry-printed xs t b h =
+pub entry_printed : (xs : List ℕ) → T (right_from 0 xs) → (b : ℕ) → b < length xs → Printable b (get_or xs b 0)
+entry_printed xs t b h =
     let x = get_or xs b 0 in
     let p : T (right_entry b x) = subst (λ (m : ℕ). T (right_entry m x)) (zero-add b) (from xs 0 t b h) in
     let q = and_r (eqb x (printable b)) _ p in
     record {
       rule = eqb→eq x (printable b) (and_l (eqb x (printable b)) _ p);
       back = λ e. eqb→eq (printed_for x) b (at_true (in_name b) (eqb (printed_for x) b) (eqb x 0x3F) q e);
-      other = λ e. eqb→eq x 0x3F (at-false (in_name b) (eqb (printed_for x) b) (eqb x 0x3F) q e);
+      other = λ e. eqb→eq x 0x3F (at_false (in_name b) (eqb (printed_for x) b) (eqb x 0x3F) q e);
     }
 
 -- the table that the rule gives: no entry is typed a second time, this one is compared with the code's
 unfoldable pub table : List ℕ
 table = map printable (up_from 0 256)
 
-pub table-right : T (right_from 0 table)
+pub table_right : T (right_from 0 table)
 unfolding table printable
-table-right = tt
+table_right = tt
 
-table-length : length table ≡ 256
+table_length_lem : length table ≡ 256
 unfolding table
-table-length = refl
+table_length_lem = refl
 
-pub byte-printed : (b : ℕ) → b < 256 → Printable b (printable b)
-byte-printed b h =
-    let l = table-length in
-    let p = entry-printed table table-right b (omega arith) in
+pub byte_printed : (b : ℕ) → b < 256 → Printable b (printable b)
+byte_printed b h =
+    let l = table_length_lem in
+    let p = entry_printed table table_right b (omega arith) in
     subst (Printable b) p.rule p
 
 -- NO TWO ALIKE, of the 41 that a name may have
 pub unlike : (b c : ℕ) → b < 256 → c < 256 → in_name b ≡ true → in_name c ≡ true → printable b ≡ printable c → b ≡ c
-unlike b c u v n m e = sym ((byte-printed b u).back n) ∙ ap printed_for e ∙ (byte-printed c v).back m
+unlike b c u v n m e = sym ((byte_printed b u).back n) ∙ ap printed_for e ∙ (byte_printed c v).back m
 
-pub forty-one : sum_of (λ b. bit (in_name b)) (up_from 0 256) ≡ 41
-forty-one = refl
+pub forty_one : sum_of (λ b. bit (in_name b)) (up_from 0 256) ≡ 41
+forty_one = refl

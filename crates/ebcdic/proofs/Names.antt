@@ -14,13 +14,13 @@ use Rattle.ebcdic.specs.Letters.{PartEnd, in_low, in_set}
 use Rattle.rows.specs.Words.{all_are}
 use Rattle.rows.proofs.Rows.{rest}
 
-pub or-false : (t : Bool) → t || false ≡ t
-or-false true = refl
-or-false false = refl
+pub or_false : (t : Bool) → t || false ≡ t
+or_false true = refl
+or_false false = refl
 
-pub or-none-set : (t : Bool) → ((t || false) || false) ≡ t
-or-none-set true = refl
-or-none-set false = refl
+pub or_none_set : (t : Bool) → ((t || false) || false) ≡ t
+or_none_set true = refl
+or_none_set false = refl
 
 -- ---- the sets: one test for all bytes, computed
 
@@ -28,31 +28,31 @@ abbrev pub agree : Bool → Bool → Bool
 agree true b = b
 agree false b = not b
 
-pub agree-is : (a b : Bool) → T (agree a b) → a ≡ b
-agree-is true true t = refl
-agree-is true false t = absurd t
-agree-is false true t = absurd t
-agree-is false false t = refl
+pub agree_is : (a b : Bool) → T (agree a b) → a ≡ b
+agree_is true true t = refl
+agree_is true false t = absurd t
+agree_is false true t = absurd t
+agree_is false false t = refl
 
-pub for-all : (f : ℕ → Bool) (a n : ℕ) → T (all f (up_from a n)) → (c : ℕ) → a ≤ c → c < a + n → T (f c)
-for-all f a zero t c u v = absurd (omega arith)
-for-all f a (suc n) t c u v =
+pub for_all : (f : ℕ → Bool) (a n : ℕ) → T (all f (up_from a n)) → (c : ℕ) → a ≤ c → c < a + n → T (f c)
+for_all f a zero t c u v = absurd (omega arith)
+for_all f a (suc n) t c u v =
     elim (native.Mathlib.Decide.ℕ_discrete a c) [
       | yes q ↦ mathlib.Core.Path.subst (λ (x : ℕ). T (f x)) q (and_l (f a) _ t)
-      | no q ↦ for-all f (suc a) n (and_r (f a) _ t) c (omega arith) (omega arith)
+      | no q ↦ for_all f (suc a) n (and_r (f a) _ t) c (omega arith) (omega arith)
     ]
 
-pub starts-high : (c : ℕ) → 0xC0 ≤ c → c < 256 → in_set 0x0000_03fc_03fe_03fe c ≡ starts_part c
-starts-high c u v = agree-is _ _ (for-all (λ x. agree (in_set 0x0000_03fc_03fe_03fe x) (starts_part x)) 0xC0 64 tt c u (omega arith))
+pub starts_high : (c : ℕ) → 0xC0 ≤ c → c < 256 → in_set 0x0000_03fc_03fe_03fe c ≡ starts_part c
+starts_high c u v = agree_is _ _ (for_all (λ x. agree (in_set 0x0000_03fc_03fe_03fe x) (starts_part x)) 0xC0 64 tt c u (omega arith))
 
-pub starts-low : (c : ℕ) → c < 0xC0 → in_low 0x1800_0000_0800_0000 c ≡ starts_part c
-starts-low c v = agree-is _ _ (for-all (λ x. agree (in_low 0x1800_0000_0800_0000 x) (starts_part x)) 0 0xC0 tt c (omega arith) (omega arith))
+pub starts_low : (c : ℕ) → c < 0xC0 → in_low 0x1800_0000_0800_0000 c ≡ starts_part c
+starts_low c v = agree_is _ _ (for_all (λ x. agree (in_low 0x1800_0000_0800_0000 x) (starts_part x)) 0 0xC0 tt c (omega arith) (omega arith))
 
-pub parts-high : (c : ℕ) → 0xC0 ≤ c → c < 256 → in_set 0x03ff_03fc_03fe_03fe c ≡ in_part c
-parts-high c u v = agree-is _ _ (for-all (λ x. agree (in_set 0x03ff_03fc_03fe_03fe x) (in_part x)) 0xC0 64 tt c u (omega arith))
+pub parts_high : (c : ℕ) → 0xC0 ≤ c → c < 256 → in_set 0x03ff_03fc_03fe_03fe c ≡ in_part c
+parts_high c u v = agree_is _ _ (for_all (λ x. agree (in_set 0x03ff_03fc_03fe_03fe x) (in_part x)) 0xC0 64 tt c u (omega arith))
 
 pub parts_low : (c : ℕ) → c < 0xC0 → in_low 0x1800_0001_0800_0000 c ≡ in_part c
-parts_low c v = agree-is _ _ (for-all (λ x. agree (in_low 0x1800_0001_0800_0000 x) (in_part x)) 0 0xC0 tt c (omega arith) (omega arith))
+parts_low c v = agree_is _ _ (for_all (λ x. agree (in_low 0x1800_0001_0800_0000 x) (in_part x)) 0 0xC0 tt c (omega arith) (omega arith))
 
 -- ---- one part: so many characters more
 
@@ -65,8 +65,8 @@ grow n c cs i =
 abbrev pub AllIn : List ℕ → ℕ → ℕ → Type 0
 AllIn s j e = (i : ℕ) → j ≤ i → i < e → in_part (get_or s i 0) ≡ true
 
-pub in-more : (s : List ℕ) (j i : ℕ) → AllIn s j i → in_part (get_or s i 0) ≡ true → AllIn s j (i + 1)
-in-more s j i a x k u v =
+pub in_more : (s : List ℕ) (j i : ℕ) → AllIn s j i → in_part (get_or s i 0) ≡ true → AllIn s j (i + 1)
+in_more s j i a x k u v =
     elim (native.Mathlib.Decide.ℕ_discrete k i) [
       | yes q ↦ rw q x
       | no q ↦ a k u (omega arith)
@@ -85,14 +85,14 @@ walk s (suc m) n j a l h =
     (walk s m (suc n) (j + 1) (λ i u v. a i (omega arith) (omega arith)) (omega arith) (omega arith)
     ∙ ap (λ (x : ℕ). name_from x (drop (j + 1 + m) s)) f ∙ ap (λ (x : ℕ). name_from (suc n + suc m) (drop x s)) e)
 
-walk-long : (s : List ℕ) (m n j : ℕ) → AllIn s j (j + m) → j + m ≤ length s → suc n ≤ 8 → 8 < suc n + m → name_from (suc n) (drop j s) ≡ false
-walk-long s zero n j a l k h = absurd (omega arith)
-walk-long s (suc m) n j a l k h =
+walk_long : (s : List ℕ) (m n j : ℕ) → AllIn s j (j + m) → j + m ≤ length s → suc n ≤ 8 → 8 < suc n + m → name_from (suc n) (drop j s) ≡ false
+walk_long s zero n j a l k h = absurd (omega arith)
+walk_long s (suc m) n j a l k h =
     by (ltb (suc n) 8)
     (λ q.
     let w : suc n < 8 = borrow.Author.Tests.ltb-true _ _ q in
     rw (rest s j (omega arith), grow n (get_or s j 0) (drop (j + 1) s) (a j (omega arith) (omega arith)), q)
-    (walk-long s m (suc n) (j + 1) (λ i u v. a i (omega arith) (omega arith)) (omega arith) (omega arith) (omega arith)))
+    (walk_long s m (suc n) (j + 1) (λ i u v. a i (omega arith) (omega arith)) (omega arith) (omega arith) (omega arith)))
     (λ q. rw (rest s j (omega arith), grow n (get_or s j 0) (drop (j + 1) s) (a j (omega arith) (omega arith)), q))
 
 -- a part that starts at place i and ends before place e
@@ -108,25 +108,25 @@ module _ (s : List ℕ) (i e : ℕ) (h : i < length s) where
     all_in j u v = p.inside j u (omega (arith, p.low))
 
     pub too_long : 8 < e - i → name_from 0 (drop i s) ≡ false
-    too_long q = started ∙ walk-long s (e - (i + 1)) 0 (i + 1) all_in (omega (arith, p.low, p.high)) (omega arith) (omega (arith, p.low))
+    too_long q = started ∙ walk_long s (e - (i + 1)) 0 (i + 1) all_in (omega (arith, p.low, p.high)) (omega arith) (omega (arith, p.low))
 
     module _ (q : e - i ≤ 8) where
-      part-done : name_from 0 (drop i s) ≡ name_from (suc (e - (i + 1))) (drop e s)
-      part-done =
+      part_done : name_from 0 (drop i s) ≡ name_from (suc (e - (i + 1))) (drop e s)
+      part_done =
           let a : i + 1 + (e - (i + 1)) ≡ e = omega (arith, p.low) in
           let b : 1 + (e - (i + 1)) ≡ suc (e - (i + 1)) = omega arith in
           started ∙ walk s (e - (i + 1)) 0 (i + 1) all_in (omega (arith, p.low, p.high)) (omega (arith, p.low))
           ∙ ap (λ (x : ℕ). name_from x (drop (i + 1 + (e - (i + 1))) s)) b ∙ ap (λ (x : ℕ). name_from (suc (e - (i + 1))) (drop x s)) a
 
-      pub at-end : e ≡ length s → name_from 0 (drop i s) ≡ true
-      at-end z = part-done ∙ rw (drop_of_length-le s {i = e} (omega arith))
+      pub at_end : e ≡ length s → name_from 0 (drop i s) ≡ true
+      at_end z = part_done ∙ rw (drop_of_length-le s {i = e} (omega arith))
 
-      pub at-period : e < length s → get_or s e 0 ≡ 0x4B → name_from 0 (drop i s) ≡ name_from 0 (drop (e + 1) s)
-      at-period u z = part-done ∙ rw (rest s e u, z) (or-none-set (name_from 0 (drop (e + 1) s)))
+      pub at_period : e < length s → get_or s e 0 ≡ 0x4B → name_from 0 (drop i s) ≡ name_from 0 (drop (e + 1) s)
+      at_period u z = part_done ∙ rw (rest s e u, z) (or_none_set (name_from 0 (drop (e + 1) s)))
 
       pub at_other : e < length s → (get_or s e 0 ≡ 0x4B → ⊥) → name_from 0 (drop i s) ≡ all_are 0x40 (drop e s)
       unfolding all_are
-      at_other u z = part-done ∙ rw (rest s e u, ne_eqb (get_or s e 0) 0x4B z, p.stop u, or-false)
+      at_other u z = part_done ∙ rw (rest s e u, ne_eqb (get_or s e 0) 0x4B z, p.stop u, or_false)
 
 pub no_more : (s : List ℕ) (i : ℕ) → length s ≤ i → name_from 0 (drop i s) ≡ false
 no_more s i h = rw (drop_of_length-le s {i = i} h)

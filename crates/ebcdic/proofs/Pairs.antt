@@ -12,32 +12,32 @@ use lib.Bits.{and_le_l, and_le_r, bit_and, bit_or, bit_xor, or_add_and}
 use lib.Dec.{eqb, leb, ltb}
 use lib.ListN.{length, get_or, drop, drop_of_length-le, take}
 use Rattle.model.specs.Basics.{all}
-use Rattle.model.proofs.Lists.{and_l, and_r, by, clash, is_true, true-is}
+use Rattle.model.proofs.Lists.{and_l, and_r, by, clash, is_true, true_is}
 use Rattle.rules.specs.Table.{good_name, in_part, name_from, starts_part}
 use Rattle.ebcdic.specs.Pairs.{Tells, brief, class_of, fit, least_of_four, least_of_nine, sixteen_to, turns_to, wanted_after}
 use Rattle.rows.specs.Words.{all_are}
-use Rattle.ebcdic.proofs.Names.{agree, agree-is, for-all, grow, or-false, or-none-set}
+use Rattle.ebcdic.proofs.Names.{agree, agree_is, for_all, grow, or_false, or_none_set}
 use Rattle.rows.proofs.Rows.{from_place, rest}
 
 -- ---- both of two
 
 and_both : {a b : Bool} → (a && b) ≡ true → (a ≡ true) × (b ≡ true)
-and_both {a} {b} e = (is_true (and_l a b (true-is e)), is_true (and_r a b (true-is e)))
+and_both {a} {b} e = (is_true (and_l a b (true_is e)), is_true (and_r a b (true_is e)))
 
-both-and : {a b : Bool} → a ≡ true → b ≡ true → (a && b) ≡ true
-both-and p q = rw (p, q)
+both_and : {a b : Bool} → a ≡ true → b ≡ true → (a && b) ≡ true
+both_and p q = rw (p, q)
 
 -- ---- numbers that tell
 
-pub tells-or : (x y : ℕ) (a b : Bool) → Tells x a → Tells y b → Tells (bit_or x y) (a && b)
-tells-or x y a b p q =
+pub tells_or : (x y : ℕ) (a b : Bool) → Tells x a → Tells y b → Tells (bit_or x y) (a && b)
+tells_or x y a b p q =
     let s = or_add_and x y in
     let u = and_le_l x y in
     let v = and_le_r x y in
     elim (ℕ_discrete x 0) [
       | yes e ↦
           elim (ℕ_discrete y 0) [
-            | yes f ↦ eq-eqb (bit_or x y) 0 (omega arith) ∙ sym (both-and (sym p ∙ eq-eqb x 0 e) (sym q ∙ eq-eqb y 0 f))
+            | yes f ↦ eq-eqb (bit_or x y) 0 (omega arith) ∙ sym (both_and (sym p ∙ eq-eqb x 0 e) (sym q ∙ eq-eqb y 0 f))
             | no f ↦
                 let g : b ≡ false = sym q ∙ ne_eqb y 0 f in
                 let h : a ≡ true = sym p ∙ eq-eqb x 0 e in
@@ -54,25 +54,25 @@ pub high_part : (c : ℕ) → in_part c ≡ true → 0x4B < c
 high_part c e =
     by (ltb 0x4B c)
     (λ h. ltb-true 0x4B c h)
-    (λ h. clash e (agree-is (in_part c) false (for-all (λ x. agree (in_part x) false) 0 0x4C tt c (omega arith) (omega (arith, borrow.Author.Tests.ltb-false 0x4B c h)))))
+    (λ h. clash e (agree_is (in_part c) false (for_all (λ x. agree (in_part x) false) 0 0x4C tt c (omega arith) (omega (arith, borrow.Author.Tests.ltb-false 0x4B c h)))))
 
-high-start : (c : ℕ) → starts_part c ≡ true → 0x4B < c
-high-start c e = high_part c (rw e)
+high_start : (c : ℕ) → starts_part c ≡ true → 0x4B < c
+high_start c e = high_part c (rw e)
 
 -- ---- pairs
 
 module _ (s : List ℕ) (i : ℕ) where
-  fit-period : get_or s i 0 ≡ 0x4B → fit s i ≡ starts_part (get_or s (i + 1) 0)
+  fit_period : get_or s i 0 ≡ 0x4B → fit s i ≡ starts_part (get_or s (i + 1) 0)
   unfolding fit
-  fit-period e = rw (eq-eqb (get_or s i 0) 0x4B e)
+  fit_period e = rw (eq-eqb (get_or s i 0) 0x4B e)
 
-  fit-blank : get_or s i 0 ≡ 0x40 → fit s i ≡ eqb (get_or s (i + 1) 0) 0x40
+  fit_blank : get_or s i 0 ≡ 0x40 → fit s i ≡ eqb (get_or s (i + 1) 0) 0x40
   unfolding fit
-  fit-blank e = let n : eqb (get_or s i 0) 0x4B ≡ false = ne_eqb (get_or s i 0) 0x4B (λ z. absurd (omega arith)) in rw (n, eq-eqb (get_or s i 0) 0x40 e)
+  fit_blank e = let n : eqb (get_or s i 0) 0x4B ≡ false = ne_eqb (get_or s i 0) 0x4B (λ z. absurd (omega arith)) in rw (n, eq-eqb (get_or s i 0) 0x40 e)
 
-  fit-other : 0x4B < get_or s i 0 → fit s i ≡ (in_part (get_or s (i + 1) 0) || (eqb (get_or s (i + 1) 0) 0x4B || eqb (get_or s (i + 1) 0) 0x40))
+  fit_other : 0x4B < get_or s i 0 → fit s i ≡ (in_part (get_or s (i + 1) 0) || (eqb (get_or s (i + 1) 0) 0x4B || eqb (get_or s (i + 1) 0) 0x40))
   unfolding fit
-  fit-other h =
+  fit_other h =
       let n : eqb (get_or s i 0) 0x4B ≡ false = ne_eqb (get_or s i 0) 0x4B (λ z. absurd (omega arith)) in
       let m : eqb (get_or s i 0) 0x40 ≡ false = ne_eqb (get_or s i 0) 0x40 (λ z. absurd (omega arith)) in
       rw (n, m)
@@ -83,88 +83,88 @@ module _ (s : List ℕ) (i : ℕ) where
 abbrev pub Nine : List ℕ → ℕ → Type 0
 Nine s i = (k : ℕ) → i ≤ k → k < i + 9 → 0x4B < get_or s k 0
 
-min-both : (x a b : ℕ) → x < min a b → (x < a) × (x < b)
-min-both x a b h = (omega arith, omega arith)
+min_both : (x a b : ℕ) → x < min a b → (x < a) × (x < b)
+min_both x a b h = (omega arith, omega arith)
 
-both-min : (x a b : ℕ) → x < a → x < b → x < min a b
-both-min x a b h l = omega arith
+both_min : (x a b : ℕ) → x < a → x < b → x < min a b
+both_min x a b h l = omega arith
 
 place : (P : ℕ → Type 0) (i e : ℕ) → P i → ((k : ℕ) → i + 1 ≤ k → k < e → P k) → (k : ℕ) → i ≤ k → k < e → P k
 place P i e p f k u v = elim (ℕ_discrete k i) [ yes q ↦ subst P (sym q) p | no q ↦ f k (omega arith) v ]
 
-four-high : (s : List ℕ) (i : ℕ) → 0x4B < least_of_four s i → (k : ℕ) → i ≤ k → k < i + 4 → 0x4B < get_or s k 0
+four_high : (s : List ℕ) (i : ℕ) → 0x4B < least_of_four s i → (k : ℕ) → i ≤ k → k < i + 4 → 0x4B < get_or s k 0
 unfolding least_of_four
-four-high s i h =
-    let a = min-both 0x4B _ _ h in
-    let b = min-both 0x4B _ _ a.0 in
-    let c = min-both 0x4B _ _ a.1 in
+four_high s i h =
+    let a = min_both 0x4B _ _ h in
+    let b = min_both 0x4B _ _ a.0 in
+    let c = min_both 0x4B _ _ a.1 in
     let P : ℕ → Type 0 = λ k. 0x4B < get_or s k 0 in
     place P i (i + 4) b.0
     (place P (i + 1) (i + 4) b.1 (λ k u v. place P (i + 2) (i + 4) c.0 (λ k u v. place P (i + 3) (i + 4) c.1 (λ k u v. absurd (omega arith)) k (omega arith) v) k (omega arith) v))
 
-high-four : (s : List ℕ) (i : ℕ) → 0x4B < get_or s i 0 → 0x4B < get_or s (i + 1) 0 → 0x4B < get_or s (i + 2) 0 → 0x4B < get_or s (i + 3) 0 → 0x4B < least_of_four s i
+high_four : (s : List ℕ) (i : ℕ) → 0x4B < get_or s i 0 → 0x4B < get_or s (i + 1) 0 → 0x4B < get_or s (i + 2) 0 → 0x4B < get_or s (i + 3) 0 → 0x4B < least_of_four s i
 unfolding least_of_four
-high-four s i a b c d = both-min 0x4B _ _ (both-min 0x4B _ _ a b) (both-min 0x4B _ _ c d)
+high_four s i a b c d = both_min 0x4B _ _ (both_min 0x4B _ _ a b) (both_min 0x4B _ _ c d)
 
-long-nine : (s : List ℕ) (i : ℕ) → brief s i ≡ false → Nine s i
+long_nine : (s : List ℕ) (i : ℕ) → brief s i ≡ false → Nine s i
 unfolding brief least_of_nine
-long-nine s i e =
+long_nine s i e =
     let h : 0x4B < least_of_nine s i = by (ltb 0x4B (least_of_nine s i)) (λ z. ltb-true 0x4B (least_of_nine s i) z) (λ z. clash (subst (λ (b : Bool). cond b false true ≡ true) (sym z) refl) e) in
-    let a = min-both 0x4B _ _ h in
-    let b = min-both 0x4B _ _ a.0 in
+    let a = min_both 0x4B _ _ h in
+    let b = min_both 0x4B _ _ a.0 in
     λ k u v.
     elim (dec_le (i + 4) k) [
-      | no q ↦ four-high s i b.0 k u (lt_of_not-le q)
+      | no q ↦ four_high s i b.0 k u (lt_of_not-le q)
       | yes q ↦
           elim (dec_le (i + 8) k) [
-            | no r ↦ (let y = lt_of_not-le r in four-high s (i + 4) b.1 k q (omega arith))
+            | no r ↦ (let y = lt_of_not-le r in four_high s (i + 4) b.1 k q (omega arith))
             | yes r ↦ (let e : i + 8 ≡ k = omega arith in subst (λ (x : ℕ). 0x4B < get_or s x 0) e a.1)
           ]
     ]
 
-nine-long : (s : List ℕ) (i : ℕ) → Nine s i → brief s i ≡ false
+nine_long : (s : List ℕ) (i : ℕ) → Nine s i → brief s i ≡ false
 unfolding brief least_of_nine
-nine-long s i n =
+nine_long s i n =
     let g : (k : ℕ) → i ≤ k → k < i + 9 → 0x4B < get_or s k 0 = n in
-    let a = high-four s i (g i (omega arith) (omega arith)) (g (i + 1) (omega arith) (omega arith)) (g (i + 2) (omega arith) (omega arith)) (g (i + 3) (omega arith) (omega arith)) in
-    let b = high-four s (i + 4) (g (i + 4) (omega arith) (omega arith)) (g (i + 4 + 1) (omega arith) (omega arith)) (g (i + 4 + 2) (omega arith) (omega arith)) (g (i + 4 + 3) (omega arith) (omega arith)) in
-    let h : 0x4B < least_of_nine s i = both-min 0x4B _ _ (both-min 0x4B _ _ a b) (g (i + 8) (omega arith) (omega arith)) in
+    let a = high_four s i (g i (omega arith) (omega arith)) (g (i + 1) (omega arith) (omega arith)) (g (i + 2) (omega arith) (omega arith)) (g (i + 3) (omega arith) (omega arith)) in
+    let b = high_four s (i + 4) (g (i + 4) (omega arith) (omega arith)) (g (i + 4 + 1) (omega arith) (omega arith)) (g (i + 4 + 2) (omega arith) (omega arith)) (g (i + 4 + 3) (omega arith) (omega arith)) in
+    let h : 0x4B < least_of_nine s i = both_min 0x4B _ _ (both_min 0x4B _ _ a b) (g (i + 8) (omega arith) (omega arith)) in
     rw (lt-ltb 0x4B (least_of_nine s i) h)
 
-brief-at : (s : List ℕ) (i : ℕ) → get_or s i 0 ≤ 0x4B → brief s i ≡ true
-brief-at s i h = by (brief s i) (λ e. e) (λ e. absurd (let x = long-nine s i e i (omega arith) (omega arith) in omega arith))
+brief_at : (s : List ℕ) (i : ℕ) → get_or s i 0 ≤ 0x4B → brief s i ≡ true
+brief_at s i h = by (brief s i) (λ e. e) (λ e. absurd (let x = long_nine s i e i (omega arith) (omega arith) in omega arith))
 
 -- ---- a character more
 
 module _ (s : List ℕ) (n j : ℕ) (h : j < length s) where
-  on-period : get_or s j 0 ≡ 0x4B → name_from (suc n) (drop j s) ≡ name_from 0 (drop (j + 1) s)
-  on-period e = rw (rest s j h, e) (or-none-set (name_from 0 (drop (j + 1) s)))
+  on_period : get_or s j 0 ≡ 0x4B → name_from (suc n) (drop j s) ≡ name_from 0 (drop (j + 1) s)
+  on_period e = rw (rest s j h, e) (or_none_set (name_from 0 (drop (j + 1) s)))
 
-  on-blank : get_or s j 0 ≡ 0x40 → name_from (suc n) (drop j s) ≡ all (λ b. eqb b 0x40) (drop (j + 1) s)
-  on-blank e = rw (rest s j h, e) (or-false (all (λ b. eqb b 0x40) (drop (j + 1) s)))
+  on_blank : get_or s j 0 ≡ 0x40 → name_from (suc n) (drop j s) ≡ all (λ b. eqb b 0x40) (drop (j + 1) s)
+  on_blank e = rw (rest s j h, e) (or_false (all (λ b. eqb b 0x40) (drop (j + 1) s)))
 
-  on-part : in_part (get_or s j 0) ≡ true → name_from (suc n) (drop j s) ≡ (ltb (suc n) 8 && name_from (suc (suc n)) (drop (j + 1) s))
-  on-part e = rw (rest s j h) (grow n (get_or s j 0) (drop (j + 1) s) e)
+  on_part : in_part (get_or s j 0) ≡ true → name_from (suc n) (drop j s) ≡ (ltb (suc n) 8 && name_from (suc (suc n)) (drop (j + 1) s))
+  on_part e = rw (rest s j h) (grow n (get_or s j 0) (drop (j + 1) s) e)
 
-  on-other : in_part (get_or s j 0) ≡ false → (get_or s j 0 ≡ 0x4B → ⊥) → (get_or s j 0 ≡ 0x40 → ⊥) → name_from (suc n) (drop j s) ≡ false
-  on-other e p b = rw (rest s j h, ne_eqb (get_or s j 0) 0x4B p, ne_eqb (get_or s j 0) 0x40 b, e)
+  on_other : in_part (get_or s j 0) ≡ false → (get_or s j 0 ≡ 0x4B → ⊥) → (get_or s j 0 ≡ 0x40 → ⊥) → name_from (suc n) (drop j s) ≡ false
+  on_other e p b = rw (rest s j h, ne_eqb (get_or s j 0) 0x4B p, ne_eqb (get_or s j 0) 0x40 b, e)
 
-  on-start : name_from 0 (drop j s) ≡ (starts_part (get_or s j 0) && name_from 1 (drop (j + 1) s))
-  on-start = rw (rest s j h)
+  on_start : name_from 0 (drop j s) ≡ (starts_part (get_or s j 0) && name_from 1 (drop (j + 1) s))
+  on_start = rw (rest s j h)
 
 -- blanks to the end
-pub all-blank : (s : List ℕ) (m j : ℕ) → j + m ≡ length s → ((k : ℕ) → j ≤ k → k < length s → get_or s k 0 ≡ 0x40) → all (λ b. eqb b 0x40) (drop j s) ≡ true
-all-blank s zero j l h = rw (drop_of_length-le s {i = j} (omega arith))
-all-blank s (suc m) j l h =
-    rw (rest s j (omega arith), eq-eqb (get_or s j 0) 0x40 (h j (omega arith) (omega arith))) (all-blank s m (j + 1) (omega arith) (λ k u v. h k (omega arith) v))
+pub all_blank : (s : List ℕ) (m j : ℕ) → j + m ≡ length s → ((k : ℕ) → j ≤ k → k < length s → get_or s k 0 ≡ 0x40) → all (λ b. eqb b 0x40) (drop j s) ≡ true
+all_blank s zero j l h = rw (drop_of_length-le s {i = j} (omega arith))
+all_blank s (suc m) j l h =
+    rw (rest s j (omega arith), eq-eqb (get_or s j 0) 0x40 (h j (omega arith) (omega arith))) (all_blank s m (j + 1) (omega arith) (λ k u v. h k (omega arith) v))
 
-pub blank-all : (s : List ℕ) (m j : ℕ) → j + m ≡ length s → all (λ b. eqb b 0x40) (drop j s) ≡ true → (k : ℕ) → j ≤ k → k < length s → get_or s k 0 ≡ 0x40
-blank-all s zero j l e k u v = absurd (omega arith)
-blank-all s (suc m) j l e k u v =
+pub blank_all : (s : List ℕ) (m j : ℕ) → j + m ≡ length s → all (λ b. eqb b 0x40) (drop j s) ≡ true → (k : ℕ) → j ≤ k → k < length s → get_or s k 0 ≡ 0x40
+blank_all s zero j l e k u v = absurd (omega arith)
+blank_all s (suc m) j l e k u v =
     let b = and_both (rw (rest s j (omega arith)) at e) in
     elim (ℕ_discrete k j) [
       | yes q ↦ rw q (eqb-true (get_or s j 0) 0x40 b.0)
-      | no q ↦ blank-all s m (j + 1) (omega arith) b.1 k (omega arith) v
+      | no q ↦ blank_all s m (j + 1) (omega arith) b.1 k (omega arith) v
     ]
 
 -- ---- the rest of a name, behind place i, where the n + 1 characters up to it are of one part
@@ -179,25 +179,25 @@ record Ahead (s : List ℕ) (i n : ℕ) : Type 0 where
   pub rows : (k : ℕ) → i ≤ k + n → k + 9 ≤ length s → Nine s k → ⊥
   pub last : (e : ℕ) → i < e → e + 1 ≡ length s → get_or s e 0 ≡ 0x4B → ⊥
 
-solid-more : (s : List ℕ) (i n : ℕ) → Solid s i n → 0x4B < get_or s (i + 1) 0 → Solid s (i + 1) (suc n)
-solid-more s i n g h k u v = elim (ℕ_discrete k (i + 1)) [ yes q ↦ rw q h | no q ↦ g k (omega arith) (omega arith) ]
+solid_more : (s : List ℕ) (i n : ℕ) → Solid s i n → 0x4B < get_or s (i + 1) 0 → Solid s (i + 1) (suc n)
+solid_more s i n g h k u v = elim (ℕ_discrete k (i + 1)) [ yes q ↦ rw q h | no q ↦ g k (omega arith) (omega arith) ]
 
-solid-new : (s : List ℕ) (i : ℕ) → 0x4B < get_or s i 0 → Solid s i 0
-solid-new s i h k u v = let q : k ≡ i = omega arith in rw q h
+solid_new : (s : List ℕ) (i : ℕ) → 0x4B < get_or s i 0 → Solid s i 0
+solid_new s i h k u v = let q : k ≡ i = omega arith in rw q h
 
 -- the pair at i, whose first character is of a part
 module _ (s : List ℕ) (i : ℕ) (g : 0x4B < get_or s i 0) where
-  fit-part : in_part (get_or s (i + 1) 0) ≡ true → fit s i ≡ true
-  fit-part e = fit-other s i g ∙ rw e
+  fit_part : in_part (get_or s (i + 1) 0) ≡ true → fit s i ≡ true
+  fit_part e = fit_other s i g ∙ rw e
 
-  fit-to-period : get_or s (i + 1) 0 ≡ 0x4B → fit s i ≡ true
-  fit-to-period e = fit-other s i g ∙ rw e
+  fit_to_period : get_or s (i + 1) 0 ≡ 0x4B → fit s i ≡ true
+  fit_to_period e = fit_other s i g ∙ rw e
 
-  fit-to-blank : get_or s (i + 1) 0 ≡ 0x40 → fit s i ≡ true
-  fit-to-blank e = fit-other s i g ∙ rw e
+  fit_to_blank : get_or s (i + 1) 0 ≡ 0x40 → fit s i ≡ true
+  fit_to_blank e = fit_other s i g ∙ rw e
 
   unfit : in_part (get_or s (i + 1) 0) ≡ false → (get_or s (i + 1) 0 ≡ 0x4B → ⊥) → (get_or s (i + 1) 0 ≡ 0x40 → ⊥) → fit s i ≡ false
-  unfit e p b = fit-other s i g ∙ rw (e, ne_eqb (get_or s (i + 1) 0) 0x4B p, ne_eqb (get_or s (i + 1) 0) 0x40 b)
+  unfit e p b = fit_other s i g ∙ rw (e, ne_eqb (get_or s (i + 1) 0) 0x4B p, ne_eqb (get_or s (i + 1) 0) 0x40 b)
 
 -- from a blank on all is blank
 blanks : (s : List ℕ) (i : ℕ) → ((k : ℕ) → i ≤ k → k + 1 < length s → fit s k ≡ true) → get_or s i 0 ≡ 0x40 → (m k : ℕ) → k ≡ i + m → k < length s → get_or s k 0 ≡ 0x40
@@ -205,15 +205,15 @@ blanks s i f e zero k q v = let z : k ≡ i = omega arith in rw z e
 blanks s i f e (suc m) k q v =
     let b = blanks s i f e m (i + m) refl (omega arith) in
     let z : k ≡ i + m + 1 = omega arith in
-    rw z (eqb-true (get_or s (i + m + 1) 0) 0x40 (sym (fit-blank s (i + m) b) ∙ f (i + m) (omega arith) (omega arith)))
+    rw z (eqb-true (get_or s (i + m + 1) 0) 0x40 (sym (fit_blank s (i + m) b) ∙ f (i + m) (omega arith) (omega arith)))
 
-less-ahead : (s : List ℕ) (i n j m : ℕ) → i ≤ j → i + m ≤ j + n → Ahead s i n → Ahead s j m
-less-ahead s i n j m u v a =
+less_ahead : (s : List ℕ) (i n j m : ℕ) → i ≤ j → i + m ≤ j + n → Ahead s i n → Ahead s j m
+less_ahead s i n j m u v a =
     record { fits = λ k w x. a.fits k (omega arith) x; rows = λ k w x. a.rows k (omega arith) x; last = λ e w x. a.last e (omega arith) x }
 
-good-rest : (s : List ℕ) (m i n : ℕ) → length s ≤ i + m → i < length s → n < 8 → n ≤ i → Solid s i n → Ahead s i n → name_from (suc n) (drop (i + 1) s) ≡ true
-good-rest s zero i n l r t o g a = absurd (omega arith)
-good-rest s (suc m) i n l r t o g a =
+good_rest : (s : List ℕ) (m i n : ℕ) → length s ≤ i + m → i < length s → n < 8 → n ≤ i → Solid s i n → Ahead s i n → name_from (suc n) (drop (i + 1) s) ≡ true
+good_rest s zero i n l r t o g a = absurd (omega arith)
+good_rest s (suc m) i n l r t o g a =
     elim (dec_le (i + 2) (length s)) [
       | no z ↦ (let y = lt_of_not-le z in rw (drop_of_length-le s {i = i + 1} (omega arith)))
       | yes z ↦
@@ -222,28 +222,28 @@ good-rest s (suc m) i n l r t o g a =
                 elim (dec_le (i + 3) (length s)) [
                   | no y ↦ absurd (a.last (i + 1) (omega arith) (let x = lt_of_not-le y in omega arith) p)
                   | yes y ↦
-                      let st : starts_part (get_or s (i + 1 + 1) 0) ≡ true = sym (fit-period s (i + 1) p) ∙ a.fits (i + 1) (omega arith) (omega arith) in
-                      on-period s n (i + 1) (omega arith) p
-                      ∙ on-start s 0 (i + 1 + 1) (omega arith)
-                      ∙ both-and st
-                      (good-rest s m (i + 1 + 1) 0 (omega arith) (omega arith) (omega arith) (omega arith) (solid-new s (i + 1 + 1) (high-start _ st))
-                      (less-ahead s i n (i + 1 + 1) 0 (omega arith) (omega arith) a))
+                      let st : starts_part (get_or s (i + 1 + 1) 0) ≡ true = sym (fit_period s (i + 1) p) ∙ a.fits (i + 1) (omega arith) (omega arith) in
+                      on_period s n (i + 1) (omega arith) p
+                      ∙ on_start s 0 (i + 1 + 1) (omega arith)
+                      ∙ both_and st
+                      (good_rest s m (i + 1 + 1) 0 (omega arith) (omega arith) (omega arith) (omega arith) (solid_new s (i + 1 + 1) (high_start _ st))
+                      (less_ahead s i n (i + 1 + 1) 0 (omega arith) (omega arith) a))
                 ]
             | no p ↦
                 elim (ℕ_discrete (get_or s (i + 1) 0) 0x40) [
                   | yes b ↦
-                      on-blank s n (i + 1) (omega arith) b
-                      ∙ all-blank s (length s - (i + 1 + 1)) (i + 1 + 1) (omega arith)
+                      on_blank s n (i + 1) (omega arith) b
+                      ∙ all_blank s (length s - (i + 1 + 1)) (i + 1 + 1) (omega arith)
                       (λ k u v. blanks s (i + 1) (λ j w x. a.fits j (omega arith) x) b (k - (i + 1)) k (omega arith) v)
                   | no b ↦
                       by (in_part (get_or s (i + 1) 0))
                       (λ e.
-                      let h = solid-more s i n g (high_part _ e) in
+                      let h = solid_more s i n g (high_part _ e) in
                       elim (dec_le (suc (suc n)) 8) [
                         | yes q ↦
-                            on-part s n (i + 1) (omega arith) e
-                            ∙ both-and (lt-ltb (suc n) 8 q)
-                            (good-rest s m (i + 1) (suc n) (omega arith) (omega arith) q (omega arith) h (less-ahead s i n (i + 1) (suc n) (omega arith) (omega arith) a))
+                            on_part s n (i + 1) (omega arith) e
+                            ∙ both_and (lt-ltb (suc n) 8 q)
+                            (good_rest s m (i + 1) (suc n) (omega arith) (omega arith) q (omega arith) h (less_ahead s i n (i + 1) (suc n) (omega arith) (omega arith) a))
                         | no q ↦
                             let y = lt_of_not-le q in
                             absurd (a.rows (i - n) (omega arith) (omega arith) (λ k u v. h k (omega arith) (omega arith)))
@@ -256,17 +256,17 @@ good-rest s (suc m) i n l r t o g a =
 -- ---- and back
 
 -- a case of the pair at i, and what is known of those behind it
-cons-fit : (s : List ℕ) (i : ℕ) → fit s i ≡ true → ((k : ℕ) → i + 1 ≤ k → k + 1 < length s → fit s k ≡ true) → (k : ℕ) → i ≤ k → k + 1 < length s → fit s k ≡ true
-cons-fit s i e f k u v = elim (ℕ_discrete k i) [ yes q ↦ rw q e | no q ↦ f k (omega arith) v ]
+cons_fit : (s : List ℕ) (i : ℕ) → fit s i ≡ true → ((k : ℕ) → i + 1 ≤ k → k + 1 < length s → fit s k ≡ true) → (k : ℕ) → i ≤ k → k + 1 < length s → fit s k ≡ true
+cons_fit s i e f k u v = elim (ℕ_discrete k i) [ yes q ↦ rw q e | no q ↦ f k (omega arith) v ]
 
-end-ahead : (s : List ℕ) (i n : ℕ) → length s ≤ i + 1 → n < 8 → Ahead s i n
-end-ahead s i n l t = record { fits = λ k u v. absurd (omega arith); rows = λ k u v w. absurd (omega arith); last = λ e u v w. absurd (omega arith) }
+end_ahead : (s : List ℕ) (i n : ℕ) → length s ≤ i + 1 → n < 8 → Ahead s i n
+end_ahead s i n l t = record { fits = λ k u v. absurd (omega arith); rows = λ k u v w. absurd (omega arith); last = λ e u v w. absurd (omega arith) }
 
 module _ (s : List ℕ) (i n : ℕ) (t : n < 8) (g : 0x4B < get_or s i 0) where
-  part-ahead : in_part (get_or s (i + 1) 0) ≡ true → Ahead s (i + 1) (suc n) → Ahead s i n
-  part-ahead e a =
+  part_ahead : in_part (get_or s (i + 1) 0) ≡ true → Ahead s (i + 1) (suc n) → Ahead s i n
+  part_ahead e a =
       record {
-        fits = cons-fit s i (fit-part s i g e) a.fits;
+        fits = cons_fit s i (fit_part s i g e) a.fits;
         rows = λ k u v. a.rows k (omega arith) v;
         last = λ j u v w.
             elim (ℕ_discrete j (i + 1)) [
@@ -275,11 +275,11 @@ module _ (s : List ℕ) (i n : ℕ) (t : n < 8) (g : 0x4B < get_or s i 0) where
             ];
       }
 
-  blank-ahead : ((k : ℕ) → i + 1 ≤ k → k < length s → get_or s k 0 ≡ 0x40) → i + 1 < length s → Ahead s i n
-  blank-ahead b l =
+  blank_ahead : ((k : ℕ) → i + 1 ≤ k → k < length s → get_or s k 0 ≡ 0x40) → i + 1 < length s → Ahead s i n
+  blank_ahead b l =
       record {
-        fits = cons-fit s i (fit-to-blank s i g (b (i + 1) (omega arith) l))
-            (λ k u v. fit-blank s k (b k u (omega arith)) ∙ eq-eqb (get_or s (k + 1) 0) 0x40 (b (k + 1) (omega arith) v));
+        fits = cons_fit s i (fit_to_blank s i g (b (i + 1) (omega arith) l))
+            (λ k u v. fit_blank s k (b k u (omega arith)) ∙ eq-eqb (get_or s (k + 1) 0) 0x40 (b (k + 1) (omega arith) v));
         rows = λ k u v w.
             elim (dec_le k i) [
               | yes q ↦ (let x = w (i + 1) (omega arith) (omega arith) in let y = b (i + 1) (omega arith) l in absurd (omega arith))
@@ -288,10 +288,10 @@ module _ (s : List ℕ) (i n : ℕ) (t : n < 8) (g : 0x4B < get_or s i 0) where
         last = λ e u v w. let y = b e (omega arith) (omega arith) in absurd (omega arith);
       }
 
-  period-ahead : get_or s (i + 1) 0 ≡ 0x4B → starts_part (get_or s (i + 1 + 1) 0) ≡ true → i + 1 + 1 < length s → Ahead s (i + 1 + 1) 0 → Ahead s i n
-  period-ahead p st l a =
+  period_ahead : get_or s (i + 1) 0 ≡ 0x4B → starts_part (get_or s (i + 1 + 1) 0) ≡ true → i + 1 + 1 < length s → Ahead s (i + 1 + 1) 0 → Ahead s i n
+  period_ahead p st l a =
       record {
-        fits = cons-fit s i (fit-to-period s i g p) (cons-fit s (i + 1) (fit-period s (i + 1) p ∙ st) a.fits);
+        fits = cons_fit s i (fit_to_period s i g p) (cons_fit s (i + 1) (fit_period s (i + 1) p ∙ st) a.fits);
         rows = λ k u v w.
             elim (dec_le k (i + 1)) [
               | yes q ↦ (let x = w (i + 1) q (omega arith) in absurd (omega arith))
@@ -299,43 +299,43 @@ module _ (s : List ℕ) (i n : ℕ) (t : n < 8) (g : 0x4B < get_or s i 0) where
             ];
         last = λ e u v w.
             elim (ℕ_discrete e (i + 1 + 1)) [
-              | yes q ↦ (let x : 0x4B < get_or s e 0 = rw q (high-start _ st) in absurd (omega arith))
+              | yes q ↦ (let x : 0x4B < get_or s e 0 = rw q (high_start _ st) in absurd (omega arith))
               | no q ↦ a.last e (omega arith) v w
             ];
       }
 
-rest-good : (s : List ℕ) (m i n : ℕ) → length s ≤ i + m → i < length s → n < 8 → 0x4B < get_or s i 0 → name_from (suc n) (drop (i + 1) s) ≡ true → Ahead s i n
-rest-good s zero i n l r t g e = absurd (omega arith)
-rest-good s (suc m) i n l r t g e =
+rest_good : (s : List ℕ) (m i n : ℕ) → length s ≤ i + m → i < length s → n < 8 → 0x4B < get_or s i 0 → name_from (suc n) (drop (i + 1) s) ≡ true → Ahead s i n
+rest_good s zero i n l r t g e = absurd (omega arith)
+rest_good s (suc m) i n l r t g e =
     elim (dec_le (i + 2) (length s)) [
-      | no z ↦ end-ahead s i n (let y = lt_of_not-le z in omega arith) t
+      | no z ↦ end_ahead s i n (let y = lt_of_not-le z in omega arith) t
       | yes z ↦
           elim (ℕ_discrete (get_or s (i + 1) 0) 0x4B) [
             | yes p ↦
-                let f : name_from 0 (drop (i + 1 + 1) s) ≡ true = sym (on-period s n (i + 1) (omega arith) p) ∙ e in
+                let f : name_from 0 (drop (i + 1 + 1) s) ≡ true = sym (on_period s n (i + 1) (omega arith) p) ∙ e in
                 elim (dec_le (i + 3) (length s)) [
                   | no y ↦ clash f (let x = lt_of_not-le y in rw (drop_of_length-le s {i = i + 1 + 1} (omega arith)))
                   | yes y ↦
-                      let b = and_both (sym (on-start s 0 (i + 1 + 1) (omega arith)) ∙ f) in
-                      period-ahead s i n t g p b.0 (omega arith) (rest-good s m (i + 1 + 1) 0 (omega arith) (omega arith) (omega arith) (high-start _ b.0) b.1)
+                      let b = and_both (sym (on_start s 0 (i + 1 + 1) (omega arith)) ∙ f) in
+                      period_ahead s i n t g p b.0 (omega arith) (rest_good s m (i + 1 + 1) 0 (omega arith) (omega arith) (omega arith) (high_start _ b.0) b.1)
                 ]
             | no p ↦
                 elim (ℕ_discrete (get_or s (i + 1) 0) 0x40) [
                   | yes b ↦
-                      let f = sym (on-blank s n (i + 1) (omega arith) b) ∙ e in
-                      blank-ahead s i n t g
+                      let f = sym (on_blank s n (i + 1) (omega arith) b) ∙ e in
+                      blank_ahead s i n t g
                       (λ k u v.
                       elim (ℕ_discrete k (i + 1)) [
                         | yes q ↦ rw q b
-                        | no q ↦ blank-all s (length s - (i + 1 + 1)) (i + 1 + 1) (omega arith) f k (omega arith) v
+                        | no q ↦ blank_all s (length s - (i + 1 + 1)) (i + 1 + 1) (omega arith) f k (omega arith) v
                       ])
                       (omega arith)
                   | no b ↦
                       by (in_part (get_or s (i + 1) 0))
                       (λ c.
-                      let f = and_both (sym (on-part s n (i + 1) (omega arith) c) ∙ e) in
-                      part-ahead s i n t g c (rest-good s m (i + 1) (suc n) (omega arith) (omega arith) (ltb-true _ _ f.0) (high_part _ c) f.1))
-                      (λ c. clash e (on-other s n (i + 1) (omega arith) c p b))
+                      let f = and_both (sym (on_part s n (i + 1) (omega arith) c) ∙ e) in
+                      part_ahead s i n t g c (rest_good s m (i + 1) (suc n) (omega arith) (omega arith) (ltb-true _ _ f.0) (high_part _ c) f.1))
+                      (λ c. clash e (on_other s n (i + 1) (omega arith) c p b))
                 ]
           ]
     ]
@@ -351,20 +351,20 @@ pub record SoundPairs (s : List ℕ) : Type 0 where
 module _ (s : List ℕ) (l : 0 < length s) (st : starts_part (get_or s 0 0) ≡ true) where
   named : good_name s ≡ name_from 1 (drop (0 + 1) s)
   unfolding good_name
-  named = on-start s 0 0 l ∙ rw st
+  named = on_start s 0 0 l ∙ rw st
 
-  pub sound-good : SoundPairs s → good_name s ≡ true
-  sound-good a =
+  pub sound_good : SoundPairs s → good_name s ≡ true
+  sound_good a =
       named
-      ∙ good-rest s (length s) 0 0 (omega arith) l (omega arith) (omega arith) (solid-new s 0 (high-start _ st))
-      (record { fits = λ k u v. a.fits k v; rows = λ k u v w. clash (a.rows k v) (nine-long s k w); last = λ e u v. a.last e u v })
+      ∙ good_rest s (length s) 0 0 (omega arith) l (omega arith) (omega arith) (solid_new s 0 (high_start _ st))
+      (record { fits = λ k u v. a.fits k v; rows = λ k u v w. clash (a.rows k v) (nine_long s k w); last = λ e u v. a.last e u v })
 
-  pub good-sound : good_name s ≡ true → SoundPairs s
-  good-sound e =
-      let a = rest-good s (length s) 0 0 (omega arith) l (omega arith) (high-start _ st) (sym named ∙ e) in
+  pub good_sound : good_name s ≡ true → SoundPairs s
+  good_sound e =
+      let a = rest_good s (length s) 0 0 (omega arith) l (omega arith) (high_start _ st) (sym named ∙ e) in
       record {
         fits = λ k v. a.fits k (omega arith) v;
-        rows = λ k v. by (brief s k) (λ q. q) (λ q. absurd (a.rows k (omega arith) v (long-nine s k q)));
+        rows = λ k v. by (brief s k) (λ q. q) (λ q. absurd (a.rows k (omega arith) v (long_nine s k q)));
         last = λ e u v. a.last e u v;
       }
 
@@ -385,49 +385,49 @@ class_all c =
     class_code (ones (leb 0xC1 (bit_and c 0xEF))) (ones (leb (c % 16) 9)) (ones (not (eqb (bit_or c 1) 0xE1))) (ones (ltb c 0xF0)) (ones (eqb (bit_or c 0x20) 0x7B))
     (ones (eqb c 0x7C)) (ones (eqb c 0x60)) (ones (eqb c 0x4B)) (ones (eqb c 0x40))
 
-class-all : (c : ℕ) → c < 256 → class_all c ≡ class_of c
+class_all_lem : (c : ℕ) → c < 256 → class_all c ≡ class_of c
 unfolding class_of
-class-all c h = eqb-true _ _ (is_true (for-all (λ x. eqb (class_all x) (class_of x)) 0 256 tt c (omega arith) h))
+class_all_lem c h = eqb-true _ _ (is_true (for_all (λ x. eqb (class_all x) (class_of x)) 0 256 tt c (omega arith) h))
 
 module _ (c a b e f n m h p q : ℕ) (u : c < 256) (ea : a ≡ ones (leb 0xC1 (bit_and c 0xEF))) (eb : b ≡ ones (leb (c % 16) 9)) (ee : e ≡ ones (not (eqb (bit_or c 1) 0xE1)))
     (ef : f ≡ ones (ltb c 0xF0)) (en : n ≡ ones (eqb (bit_or c 0x20) 0x7B)) (em : m ≡ ones (eqb c 0x7C)) (eh : h ≡ ones (eqb c 0x60)) (ep : p ≡ ones (eqb c 0x4B))
     (eq : q ≡ ones (eqb c 0x40)) where
-  pub class-is : class_code a b e f n m h p q ≡ class_of c
-  class-is = rw (ea, eb, ee, ef, en, em, eh, ep, eq) (class-all c u)
+  pub class_is : class_code a b e f n m h p q ≡ class_of c
+  class_is = rw (ea, eb, ee, ef, en, em, eh, ep, eq) (class_all_lem c u)
 
 abbrev wanted_all : ℕ → ℕ → ℕ
 wanted_all p q = bit_xor 4 (bit_or (bit_and p 5) (bit_and q 12))
 
-pub wanted-is : (c p q : ℕ) → c < 256 → p ≡ ones (eqb c 0x4B) → q ≡ ones (eqb c 0x40) → wanted_all p q ≡ wanted_after c
+pub wanted_is : (c p q : ℕ) → c < 256 → p ≡ ones (eqb c 0x4B) → q ≡ ones (eqb c 0x40) → wanted_all p q ≡ wanted_after c
 unfolding wanted_after
-wanted-is c p q h ep eq =
+wanted_is c p q h ep eq =
     ap (λ (x : ℕ). wanted_all x q) ep ∙ ap (wanted_all (ones (eqb c 0x4B))) eq
-    ∙ eqb-true _ _ (is_true (for-all (λ x. eqb (wanted_all (ones (eqb x 0x4B)) (ones (eqb x 0x40))) (wanted_after x)) 0 256 tt c (omega arith) h))
+    ∙ eqb-true _ _ (is_true (for_all (λ x. eqb (wanted_all (ones (eqb x 0x4B)) (ones (eqb x 0x40))) (wanted_after x)) 0 256 tt c (omega arith) h))
 
 -- 0 where the class has what is wanted
 abbrev lacks : ℕ → ℕ → Bool
 lacks a c = eqb (bit_and a (bit_xor (class_of c) 255)) 0
 
 module _ (c : ℕ) (h : c < 256) where
-  lacks-start : lacks 1 c ≡ starts_part c
+  lacks_start : lacks 1 c ≡ starts_part c
   unfolding class_of
-  lacks-start = agree-is _ _ (for-all (λ x. agree (lacks 1 x) (starts_part x)) 0 256 tt c (omega arith) h)
+  lacks_start = agree_is _ _ (for_all (λ x. agree (lacks 1 x) (starts_part x)) 0 256 tt c (omega arith) h)
 
-  lacks-blank : lacks 8 c ≡ eqb c 0x40
+  lacks_blank : lacks 8 c ≡ eqb c 0x40
   unfolding class_of
-  lacks-blank = agree-is _ _ (for-all (λ x. agree (lacks 8 x) (eqb x 0x40)) 0 256 tt c (omega arith) h)
+  lacks_blank = agree_is _ _ (for_all (λ x. agree (lacks 8 x) (eqb x 0x40)) 0 256 tt c (omega arith) h)
 
-  lacks-name : lacks 4 c ≡ (in_part c || (eqb c 0x4B || eqb c 0x40))
+  lacks_name : lacks 4 c ≡ (in_part c || (eqb c 0x4B || eqb c 0x40))
   unfolding class_of
-  lacks-name = agree-is _ _ (for-all (λ x. agree (lacks 4 x) (in_part x || (eqb x 0x4B || eqb x 0x40))) 0 256 tt c (omega arith) h)
+  lacks_name = agree_is _ _ (for_all (λ x. agree (lacks 4 x) (in_part x || (eqb x 0x4B || eqb x 0x40))) 0 256 tt c (omega arith) h)
 
 pub pair_is : (s : List ℕ) (i x y : ℕ) → get_or s (i + 1) 0 < 256 → x ≡ wanted_after (get_or s i 0) → y ≡ class_of (get_or s (i + 1) 0) → Tells (bit_and x (bit_xor y 255)) (fit s i)
 unfolding fit wanted_after
 pair_is s i x y h ex ey =
     rw (ex, ey)
     (by (eqb (get_or s i 0) 0x4B)
-    (λ p. rw p (lacks-start _ h))
-    (λ p. by (eqb (get_or s i 0) 0x40) (λ b. rw (p, b) (lacks-blank _ h)) (λ b. rw (p, b) (lacks-name _ h))))
+    (λ p. rw p (lacks_start _ h))
+    (λ p. by (eqb (get_or s i 0) 0x40) (λ b. rw (p, b) (lacks_blank _ h)) (λ b. rw (p, b) (lacks_name _ h))))
 
 module _ (s : List ℕ) (i : ℕ) where
   pub four_is : (a b : ℕ) → a ≡ min (get_or s i 0) (get_or s (i + 1) 0) → b ≡ min (get_or s (i + 2) 0) (get_or s (i + 3) 0) → min a b ≡ least_of_four s i
@@ -445,32 +445,32 @@ module _ (s : List ℕ) (i : ℕ) where
 module _ (f g : ℕ → Bool) (bad x y i : ℕ) (eb : Tells bad (turns_to f g i)) (ex : Tells x (f i)) (ey : Tells y (g i)) where
   pub turn : Tells (bit_or (bit_or bad x) y) (turns_to f g (i + 1))
   unfolding turns_to
-  turn = rw add-one (tells-or (bit_or bad x) y (turns_to f g i && f i) (g i) (tells-or bad x (turns_to f g i) (f i) eb ex) ey)
+  turn = rw add-one (tells_or (bit_or bad x) y (turns_to f g i && f i) (g i) (tells_or bad x (turns_to f g i) (f i) eb ex) ey)
 
-pub no-turn : (f g : ℕ → Bool) → Tells 0 (turns_to f g 0)
+pub no_turn : (f g : ℕ → Bool) → Tells 0 (turns_to f g 0)
 unfolding turns_to
-no-turn f g = refl
+no_turn f g = refl
 
-pub turns-end : (f g : ℕ → Bool) (bad i : ℕ) → Tells bad (turns_to f g i) → i ≡ 16 → eqb bad 0 ≡ turns_to f g 16
-turns-end f g bad i e q = e ∙ ap (turns_to f g) q
+pub turns_end : (f g : ℕ → Bool) (bad i : ℕ) → Tells bad (turns_to f g i) → i ≡ 16 → eqb bad 0 ≡ turns_to f g 16
+turns_end f g bad i e q = e ∙ ap (turns_to f g) q
 
 module _ (f g : ℕ → Bool) where
-  turns-take : (n : ℕ) → turns_to f g n ≡ true → (k : ℕ) → k < n → (f k ≡ true) × (g k ≡ true)
+  turns_take : (n : ℕ) → turns_to f g n ≡ true → (k : ℕ) → k < n → (f k ≡ true) × (g k ≡ true)
   unfolding turns_to
-  turns-take zero e k h = absurd (omega arith)
-  turns-take (suc n) e k h =
+  turns_take zero e k h = absurd (omega arith)
+  turns_take (suc n) e k h =
       let a = and_both e in
       let b = and_both a.0 in
-      elim (ℕ_discrete k n) [ yes q ↦ (rw q b.1, rw q a.1) | no q ↦ turns-take n b.0 k (omega arith) ]
+      elim (ℕ_discrete k n) [ yes q ↦ (rw q b.1, rw q a.1) | no q ↦ turns_take n b.0 k (omega arith) ]
 
-  turns-all : (n : ℕ) → ((k : ℕ) → k < n → (f k ≡ true) × (g k ≡ true)) → turns_to f g n ≡ true
+  turns_all : (n : ℕ) → ((k : ℕ) → k < n → (f k ≡ true) × (g k ≡ true)) → turns_to f g n ≡ true
   unfolding turns_to
-  turns-all zero h = refl
-  turns-all (suc n) h = both-and (both-and (turns-all n (λ k u. h k (omega arith))) (h n (omega arith)).0) (h n (omega arith)).1
+  turns_all zero h = refl
+  turns_all (suc n) h = both_and (both_and (turns_all n (λ k u. h k (omega arith))) (h n (omega arith)).0) (h n (omega arith)).1
 
 pub no_name : (s : List ℕ) → 0 < length s → starts_part (get_or s 0 0) ≡ false → good_name s ≡ false
 unfolding good_name
-no_name s l e = on-start s 0 0 l ∙ rw e
+no_name s l e = on_start s 0 0 l ∙ rw e
 
 -- ---- names of 44 characters
 
@@ -479,11 +479,11 @@ abbrev pub PairsUpto : List ℕ → ℕ → Type 0
 PairsUpto s w = (k : ℕ) → k < w → (fit s k ≡ true) × (brief s k ≡ true)
 
 module _ (s : List ℕ) (l : length s ≡ 44) (st : starts_part (get_or s 0 0) ≡ true) where
-  sound-of : good_name s ≡ true → SoundPairs s
-  sound-of e = good-sound s (omega arith) st e
+  sound_of : good_name s ≡ true → SoundPairs s
+  sound_of e = good_sound s (omega arith) st e
 
-  last-period : get_or s 43 0 ≡ 0x4B → good_name s ≡ false
-  last-period p = by (good_name s) (λ e. absurd ((sound-of e).last 43 (omega arith) (omega arith) p)) (λ e. e)
+  last_period : get_or s 43 0 ≡ 0x4B → good_name s ≡ false
+  last_period p = by (good_name s) (λ e. absurd ((sound_of e).last 43 (omega arith) (omega arith) p)) (λ e. e)
 
   -- the tests of one turn, at places p and q, which the code takes on the whole name as a part of itself
   module _ (at p q : ℕ) (ep : p ≡ min at 27) (eq : q ≡ min at 20) where
@@ -494,16 +494,16 @@ module _ (s : List ℕ) (l : length s ≡ 44) (st : starts_part (get_or s 0 0) �
     whole = ap (λ (x : List ℕ). sixteen_to x p q 16) (from_place s 0)
 
     passed : tests ≡ true → (k : ℕ) → k < 16 → (fit s (p + k) ≡ true) × (brief s (q + k) ≡ true)
-    passed h = turns-take _ _ 16 (sym whole ∙ h)
+    passed h = turns_take _ _ 16 (sym whole ∙ h)
 
-    pub sixteen-no : tests ≡ false → good_name s ≡ false
-    sixteen-no h =
+    pub sixteen_no : tests ≡ false → good_name s ≡ false
+    sixteen_no h =
         by (good_name s)
-        (λ e. let a = sound-of e in clash (turns-all _ _ 16 (λ k w. (a.fits (p + k) (omega arith), a.rows (q + k) (omega arith)))) (sym whole ∙ h))
+        (λ e. let a = sound_of e in clash (turns_all _ _ 16 (λ k w. (a.fits (p + k) (omega arith), a.rows (q + k) (omega arith)))) (sym whole ∙ h))
         (λ e. e)
 
-    pub sixteen-more : at ≤ 16 → tests ≡ true → PairsUpto s at → PairsUpto s (at + 16)
-    sixteen-more l16 h t k u =
+    pub sixteen_more : at ≤ 16 → tests ≡ true → PairsUpto s at → PairsUpto s (at + 16)
+    sixteen_more l16 h t k u =
         elim (dec_le at k) [
           | no z ↦ t k (lt_of_not-le z)
           | yes z ↦
@@ -514,8 +514,8 @@ module _ (s : List ℕ) (l : length s ≡ 44) (st : starts_part (get_or s 0 0) �
         ]
 
     -- the last sixteen overlap those before
-    sound-full : at ≡ 32 → tests ≡ true → PairsUpto s at → (get_or s 43 0 ≡ 0x4B → ⊥) → SoundPairs s
-    sound-full l32 h t n =
+    sound_full : at ≡ 32 → tests ≡ true → PairsUpto s at → (get_or s 43 0 ≡ 0x4B → ⊥) → SoundPairs s
+    sound_full l32 h t n =
         record {
           fits = λ k u.
               elim (dec_le 32 k) [
@@ -533,33 +533,33 @@ module _ (s : List ℕ) (l : length s ≡ 44) (st : starts_part (get_or s 0 0) �
     pub at_last : at ≡ 32 → tests ≡ true → PairsUpto s at → not (eqb (get_or s 43 0) 0x4B) ≡ good_name s
     at_last l32 h t =
         by (eqb (get_or s 43 0) 0x4B)
-        (λ e. rw e (sym (last-period (eqb-true _ _ e))))
-        (λ e. rw e (sym (sound-good s (omega arith) st (sound-full l32 h t (eqb-false _ _ e)))))
+        (λ e. rw e (sym (last_period (eqb-true _ _ e))))
+        (λ e. rw e (sym (sound_good s (omega arith) st (sound_full l32 h t (eqb-false _ _ e)))))
 
   -- a blank at place w, and all tests before it
   module _ (w : ℕ) (r : w < 44) (b : get_or s w 0 ≡ 0x40) (t : PairsUpto s w) where
-    sound-upto : ((k : ℕ) → w ≤ k → k < length s → get_or s k 0 ≡ 0x40) → SoundPairs s
-    sound-upto z =
+    sound_upto : ((k : ℕ) → w ≤ k → k < length s → get_or s k 0 ≡ 0x40) → SoundPairs s
+    sound_upto z =
         record {
           fits = λ k u.
               elim (dec_le w k) [
-                | yes q ↦ fit-blank s k (z k q (omega arith)) ∙ eq-eqb (get_or s (k + 1) 0) 0x40 (z (k + 1) (omega arith) u)
+                | yes q ↦ fit_blank s k (z k q (omega arith)) ∙ eq-eqb (get_or s (k + 1) 0) 0x40 (z (k + 1) (omega arith) u)
                 | no q ↦ (t k (lt_of_not-le q)).0
               ];
-          rows = λ k u. elim (dec_le w k) [ yes q ↦ (let y = z k q (omega arith) in brief-at s k (omega arith)) | no q ↦ (t k (lt_of_not-le q)).1 ];
+          rows = λ k u. elim (dec_le w k) [ yes q ↦ (let y = z k q (omega arith) in brief_at s k (omega arith)) | no q ↦ (t k (lt_of_not-le q)).1 ];
           last = λ e u v p. let y = z e (omega arith) (omega arith) in absurd (omega arith);
         }
 
-    pub upto-blank : all_are 0x40 (drop w s) ≡ good_name s
+    pub upto_blank : all_are 0x40 (drop w s) ≡ good_name s
     unfolding all_are
-    upto-blank =
+    upto_blank =
         by (all_are 0x40 (drop w s))
-        (λ a. a ∙ sym (sound-good s (omega arith) st (sound-upto (blank-all s (44 - w) w (omega arith) a))))
+        (λ a. a ∙ sym (sound_good s (omega arith) st (sound_upto (blank_all s (44 - w) w (omega arith) a))))
         (λ a.
         a
         ∙ sym
         (by (good_name s)
         (λ e.
-        let c = sound-of e in
-        clash (all-blank s (44 - w) w (omega arith) (λ k u v. blanks s w (λ j x y. c.fits j y) b (k - w) k (omega arith) v)) a)
+        let c = sound_of e in
+        clash (all_blank s (44 - w) w (omega arith) (λ k u v. blanks s w (λ j x y. c.fits j y) b (k - w) k (omega arith) v)) a)
         (λ e. e)))

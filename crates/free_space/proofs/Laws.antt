@@ -8,11 +8,11 @@ use Rattle.model.specs.Model.{Extent, Geometry, Label, Volume, overs, runs_of, s
 use Rattle.model.specs.Tracks.{tracks_kept, tracks_of}
 use Rattle.rules.specs.Calls.{tracks_kept_of}
 use Rattle.rules.specs.Table.{unit_in}
-use Rattle.model.proofs.Cylinders.{kept-within, tracks-length}
-use Rattle.rules.proofs.Labels.{without-sum}
-use Rattle.rules.proofs.Valid.{free-balance, held-total}
+use Rattle.model.proofs.Cylinders.{kept_within, tracks_length}
+use Rattle.rules.proofs.Labels.{without_sum}
+use Rattle.rules.proofs.Valid.{free_balance, held_total}
 use Rattle.bitmap.specs.Map.{Given}
-use Rattle.bitmap.proofs.Held.{shows-give}
+use Rattle.bitmap.proofs.Held.{shows_give}
 use Rattle.check_label.specs.Marks.{units}
 use Rattle.dscb.specs.Records.{slot_bytes}
 use Rattle.check_label.specs.Label.{named_third}
@@ -23,34 +23,34 @@ use Rattle.free_space.specs.Giving.{At, FreedSlot, Measures, measured_extents}
 
 -- ---- slots
 
-pub freed-none : (k : ℕ) (s : List ℕ) → k ≡ 0 → FreedSlot k s s
-freed-none zero s e = record { long = refl; freed = λ n us h. h }
-freed-none (suc k) s e = absurd (omega arith)
+pub freed_none : (k : ℕ) (s : List ℕ) → k ≡ 0 → FreedSlot k s s
+freed_none zero s e = record { long = refl; freed = λ n us h. h }
+freed_none (suc k) s e = absurd (omega arith)
 
-pub freed-one : (k : ℕ) (s s' : List ℕ) → (k ≡ 0 → ⊥) → Given s s' k (k + 1) → FreedSlot k s s'
-freed-one zero s s' e d = absurd (e refl)
-freed-one (suc k) s s' e d = record { long = d.long; freed = λ n us h. shows-give s s' n (suc k) 1 (units (suc k ∷ us)) (units us) (λ t u. refl) h d }
+pub freed_one : (k : ℕ) (s s' : List ℕ) → (k ≡ 0 → ⊥) → Given s s' k (k + 1) → FreedSlot k s s'
+freed_one zero s s' e d = absurd (e refl)
+freed_one (suc k) s s' e d = record { long = d.long; freed = λ n us h. shows_give s s' n (suc k) 1 (units (suc k ∷ us)) (units us) (λ t u. refl) h d }
 
 -- ---- records of a table, looked at
 
 module _ (g : Geometry) (t : List ℕ) (k q count : ℕ) (f1 f3 : List ℕ) (e1 : f1 ≡ slot_bytes t k) (e3 : f3 ≡ slot_bytes t q) where
-  pub set-looked : SetIn g (slot_bytes t k) (slot_bytes t q) count → SetIn g f1 f3 count
-  set-looked x = subst (λ (r : List ℕ). SetIn g r f3 count) (sym e1) (subst (λ (r : List ℕ). SetIn g (slot_bytes t k) r count) (sym e3) x)
+  pub set_looked : SetIn g (slot_bytes t k) (slot_bytes t q) count → SetIn g f1 f3 count
+  set_looked x = subst (λ (r : List ℕ). SetIn g r f3 count) (sym e1) (subst (λ (r : List ℕ). SetIn g (slot_bytes t k) r count) (sym e3) x)
 
-  extents-looked : extents_in g f1 f3 count ≡ extents_in g (slot_bytes t k) (slot_bytes t q) count
-  extents-looked = ap₂ (λ (a b : List ℕ). extents_in g a b count) e1 e3
+  extents_looked : extents_in g f1 f3 count ≡ extents_in g (slot_bytes t k) (slot_bytes t q) count
+  extents_looked = ap₂ (λ (a b : List ℕ). extents_in g a b count) e1 e3
 
   -- what `tracks_kept` asks, and what it gives
-  pub fits-looked : (n : ℕ) → n ≤ total (overs (extents_in g (slot_bytes t k) (slot_bytes t q) count)) → n ≤ total (overs (extents_in g f1 f3 count))
-  fits-looked n h = subst (λ (es : List Extent). n ≤ total (overs es)) (sym extents-looked) h
+  pub fits_looked : (n : ℕ) → n ≤ total (overs (extents_in g (slot_bytes t k) (slot_bytes t q) count)) → n ≤ total (overs (extents_in g f1 f3 count))
+  fits_looked n h = subst (λ (es : List Extent). n ≤ total (overs es)) (sym extents_looked) h
 
-  pub kept-looked : (unit ttr r : ℕ) → r ≡ tracks_kept g.heads unit ttr (tracks_of (overs (extents_in g f1 f3 count)))
+  pub kept_looked : (unit ttr r : ℕ) → r ≡ tracks_kept g.heads unit ttr (tracks_of (overs (extents_in g f1 f3 count)))
       → r ≡ tracks_kept g.heads unit ttr (tracks_of (overs (extents_in g (slot_bytes t k) (slot_bytes t q) count)))
-  kept-looked unit ttr r h = h ∙ ap (λ (es : List Extent). tracks_kept g.heads unit ttr (tracks_of (overs es))) extents-looked
+  kept_looked unit ttr r h = h ∙ ap (λ (es : List Extent). tracks_kept g.heads unit ttr (tracks_of (overs es))) extents_looked
 
-  pub tail-looked : (unit keep n whole b start part : ℕ) (m m' : List ℕ) → GaveTail keep (extents_in g f1 f3 count) m m' × Stays unit keep (extents_in g f1 f3 count) n whole b start part
+  pub tail_looked : (unit keep n whole b start part : ℕ) (m m' : List ℕ) → GaveTail keep (extents_in g f1 f3 count) m m' × Stays unit keep (extents_in g f1 f3 count) n whole b start part
       → GaveTail keep (extents_in g (slot_bytes t k) (slot_bytes t q) count) m m' × Stays unit keep (extents_in g (slot_bytes t k) (slot_bytes t q) count) n whole b start part
-  tail-looked unit keep n whole b start part m m' x = subst (λ (es : List Extent). GaveTail keep es m m' × Stays unit keep es n whole b start part) extents-looked x
+  tail_looked unit keep n whole b start part m m' x = subst (λ (es : List Extent). GaveTail keep es m m' × Stays unit keep es n whole b start part) extents_looked x
 
 -- ---- the data set
 
@@ -68,8 +68,8 @@ module _ (g : Geometry) (t m s : List ℕ) (k : ℕ) (d : At g t m s k) where
         stored t v d.ready d.name k d.it g d.geometry_is count third (many ∙ ap (λ (r : List ℕ). get_or r 59 0) e1) (link ∙ ap (λ (r : List ℕ). named_third g r) e1)
         (sym (ap length e3) ∙ long)
 
-    pub set-of : SetIn g f1 f3 count
-    set-of = set-looked g t k third count f1 f3 e1 e3 stored_at.set
+    pub set_of : SetIn g f1 f3 count
+    set_of = set_looked g t k third count f1 f3 e1 e3 stored_at.set
 
     pub measured : (all low : ℕ) → Spreads (tracks g) (extents_in g f1 f3 count) all low
         → Measures g t k l (record { slot = k; slot3 = third; unit = get_or f1 94 0; count = count; tracks = all; lowest = low })
@@ -82,46 +82,46 @@ module _ (g : Geometry) (t m s : List ℕ) (k : ℕ) (d : At g t m s k) where
 
   -- ---- bounds
 
-  pub set-small : total (runs_of l) ≤ 65535
-  set-small =
-      let a = free-balance v d.ready.valid in
-      let b = held-total v.geometry v.labels in
-      let c = without-sum (λ x. total (runs_of x)) d.name v.labels l d.ready.valid.differ d.it.same in
+  pub set_small : total (runs_of l) ≤ 65535
+  set_small =
+      let a = free_balance v d.ready.valid in
+      let b = held_total v.geometry v.labels in
+      let c = without_sum (λ x. total (runs_of x)) d.name v.labels l d.ready.valid.differ d.it.same in
       let e = d.ready.limits.tracks_most in
       omega arith
 
-  third-small : l.slot3 < slots g
-  third-small = let a = ap slots d.geometry_is in let b = d.it.records.inside3 in omega arith
+  third_small : l.slot3 < slots g
+  third_small = let a = ap slots d.geometry_is in let b = d.it.records.inside3 in omega arith
 
-  pub slot3-inside : (x : Measured) → Measures g t k l x → x.slot3 < slots g
-  slot3-inside x y = let a = third-small in let b = y.stored.slot3 in omega arith
+  pub slot3_inside : (x : Measured) → Measures g t k l x → x.slot3 < slots g
+  slot3_inside x y = let a = third_small in let b = y.stored.slot3 in omega arith
 
 -- ---- what is known of it, by its label
 
 module _ {g : Geometry} {t : List ℕ} {k : ℕ} {l : Label} {x : Measured} (y : Measures g t k l x) where
-  pub slot-inside : k < slots g → x.slot < slots g
-  slot-inside u = let e = y.slot in omega arith
+  pub slot_inside : k < slots g → x.slot < slots g
+  slot_inside u = let e = y.slot in omega arith
 
-  pub tail-is : (keep : ℕ) {m m' : List ℕ} → GaveTail keep (measured_extents g t x) m m' → GaveTail keep l.extents m m'
-  tail-is keep {m} {m'} h = subst (λ (es : List Extent). GaveTail keep es m m') y.stored.extents h
+  pub tail_is : (keep : ℕ) {m m' : List ℕ} → GaveTail keep (measured_extents g t x) m m' → GaveTail keep l.extents m m'
+  tail_is keep {m} {m'} h = subst (λ (es : List Extent). GaveTail keep es m m') y.stored.extents h
 
-  pub stays-is : (keep n whole b start count : ℕ) → Stays x.unit keep (measured_extents g t x) n whole b start count
+  pub stays_is : (keep n whole b start count : ℕ) → Stays x.unit keep (measured_extents g t x) n whole b start count
       → Stays (unit_in l.unit) keep l.extents n whole b start count
-  stays-is keep n whole b start count h =
+  stays_is keep n whole b start count h =
       subst (λ (u : ℕ). Stays u keep l.extents n whole b start count) y.unit (subst (λ (es : List Extent). Stays x.unit keep es n whole b start count) y.stored.extents h)
 
   -- what `kept_of` asks, and what it gives
   pub all_there : (n : ℕ) → n ≤ x.tracks → n ≤ total (overs (measured_extents g t x))
   all_there n h = let a = y.spread.sum in let b = ap (λ (es : List Extent). total (overs es)) y.stored.extents in omega arith
 
-  pub kept-is : (ttr n : ℕ) → n ≡ tracks_kept g.heads x.unit ttr (tracks_of (overs (measured_extents g t x))) → n ≡ tracks_kept_of g ttr l
-  kept-is ttr n h = h ∙ ap₂ (λ (u : ℕ) (es : List Extent). tracks_kept g.heads u ttr (tracks_of (overs es))) y.unit y.stored.extents
+  pub kept_is : (ttr n : ℕ) → n ≡ tracks_kept g.heads x.unit ttr (tracks_of (overs (measured_extents g t x))) → n ≡ tracks_kept_of g ttr l
+  kept_is ttr n h = h ∙ ap₂ (λ (u : ℕ) (es : List Extent). tracks_kept g.heads u ttr (tracks_of (overs es))) y.unit y.stored.extents
 
-  pub kept-inside : 1 ≤ g.heads → (ttr n : ℕ) → ttr / 256 + 1 ≤ x.tracks → n ≡ tracks_kept g.heads x.unit ttr (tracks_of (overs (measured_extents g t x))) → n ≤ x.tracks
-  kept-inside pos ttr n fits h =
+  pub kept_inside : 1 ≤ g.heads → (ttr n : ℕ) → ttr / 256 + 1 ≤ x.tracks → n ≡ tracks_kept g.heads x.unit ttr (tracks_of (overs (measured_extents g t x))) → n ≤ x.tracks
+  kept_inside pos ttr n fits h =
       let es = measured_extents g t x in
       let a = y.spread.sum in
       let b = ap (λ (es : List Extent). total (overs es)) y.stored.extents in
-      let e = tracks-length (overs es) in
-      let w = (kept-within g.heads x.unit ttr (tracks_of (overs es)) pos (omega arith)).1 in
+      let e = tracks_length (overs es) in
+      let w = (kept_within g.heads x.unit ttr (tracks_of (overs es)) pos (omega arith)).1 in
       omega arith

@@ -9,7 +9,7 @@ use Rattle.rules.specs.Calls.{accept, answer, given_back, remove_set, settled}
 use Rattle.rules.specs.Entries.{lent, result_of, written}
 use Rattle.rules.specs.Slots.{settle, without}
 use Rattle.rules.specs.Ledger.{removes}
-use Rattle.rules.proofs.Changes.{remove-keeps}
+use Rattle.rules.proofs.Changes.{remove_keeps}
 use Rattle.rules.proofs.Kept.{Keeps}
 use Rattle.rules.specs.Predicates.{Valid}
 use Rattle.bitmap.specs.Map.{Shows}
@@ -17,9 +17,9 @@ use Rattle.bitmap.proofs.Held.{shows_same}
 use Rattle.check_label.specs.Marks.{units}
 use Rattle.set_extents.proofs.Laws.{none_kept}
 use Rattle.update.specs.Commit.{Drops, Leaves, Left, remains}
-use Rattle.update.proofs.Drop.{drop-full}
-use Rattle.update.proofs.Replies.{is-given-back, not-fitting}
-use Rattle.update.proofs.Sets.{held-apart, others-stay, shows-below, slots-inside, slots-once, slots-shown, used-apart}
+use Rattle.update.proofs.Drop.{drop_full}
+use Rattle.update.proofs.Replies.{is_given_back, not_fitting}
+use Rattle.update.proofs.Sets.{held_apart_lem, others_stay, shows_below, slots_inside, slots_once, slots_shown, used_apart}
 use Rattle.free_space.specs.Giving.{At, Measures, measured_extents}
 use Rattle.free_space.specs.declared.Leaving.{Leaving}
 use Rattle.free_space.specs.Going.{GoingPlans}
@@ -41,29 +41,29 @@ module _ {g : Geometry} {t m s : List ℕ} {k : ℕ} (d : At g t m s k) where
     abbrev y : Measures g t k l r.set
     y = x.measured
 
-    tracks-shown : Shows m' (tracks g) (held g others)
-    tracks-shown =
-        let a : Shows m (tracks v.geometry) (runs_of l ++ held v.geometry others) = shows_same m (tracks v.geometry) (held v.geometry v.labels) (runs_of l ++ held v.geometry others) (λ t u. held-apart v d.ready.valid d.name l d.it.same t) d.shown.free_tracks in
+    tracks_shown : Shows m' (tracks g) (held g others)
+    tracks_shown =
+        let a : Shows m (tracks v.geometry) (runs_of l ++ held v.geometry others) = shows_same m (tracks v.geometry) (held v.geometry v.labels) (runs_of l ++ held v.geometry others) (λ t u. held_apart_lem v d.ready.valid d.name l d.it.same t) d.shown.free_tracks in
         let b : Shows m (tracks g) (runs_of l ++ held g others) = subst (λ (y : Geometry). Shows m (tracks y) (runs_of l ++ held y others)) (sym d.geometry_is) a in
         let c : Shows m (tracks g) (overs (measured_extents g t r.set) ++ held g others) = subst (λ (es : List Extent). Shows m (tracks g) (overs es ++ held g others)) (sym y.stored.extents) b in
         none_kept g (measured_extents g t r.set) m m' y.stored.set.good x.tail (tracks g) (held g others) c
 
-    slots-free : Shows x.both_freed (slots g) (units (used others v.chain))
-    slots-free =
+    slots_free : Shows x.both_freed (slots g) (units (used others v.chain))
+    slots_free =
         let us = used others v.chain in
         let third = r.set.slot3 in
         let e : slots_of l ++ us ≡ one_slot k ++ (one_slot third ++ us) = ap₂ (λ (i j : ℕ). (one_slot i ++ one_slot j) ++ us) d.it.slot (sym y.stored.slot3) ∙ append_assoc (one_slot k) (one_slot third) us in
-        let a : Shows s (slots v.geometry) (units (slots_of l ++ us)) = slots-shown s (slots v.geometry) (used v.labels v.chain) (slots_of l ++ us) (λ i u. used-apart v d.ready.valid d.name l d.it.same i) d.shown.free_slots in
+        let a : Shows s (slots v.geometry) (units (slots_of l ++ us)) = slots_shown s (slots v.geometry) (used v.labels v.chain) (slots_of l ++ us) (λ i u. used_apart v d.ready.valid d.name l d.it.same i) d.shown.free_slots in
         let b : Shows s (slots g) (units (slots_of l ++ us)) = subst (λ (y : Geometry). Shows s (slots y) (units (slots_of l ++ us))) (sym d.geometry_is) a in
         x.third.freed (slots g) us (x.first.freed (slots g) (one_slot third ++ us) (subst (λ (w : List ℕ). Shows s (slots g) (units w)) e b))
 
     settle_is : settle v.geometry v.chain others 0 (λ ks. others) ≡ after
     settle_is = ap (λ (y : Geometry). settle y v.chain others 0 (λ ks. others)) (sym d.geometry_is)
 
-    stays-valid : (w : Volume) → after ≡ some w → Valid w
-    stays-valid w e =
+    stays_valid : (w : Volume) → after ≡ some w → Valid w
+    stays_valid w e =
         let q : remove_set v d.name l ≡ accept (given_back (total (runs_of l))) w = ap (settled (given_back (total (runs_of l)))) (settle_is ∙ e) in
-        let y : Keeps v (removes d.name) (accept (given_back (total (runs_of l))) w) = subst (Keeps v (removes d.name)) q (remove-keeps v d.ready.valid d.name l d.it.same) in
+        let y : Keeps v (removes d.name) (accept (given_back (total (runs_of l))) w) = subst (Keeps v (removes d.name)) q (remove_keeps v d.ready.valid d.name l d.it.same) in
         y.valid
 
     left : Left g t m' x.both_freed r.set.lowest r.set.slot r.set.slot3
@@ -76,26 +76,26 @@ module _ {g : Geometry} {t m s : List ℕ} {k : ℕ} (d : At g t m s k) where
           geometry_is = sym d.geometry_is;
           slot_is = y.slot ∙ sym d.it.slot;
           slot3_is = y.stored.slot3;
-          shown_tracks = tracks-shown;
+          shown_tracks = tracks_shown;
           low_in = y.spread.low_in;
           below =
-              shows-below g m' (tracks g) r.set.lowest v.labels (held g others) (runs_of l) [] y.spread.low_in
-              (λ i. subst (λ (y : Geometry). times i (held y v.labels) ≡ times i (runs_of l ++ held y others)) (sym d.geometry_is) (held-apart v d.ready.valid d.name l d.it.same i))
-              y.spread.lowest tracks-shown;
-          shown_slots = slots-free;
-          stays = others-stay v d.ready.valid d.name l d.it.same l refl refl;
-          slot_once = slots-once v d.ready.valid d.name l d.it.same l refl refl;
-          slot_in = subst (λ (y : Geometry). (i : ℕ) → slots y ≤ i → tally i (used (l ∷ others) v.chain) ≡ 0) (sym d.geometry_is) (slots-inside v d.ready.valid d.name l d.it.same l refl refl);
-          valid = stays-valid;
+              shows_below g m' (tracks g) r.set.lowest v.labels (held g others) (runs_of l) [] y.spread.low_in
+              (λ i. subst (λ (y : Geometry). times i (held y v.labels) ≡ times i (runs_of l ++ held y others)) (sym d.geometry_is) (held_apart_lem v d.ready.valid d.name l d.it.same i))
+              y.spread.lowest tracks_shown;
+          shown_slots = slots_free;
+          stays = others_stay v d.ready.valid d.name l d.it.same l refl refl;
+          slot_once = slots_once v d.ready.valid d.name l d.it.same l refl refl;
+          slot_in = subst (λ (y : Geometry). (i : ℕ) → slots y ≤ i → tally i (used (l ∷ others) v.chain) ≡ 0) (sym d.geometry_is) (slots_inside v d.ready.valid d.name l d.it.same l refl refl);
+          valid = stays_valid;
         }
 
     -- a is the answer before the call
-    removed-is : (a : List ℕ) → written (lent t a []) (settled (given_back (total (runs_of l))) after) ≡ written (lent t a []) (remove_set v d.name l)
-    removed-is a = sym (ap (λ (o : Option Volume). written (lent t a []) (settled (given_back (total (runs_of l))) o)) settle_is)
+    removed_is : (a : List ℕ) → written (lent t a []) (settled (given_back (total (runs_of l))) after) ≡ written (lent t a []) (remove_set v d.name l)
+    removed_is a = sym (ap (λ (o : Option Volume). written (lent t a []) (settled (given_back (total (runs_of l))) o)) settle_is)
 
     pub full : (a : List ℕ) → r.plan.fits ≡ false → result_of 11 (lent t a []) ≡ written (lent t a []) (remove_set v d.name l)
     unfolding left
-    full a h = not-fitting t a after (given_back (total (runs_of l))) (drop-full left x.plan h) ∙ removed-is a
+    full a h = not_fitting t a after (given_back (total (runs_of l))) (drop_full left x.plan h) ∙ removed_is a
 
     module _ (ok : r.plan.fits ≡ true) where
       -- what `write_drop` asks
@@ -106,4 +106,4 @@ module _ {g : Geometry} {t m s : List ℕ} {k : ℕ} (d : At g t m s k) where
       pub gone : (a t' a' : List ℕ) → ((z : Drops g t m' c r.plan r.set.slot r.set.slot3) → Leaves (remains z.left) t') → a' ≡ answer (given_back r.set.tracks)
           → result_of 0 (lent t' a' []) ≡ written (lent t a []) (remove_set v d.name l)
       unfolding left drops
-      gone a t' a' z e = is-given-back t a after (total (runs_of l)) t' a' (z drops) (e ∙ ap (λ (n : ℕ). answer (given_back n)) y.spread.sum) ∙ removed-is a
+      gone a t' a' z e = is_given_back t a after (total (runs_of l)) t' a' (z drops) (e ∙ ap (λ (n : ℕ). answer (given_back n)) y.spread.sum) ∙ removed_is a

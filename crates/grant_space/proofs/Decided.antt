@@ -20,12 +20,12 @@ use Rattle.request.proofs.Laws.{Fulfilled, accepted, refused}
 use Rattle.set_extents.specs.Change.{InRecords, SetIn, extents_in}
 use Rattle.update.specs.declared.Plan.{Plan}
 use Rattle.update.specs.Commit.{Leaves}
-use Rattle.update.proofs.Replies.{grant-foreseen, is-granted}
+use Rattle.update.proofs.Replies.{grant_foreseen, is_granted}
 use Rattle.grant_space.specs.declared.Holder.{Holder}
 use Rattle.grant_space.specs.declared.Decision.{Decision}
 use Rattle.grant_space.specs.Deciding.{Decides, Planned, Seeks, sought, with_pieces}
 use Rattle.grant_space.specs.Granting.{GrantPlans, GrantWrites, Grants, extents_then, first_start, grown, more}
-use Rattle.grant_space.proofs.Laws.{count-more, first_taken, grant-full, grant-there}
+use Rattle.grant_space.proofs.Laws.{count_more, first_taken, grant_full, grant_there}
 
 module _ {g : Geometry} {t m s : List ℕ} {h : Holder} {p : List (List ℕ)} (d : Seeks g t m s h p) where
   abbrev v : Volume
@@ -37,8 +37,8 @@ module _ {g : Geometry} {t m s : List ℕ} {h : Holder} {p : List (List ℕ)} (d
   abbrev chosen : Option (List Extent)
   chosen = grant v.geometry v.labels d.option d.amount
 
-  rule-with : (o : Option (List Extent)) → chosen ≡ o → sought d ≡ given o 9 (with_pieces v d.others l)
-  rule-with o e = ap (λ (x : Option (List Extent)). given x 9 (with_pieces v d.others l)) e
+  rule_with : (o : Option (List Extent)) → chosen ≡ o → sought d ≡ given o 9 (with_pieces v d.others l)
+  rule_with o e = ap (λ (x : Option (List Extent)). given x 9 (with_pieces v d.others l)) e
 
   -- refused: the answer stays as it was
   module _ (a m' c : List ℕ) (r : Decision) where
@@ -50,8 +50,8 @@ module _ {g : Geometry} {t m s : List ℕ} {h : Holder} {p : List (List ℕ)} (d
         }
 
   module _ (count sum : ℕ) (c : (count ≡ length (rows_in p)) × (sum ≡ total (rows_in p))) where
-    pub no-space : count ≡ 0 → sought d ≡ refuse 9
-    no-space z = rule-with _ (refused v d.ready.valid d.option d.amount d.asks p d.chosen count sum c z)
+    pub no_space : count ≡ 0 → sought d ≡ refuse 9
+    no_space z = rule_with _ (refused v d.ready.valid d.option d.amount d.asks p d.chosen count sum c z)
 
     module _ (nz : count ≡ 0 → ⊥) where
       it : Fulfilled v d.option d.amount count sum p
@@ -60,8 +60,8 @@ module _ {g : Geometry} {t m s : List ℕ} {h : Holder} {p : List (List ℕ)} (d
       pub count_most : count ≤ 5
       count_most = let a = it.number in let b = it.good.most in omega arith
 
-      pub sum-most : sum ≤ 65535
-      sum-most = let a = it.adds in let b = it.good.sum in let c = d.ready.limits.tracks_most in omega arith
+      pub sum_most : sum ≤ 65535
+      sum_most = let a = it.adds in let b = it.good.sum in let c = d.ready.limits.tracks_most in omega arith
 
       abbrev new : List Extent
       new = map (extent (type_of d.amount)) it.ps
@@ -69,15 +69,15 @@ module _ {g : Geometry} {t m s : List ℕ} {h : Holder} {p : List (List ℕ)} (d
       abbrev set : Holder
       set = record { slot = h.slot; slot3 = h.slot3; extents = h.extents; count = count; type_byte = h.type_byte; joins = h.joins }
 
-      pub count-least : 1 ≤ count
-      count-least = let a = it.number in let b = it.good.least in omega arith
+      pub count_least : 1 ≤ count
+      count_least = let a = it.number in let b = it.good.least in omega arith
 
-      joins-first : h.joins ≡ touches l.extents (first_start (take count p))
-      joins-first = d.joins_is ∙ ap (touches l.extents) (sym (first_taken count p count-least))
+      joins_first : h.joins ≡ touches l.extents (first_start (take count p))
+      joins_first = d.joins_is ∙ ap (touches l.extents) (sym (first_taken count p count_least))
 
       together : length (joined l.extents new) ≡ extents_then set
       together =
-          let a = count-more (type_of d.amount) l.extents it.ps (take count p) it.first it.good.least h.joins joins-first in
+          let a = count_more (type_of d.amount) l.extents it.ps (take count p) it.first it.good.least h.joins joins_first in
           let b = it.number in
           let c = d.extents_are in
           omega arith
@@ -85,14 +85,14 @@ module _ {g : Geometry} {t m s : List ℕ} {h : Holder} {p : List (List ℕ)} (d
       pub too_many : 16 < extents_then set → sought d ≡ refuse 10
       too_many u =
           let e : leb (length (joined l.extents new)) 16 ≡ false = lt-leb (length (joined l.extents new)) 16 (let w = together in omega arith) in
-          rule-with _ it.granted ∙ rw e
+          rule_with _ it.granted ∙ rw e
 
       module _ (fits : extents_then set ≤ 16) where
-        few-enough : length (joined l.extents new) ≤ 16
-        few-enough = let w = together in omega arith
+        few_enough : length (joined l.extents new) ≤ 16
+        few_enough = let w = together in omega arith
 
-        rule-done : sought d ≡ settled (granted (overs new)) (settle_with v d.others (longer new l))
-        rule-done = let e : leb (length (joined l.extents new)) 16 ≡ true = le-leb (length (joined l.extents new)) 16 few-enough in rule-with _ it.granted ∙ rw e
+        rule_done : sought d ≡ settled (granted (overs new)) (settle_with v d.others (longer new l))
+        rule_done = let e : leb (length (joined l.extents new)) 16 ≡ true = le-leb (length (joined l.extents new)) 16 few_enough in rule_with _ it.granted ∙ rw e
 
         label_eq : more h.type_byte it.ps l ≡ longer new l
         label_eq = ap (λ (b : ℕ). more b it.ps l) d.type_is
@@ -111,24 +111,24 @@ module _ {g : Geometry} {t m s : List ℕ} {h : Holder} {p : List (List ℕ)} (d
               slot3_is = d.slot3_is;
               extents_are = d.extents_are;
               few = d.few;
-              joins_is = joins-first;
+              joins_is = joins_first;
               good = it.good;
               rows_are = it.first;
               count_is = it.number;
               held_apart = d.held_apart;
               used_same = d.used_same;
               stays = d.stays;
-              valid = λ w e. d.valid new it.granted few-enough w (sym (ap (settle_with v d.others) label_eq) ∙ e);
+              valid = λ w e. d.valid new it.granted few_enough w (sym (ap (settle_with v d.others) label_eq) ∙ e);
             }
 
         outcome : settled (granted it.ps) (settle_with v d.others (more h.type_byte it.ps l)) ≡ sought d
         outcome =
-            ap₂ (λ (ps : List Run) (b : Label). settled (granted ps) (settle_with v d.others b)) (sym it.runs) label_eq ∙ sym rule-done
+            ap₂ (λ (ps : List Run) (b : Label). settled (granted ps) (settle_with v d.others b)) (sym it.runs) label_eq ∙ sym rule_done
 
         module _ {m' s' chain : List ℕ} {plan : Plan} (x : GrantPlans g t m m' s s' chain set (take count p) plan) where
           pub full : plan.fits ≡ false → sought d ≡ refuse 11
           unfolding grants
-          full e = sym outcome ∙ ap (settled (granted it.ps)) (grant-full grants x e)
+          full e = sym outcome ∙ ap (settled (granted it.ps)) (grant_full grants x e)
 
           -- the pieces are granted, and the change is planned
           pub done : plan.fits ≡ true → (a a' : List ℕ) → ((ps : List Run) → length ps ≡ count → total ps ≡ sum → take count p ≡ map row ps → a' ≡ answer (granted ps))
@@ -136,10 +136,10 @@ module _ {g : Geometry} {t m s : List ℕ} {h : Holder} {p : List (List ℕ)} (d
           unfolding grants
           done ok a a' y =
               let e : a' ≡ answer (granted it.ps) = y it.ps it.number it.adds it.first in
-              let w = grant-there grants x ok in
+              let w = grant_there grants x ok in
               record {
                 replied =
-                    grant-foreseen t a (grown grants) v w.0 d.ready.bytes w.1 a' it.ps e
+                    grant_foreseen t a (grown grants) v w.0 d.ready.bytes w.1 a' it.ps e
                     ∙ ap (λ (o : Outcome). written (lent t a []) (on_copy v o)) outcome;
                 planned = λ _.
                     record {
@@ -148,7 +148,7 @@ module _ {g : Geometry} {t m s : List ℕ} {h : Holder} {p : List (List ℕ)} (d
                       slot3_same = refl;
                       joins_same = refl;
                       extents_same = refl;
-                      least = count-least;
+                      least = count_least;
                       few = count_most;
                       most = fits;
                       grants = grants;
@@ -166,7 +166,7 @@ module _ {g : Geometry} {t m s : List ℕ} {h : Holder} {p : List (List ℕ)} (d
   pub declined : (r.refusal ≡ 0 → ⊥) → result_of r.refusal (lent t a' []) ≡ written (lent t a []) (sought d)
   declined nz = uncopied d.volume (lent t a []) (lent t a' []) r.refusal nz (sought d) x.replied
 
-  module _ (z : r.refusal ≡ 0) {f1 f3 : List ℕ} (recs : InRecords g d.label f1 f3) (set-in : SetIn g f1 f3 h.extents) (own : extents_in g f1 f3 h.extents ≡ d.label.extents) where
+  module _ (z : r.refusal ≡ 0) {f1 f3 : List ℕ} (recs : InRecords g d.label f1 f3) (set_in_lem : SetIn g f1 f3 h.extents) (own : extents_in g f1 f3 h.extents ≡ d.label.extents) where
     abbrev y : Planned d m' c a' r
     y = x.planned z
 
@@ -181,11 +181,11 @@ module _ {g : Geometry} {t m s : List ℕ} {h : Holder} {p : List (List ℕ)} (d
           plans = y.plans;
           fits = y.fits;
           records = subst (λ (k : Label). InRecords g k f1 f3) (sym y.label_is) recs;
-          set = subst (SetIn g f1 f3) (sym y.extents_same) set-in;
+          set = subst (SetIn g f1 f3) (sym y.extents_same) set_in_lem;
           extents = ap (extents_in g f1 f3) y.extents_same ∙ own ∙ ap (λ (k : Label). k.extents) (sym y.label_is);
         }
 
     pub put : (t' : List ℕ) → ((w : GrantWrites g t m' c r.plan r.set (take r.set.count p) f1 f3) → Leaves (grown w.grants) t')
         → result_of 0 (lent t' a' []) ≡ written (lent t a []) (sought d)
     unfolding writes
-    put t' w = is-granted t a _ y.grants.pieces t' a' (w writes) y.answered ∙ ap (written (lent t a [])) y.outcome
+    put t' w = is_granted t a _ y.grants.pieces t' a' (w writes) y.answered ∙ ap (written (lent t a [])) y.outcome

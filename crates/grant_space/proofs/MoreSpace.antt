@@ -18,23 +18,23 @@ use Rattle.rules.specs.Ledger.{appends}
 use Rattle.rules.specs.Reading.{read}
 use Rattle.rules.specs.Slots.{settle_with, without}
 use Rattle.rules.specs.Predicates.{Asks, GoodLabel, Limits, Valid}
-use Rattle.rules.proofs.Grants.{extend-keeps}
+use Rattle.rules.proofs.Grants.{extend_keeps}
 use Rattle.rules.proofs.Kept.{Keeps}
 use Rattle.rules.proofs.Previews.{copied}
 use Rattle.bitmap.specs.Map.{Shows}
 use Rattle.choose_pieces.specs.Grant.{grant_of}
 use Rattle.request.specs.Request.{pieces_of, type_of}
-use Rattle.request.proofs.Laws.{secondary-asks}
-use Rattle.set_extents.proofs.Laws.{secondary-is, unit-is}
+use Rattle.request.proofs.Laws.{secondary_asks}
+use Rattle.set_extents.proofs.Laws.{secondary_is, unit_is_lem}
 use Rattle.set_extents.specs.Change.{InRecords, SetIn, extents_in}
 use Rattle.data_set.specs.Held.{SetAt}
 use Rattle.data_set.proofs.Stored.{KnownSet, known}
 use Rattle.open_table.specs.Opening.{Ready}
 use Rattle.open_table.proofs.Laws.{ready}
 use Rattle.free_extents.specs.FreeList.{Listed}
-use Rattle.free_extents.proofs.Chain.{runs-listed}
-use Rattle.open_table.proofs.Lookup.{limits_of, table-long}
-use Rattle.update.proofs.Sets.{held-apart, others-stay, slots_same}
+use Rattle.free_extents.proofs.Chain.{runs_listed}
+use Rattle.open_table.proofs.Lookup.{limits_of, table_long}
+use Rattle.update.proofs.Sets.{held_apart_lem, others_stay, slots_same}
 use Rattle.update.specs.Commit.{Leaves}
 use Rattle.grant_space.specs.declared.Decision.{Decision}
 use Rattle.grant_space.specs.declared.Holder.{Holder}
@@ -51,8 +51,8 @@ module _ (f1 : List ℕ) (sec : ℕ) (es : sec ≡ get3 f1 95) (unit : ℕ) (eu 
   pub asks_none : sec ≡ 0 → AsksMore f1 8 q no_option
   asks_none z = record { none = λ _. (refl, sym es ∙ z); some = λ e. absurd (omega arith); amount_is = asked_is; option_is = refl }
 
-  pub asks-some : (sec ≡ 0 → ⊥) → AsksMore f1 0 q no_option
-  asks-some n = record { none = λ e. absurd (e refl); some = λ _. omega (arith, n); amount_is = asked_is; option_is = refl }
+  pub asks_some : (sec ≡ 0 → ⊥) → AsksMore f1 0 q no_option
+  asks_some n = record { none = λ e. absurd (e refl); some = λ _. omega (arith, n); amount_is = asked_is; option_is = refl }
 
 module _ {t m s a : List ℕ} {g : Geometry} {k : ℕ} (d : Longer t m s a g k) where
   abbrev v : Volume
@@ -67,14 +67,14 @@ module _ {t m s a : List ℕ} {g : Geometry} {k : ℕ} (d : Longer t m s a g k) 
   abbrev others : List Label
   others = without name v.labels
 
-  is-ready : Ready t v
-  is-ready = ready t d.is_taken
+  is_ready : Ready t v
+  is_ready = ready t d.is_taken
 
   pub limits : Limits g
   limits = limits_of t d.is_taken g d.geometry_is
 
   pub long : length t ≡ 140 * slots g
-  long = table-long t d.is_taken g d.geometry_is
+  long = table_long t d.is_taken g d.geometry_is
 
   pub inside : k < slots g
   inside = let x = d.there.records.inside in let y = d.there.slot in let z = ap slots d.geometry_is in omega arith
@@ -83,77 +83,77 @@ module _ {t m s a : List ℕ} {g : Geometry} {k : ℕ} (d : Longer t m s a g k) 
   shows = subst (λ (y : Geometry). Shows m (tracks y) (held y v.labels)) (sym d.geometry_is) d.shown.free_tracks
 
   -- the map is as long as it was
-  pub map-fits : (n : ℕ) → n ≡ length m → tracks g ≤ 64 * n
-  map-fits n e = let h = d.map_fits in omega arith
+  pub map_fits_lem : (n : ℕ) → n ≡ length m → tracks g ≤ 64 * n
+  map_fits_lem n e = let h = d.map_fits in omega arith
 
   pub lists : Listed g t (free g v.labels)
-  lists = subst (λ (y : Geometry). Listed y t (free y v.labels)) (sym d.geometry_is) (runs-listed t v is-ready.sound)
+  lists = subst (λ (y : Geometry). Listed y t (free y v.labels)) (sym d.geometry_is) (runs_listed t v is_ready.sound)
 
   good : GoodLabel g l
   good = subst (λ (y : Geometry). GoodLabel y l) (sym d.geometry_is) d.there.records.good
 
-  held-there : (j : ℕ) → times j (held g v.labels) ≡ times j (runs_of l ++ held g others)
-  held-there =
+  held_there : (j : ℕ) → times j (held g v.labels) ≡ times j (runs_of l ++ held g others)
+  held_there =
       subst (λ (y : Geometry). (j : ℕ) → times j (held y v.labels) ≡ times j (runs_of l ++ held y others)) (sym d.geometry_is)
-      (held-apart v is-ready.valid name l d.there.same)
+      (held_apart_lem v is_ready.valid name l d.there.same)
 
   module _ {one three : List ℕ} {count third : ℕ} (x : SetAt g t k one three count third) where
     it : KnownSet g l one three count third
-    it = known t v is-ready name k d.there one three count third g d.geometry_is x
+    it = known t v is_ready name k d.there one three count third g d.geometry_is x
 
-    pub third-inside : third < slots g
-    third-inside = x.inside
+    pub third_inside : third < slots g
+    third_inside = x.inside
 
-    pub known-set : SetIn g one three count
-    known-set = it.set
+    pub known_set : SetIn g one three count
+    known_set = it.set
 
-    pub one-long : length one ≡ 140
-    one-long = it.set.long1
+    pub one_long : length one ≡ 140
+    one_long = it.set.long1
 
-    pub three-long : length three ≡ 140
-    three-long = it.set.long3
+    pub three_long : length three ≡ 140
+    three_long = it.set.long3
 
-    pub extents-most : count ≤ 16
-    extents-most = let a = it.many in let b = good.most in omega arith
+    pub extents_most : count ≤ 16
+    extents_most = let a = it.many in let b = good.most in omega arith
 
-    sec-is : get3 one 95 ≡ l.secondary
-    sec-is = secondary-is g l good one three it.records.one.bytes it.set.long3 (λ _. it.records.three)
+    sec_is : get3 one 95 ≡ l.secondary
+    sec_is = secondary_is g l good one three it.records.one.bytes it.set.long3 (λ _. it.records.three)
 
     module _ {no : ℕ} {q : Amount} {o : SpaceOption} (more : AsksMore one no q o) where
-      pub no-secondary : (no ≡ 0 → ⊥) → Extended d no t a
-      no-secondary nz =
+      pub no_secondary : (no ≡ 0 → ⊥) → Extended d no t a
+      no_secondary nz =
           let n = more.none nz in
-          let e : leb 1 l.secondary ≡ false = lt-leb 1 l.secondary (let i = sec-is in let j = n.1 in omega arith) in
+          let e : leb 1 l.secondary ≡ false = lt-leb 1 l.secondary (let i = sec_is in let j = n.1 in omega arith) in
           ap (λ (k : ℕ). result_of k (lent t a [])) n.0 ∙ rw e
 
-      pub no-secondary-foreseen : (no ≡ 0 → ⊥) → ExtendForeseen d no a
-      no-secondary-foreseen nz = copied v (lent t a []) (lent t a []) no nz (extend_set v name l) (no-secondary nz)
+      pub no_secondary_foreseen : (no ≡ 0 → ⊥) → ExtendForeseen d no a
+      no_secondary_foreseen nz = copied v (lent t a []) (lent t a []) no nz (extend_set v name l) (no_secondary nz)
 
       module _ (z : no ≡ 0) where
-        amount-is : q ≡ secondary_of l
-        amount-is =
+        amount_is_lem : q ≡ secondary_of l
+        amount_is_lem =
             more.amount_is
             ∙ ap₂ (λ (u n : ℕ). cond (eqb u 0xC0) (in_cylinders n) (in_tracks n))
-            (unit-is g l good one three it.records.one.bytes it.set.long3 (λ _. it.records.three)) sec-is
+            (unit_is_lem g l good one three it.records.one.bytes it.set.long3 (λ _. it.records.three)) sec_is
 
         pub asks : Asks g q
-        asks = subst (Asks g) (sym more.amount_is) (secondary-asks g (get_or one 94 0) (get3 one 95) (more.some z))
+        asks = subst (Asks g) (sym more.amount_is) (secondary_asks g (get_or one 94 0) (get3 one 95) (more.some z))
 
         abbrev chosen : Option (List Extent)
         chosen = granting v.geometry v.labels o q
 
-        rule-is : extend_set v name l ≡ given chosen 9 (with_pieces v others l)
-        rule-is =
-            let e : leb 1 l.secondary ≡ true = le-leb 1 l.secondary (let i = sec-is in let w = more.some z in omega arith) in
-            rw e (ap₂ (λ (x : SpaceOption) (y : Amount). given (granting v.geometry v.labels x y) 9 (extend_pieces v name l)) (sym more.option_is) (sym amount-is))
+        rule_is : extend_set v name l ≡ given chosen 9 (with_pieces v others l)
+        rule_is =
+            let e : leb 1 l.secondary ≡ true = le-leb 1 l.secondary (let i = sec_is in let w = more.some z in omega arith) in
+            rw e (ap₂ (λ (x : SpaceOption) (y : Amount). given (granting v.geometry v.labels x y) 9 (extend_pieces v name l)) (sym more.option_is) (sym amount_is_lem))
 
-        new-valid : (es : List Extent) → chosen ≡ some es → length (joined l.extents es) ≤ 16
+        new_valid : (es : List Extent) → chosen ≡ some es → length (joined l.extents es) ≤ 16
             → (w : Volume) → settle_with v others (longer es l) ≡ some w → Valid w
-        new-valid es c u w e =
+        new_valid es c u w e =
             let few : leb (length (joined l.extents es)) 16 ≡ true = le-leb (length (joined l.extents es)) 16 u in
             let done : with_pieces v others l es ≡ accept (granted (overs es)) w = rw (few, e) in
-            (subst (Keeps v (appends name)) (rule-is ∙ ap (λ (x : Option (List Extent)). given x 9 (with_pieces v others l)) c ∙ done)
-            (extend-keeps v is-ready.valid name l d.there.same)).valid
+            (subst (Keeps v (appends name)) (rule_is ∙ ap (λ (x : Option (List Extent)). given x 9 (with_pieces v others l)) c ∙ done)
+            (extend_keeps v is_ready.valid name l d.there.same)).valid
 
         module _ {p : List (List ℕ)} (f : (ls : List Label) → Shows m (tracks g) (held g ls) → Listed g t (free g ls) → p ≡ grant_of (pieces_of g ls o q))
             {joins : Bool} (jo : joins ≡ touches (extents_in g one three count) (first_start p)) (h : Holder) (eh : (h.slot ≡ k) × (h.slot3 ≡ third) × (h.extents ≡ count) × (h.joins ≡ joins) × (h.type_byte ≡ type_of q)) where
@@ -165,7 +165,7 @@ module _ {t m s a : List ℕ} {g : Geometry} {k : ℕ} (d : Longer t m s a g k) 
                 label = l;
                 option = o;
                 amount = q;
-                ready = is-ready;
+                ready = is_ready;
                 geometry_is = sym d.geometry_is;
                 shown = d.shown;
                 slot_is = eh.0 ∙ sym d.there.slot;
@@ -176,28 +176,28 @@ module _ {t m s a : List ℕ} {g : Geometry} {k : ℕ} (d : Longer t m s a g k) 
                 asks = subst (λ (y : Geometry). Asks y q) d.geometry_is asks;
                 type_is = eh.4;
                 chosen = f v.labels shows lists ∙ ap (λ (y : Geometry). grant_of (pieces_of y v.labels o q)) d.geometry_is;
-                held_apart = held-there;
-                used_same = slots_same v is-ready.valid name l d.there.same l refl refl;
-                stays = others-stay v is-ready.valid name l d.there.same l refl refl;
-                valid = new-valid;
+                held_apart = held_there;
+                used_same = slots_same v is_ready.valid name l d.there.same l refl refl;
+                stays = others_stay v is_ready.valid name l d.there.same l refl refl;
+                valid = new_valid;
               }
 
-          volume-is : seeks.volume ≡ v
+          volume_is : seeks.volume ≡ v
           unfolding seeks
-          volume-is = refl
+          volume_is = refl
 
-          sought-is : sought seeks ≡ extend_set v name l
+          sought_is : sought seeks ≡ extend_set v name l
           unfolding seeks
-          sought-is = sym rule-is
+          sought_is = sym rule_is
 
           -- ---- what is decided, and what is written
 
           module _ {m' c a' : List ℕ} {r : Decision} (y : (u : Seeks g t m s h p) → Decides u a m' c a' r) where
             pub foreseen : ExtendForeseen d r.refusal a'
-            foreseen = (y seeks).replied ∙ ap₂ (λ (w : Volume) (u : Outcome). written (lent t a []) (on_copy w u)) volume-is sought-is
+            foreseen = (y seeks).replied ∙ ap₂ (λ (w : Volume) (u : Outcome). written (lent t a []) (on_copy w u)) volume_is sought_is
 
             pub declines : (r.refusal ≡ 0 → ⊥) → Extended d r.refusal t a'
-            declines nz = declined seeks (y seeks) nz ∙ ap (written (lent t a [])) sought-is
+            declines nz = declined seeks (y seeks) nz ∙ ap (written (lent t a [])) sought_is
 
             module _ (rz : r.refusal ≡ 0) where
               pub planned : Planned seeks m' c a' r
@@ -207,16 +207,16 @@ module _ {t m s a : List ℕ} {g : Geometry} {k : ℕ} (d : Longer t m s a g k) 
               unfolding seeks
               records = it.records
 
-              set-in : SetIn g one three h.extents
-              set-in = subst (SetIn g one three) (sym eh.2) it.set
+              set_in_lem : SetIn g one three h.extents
+              set_in_lem = subst (SetIn g one three) (sym eh.2) it.set
 
               own : extents_in g one three h.extents ≡ seeks.label.extents
               unfolding seeks
               own = ap (extents_in g one three) eh.2 ∙ it.extents
 
               -- what `write_grant` asks
-              pub grant-writes : GrantWrites g t m' c r.plan r.set (take r.set.count p) one three
-              grant-writes = writes seeks (y seeks) rz records set-in own
+              pub grant_writes_lem : GrantWrites g t m' c r.plan r.set (take r.set.count p) one three
+              grant_writes_lem = writes seeks (y seeks) rz records set_in_lem own
 
               pub lengthened : (t' : List ℕ) → ((w : GrantWrites g t m' c r.plan r.set (take r.set.count p) one three) → Leaves (grown w.grants) t') → Extended d 0 t' a'
-              lengthened t' w = put seeks (y seeks) rz records set-in own t' w ∙ ap (written (lent t a [])) sought-is
+              lengthened t' w = put seeks (y seeks) rz records set_in_lem own t' w ∙ ap (written (lent t a [])) sought_is

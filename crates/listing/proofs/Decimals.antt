@@ -11,13 +11,13 @@ use Rattle.rows.specs.Text.{Written}
 use Rattle.rows.proofs.Text.{then}
 use Rattle.listing.specs.Text.{digit}
 
-pub digit-none : (u v : ℕ) → v < u → digit u v ≡ []
+pub digit_none : (u v : ℕ) → v < u → digit u v ≡ []
 unfolding digit
-digit-none u v h = rw (lt-ltb v u h)
+digit_none u v h = rw (lt-ltb v u h)
 
-pub digit-one : (u v : ℕ) → u ≤ v → digit u v ≡ (0x30 + v / u % 10) ∷ []
+pub digit_one : (u v : ℕ) → u ≤ v → digit u v ≡ (0x30 + v / u % 10) ∷ []
 unfolding digit
-digit-one u v h = rw (le-ltb v u h)
+digit_one u v h = rw (le-ltb v u h)
 
 -- five digits at most, those of the units that are not above v
 pub digits : (v : ℕ) → v < 100000 → digit 10000 v ++ (digit 1000 v ++ (digit 100 v ++ (digit 10 v ++ ((0x30 + v % 10) ∷ [])))) ≡ decimal v
@@ -29,21 +29,21 @@ digits v h =
     (elim (dec_le 10 v) [
       | no k ↦
           let x : v < 10 = lt_of_not-le k in
-          rw (digit-none 10000 v (omega arith), digit-none 1000 v (omega arith), digit-none 100 v (omega arith), digit-none 10 v x, lt-ltb v 10 x)
-      | yes k ↦ rw (digit-one 10 v k, le-ltb v 10 k)
+          rw (digit_none 10000 v (omega arith), digit_none 1000 v (omega arith), digit_none 100 v (omega arith), digit_none 10 v x, lt-ltb v 10 x)
+      | yes k ↦ rw (digit_one 10 v k, le-ltb v 10 k)
           (elim (dec_le 100 v) [
             | no l ↦
                 let x : v < 100 = lt_of_not-le l in
-                rw (digit-none 10000 v (omega arith), digit-none 1000 v (omega arith), digit-none 100 v x, lt-ltb (v / 10) 10 (omega arith))
-            | yes l ↦ rw (digit-one 100 v l, le-ltb (v / 10) 10 (omega arith))
+                rw (digit_none 10000 v (omega arith), digit_none 1000 v (omega arith), digit_none 100 v x, lt-ltb (v / 10) 10 (omega arith))
+            | yes l ↦ rw (digit_one 100 v l, le-ltb (v / 10) 10 (omega arith))
                 (elim (dec_le 1000 v) [
                   | no m ↦
                       let x : v < 1000 = lt_of_not-le m in
-                      rw (digit-none 10000 v (omega arith), digit-none 1000 v x, lt-ltb (v / 100) 10 (omega arith))
-                  | yes m ↦ rw (digit-one 1000 v m, le-ltb (v / 100) 10 (omega arith))
+                      rw (digit_none 10000 v (omega arith), digit_none 1000 v x, lt-ltb (v / 100) 10 (omega arith))
+                  | yes m ↦ rw (digit_one 1000 v m, le-ltb (v / 100) 10 (omega arith))
                       (elim (dec_le 10000 v) [
-                        | no n ↦ let x : v < 10000 = lt_of_not-le n in rw (digit-none 10000 v x, lt-ltb (v / 1000) 10 (omega arith))
-                        | yes n ↦ rw (digit-one 10000 v n, le-ltb (v / 1000) 10 (omega arith), lt-ltb (v / 10000) 10 (omega arith))
+                        | no n ↦ let x : v < 10000 = lt_of_not-le n in rw (digit_none 10000 v x, lt-ltb (v / 1000) 10 (omega arith))
+                        | yes n ↦ rw (digit_one 10000 v n, le-ltb (v / 1000) 10 (omega arith), lt-ltb (v / 10000) 10 (omega arith))
                       ])
                 ])
           ])

@@ -15,29 +15,29 @@ use Rattle.rules.specs.Listing.{data_line, free_line, listing, listing_of, refus
 use Rattle.rules.specs.Reading.{read}
 use Rattle.rules.specs.Table.{good_length, taken, valid}
 use Rattle.rules.proofs.Keyed.{count}
-use Rattle.rules.proofs.LabelBack.{length-1}
+use Rattle.rules.proofs.LabelBack.{length_1}
 use Rattle.rules.proofs.Taken.{taken_is}
 use Rattle.rules.specs.Predicates.{Limits, Valid}
 use Rattle.rules.specs.Sound.{LabelOk, Sound}
-use Rattle.rules.proofs.Meaning.{records_of, taken-sound}
+use Rattle.rules.proofs.Meaning.{records_of, taken_sound}
 use Rattle.bitmap.specs.Map.{free_from}
 use Rattle.dscb.specs.Forms.{linked_slot}
 use Rattle.dscb.specs.Records.{slot_bytes}
 use Rattle.dscb.specs.Tests.{slot_named}
-use Rattle.dscb.proofs.Links.{slot-found, slot-none}
-use Rattle.dscb.proofs.Records.{chop-slot, length-chop}
-use Rattle.dscb.proofs.Written.{link1-back}
+use Rattle.dscb.proofs.Links.{slot_found, slot_none}
+use Rattle.dscb.proofs.Records.{chop_slot, length_chop}
+use Rattle.dscb.proofs.Written.{link1_back}
 use Rattle.check_table.specs.Labels.{labels_below}
 use Rattle.rows.specs.Text.{Written}
 use Rattle.rows.proofs.Text.{then}
 use Rattle.listing.specs.Text.{volume_text}
-use Rattle.listing.proofs.Extents.{good-proper, tracks-most}
-use Rattle.listing.proofs.Volumes.{volume-text}
+use Rattle.listing.proofs.Extents.{good_proper, tracks_most_lem}
+use Rattle.listing.proofs.Volumes.{volume_text_lem}
 use Rattle.check_table.specs.Check.{Shown, TellsVolume, volume_at}
-use Rattle.check_table.proofs.Free.{free-shown}
-use Rattle.check_table.proofs.Pieces.{in_table, third-below}
-use Rattle.check_table.proofs.Read.{volume-is}
-use Rattle.check_table.proofs.Whole.{geometry-read, taken-long}
+use Rattle.check_table.proofs.Free.{free_shown}
+use Rattle.check_table.proofs.Pieces.{in_table, third_below}
+use Rattle.check_table.proofs.Read.{volume_is}
+use Rattle.check_table.proofs.Whole.{geometry_read, taken_long}
 use Rattle.listing.specs.Whole.{Listable, ReadyToList}
 use Rattle.listing.proofs.Passes.{reads, widen}
 
@@ -48,25 +48,25 @@ all_two P Q R f [] a b = tt
 all_two P Q R f (x ∷ xs) a b = (f x a.0 b.0, all_two P Q R f xs a.1 b.1)
 
 -- the slot of a label's format 3 is the one that its format 1 is linked to
-linked-so : (g : Geometry) (t : List ℕ) (l : Label) → Limits g → length (records_of t) ≡ slots g → LabelOk g (records_of t) l → linked_slot g (slot_bytes t l.slot) ≡ l.slot3
-linked-so g t l lim many x =
+linked_so : (g : Geometry) (t : List ℕ) (l : Label) → Limits g → length (records_of t) ≡ slots g → LabelOk g (records_of t) l → linked_slot g (slot_bytes t l.slot) ≡ l.slot3
+linked_so g t l lim many x =
     let rs = records_of t in
-    let long = length-chop (length t / 140) t in
+    let long = length_chop (length t / 140) t in
     let least = lim.least in
-    let a = in_table rs l.slot (ap length (sym x.one) ∙ length-1 g l x.good) in
-    let b = third-below g rs l (omega arith) x in
-    ap (λ (r : List ℕ). linked_slot g r) (sym (x.one ∙ chop-slot (length t / 140) t l.slot (omega arith)))
-    ∙ ap (λ (y : List ℕ). slot_named g.heads g.records g.vtoc_start (slots g) y) (link1-back g l x.good)
+    let a = in_table rs l.slot (ap length (sym x.one) ∙ length_1 g l x.good) in
+    let b = third_below g rs l (omega arith) x in
+    ap (λ (r : List ℕ). linked_slot g r) (sym (x.one ∙ chop_slot (length t / 140) t l.slot (omega arith)))
+    ∙ ap (λ (y : List ℕ). slot_named g.heads g.records g.vtoc_start (slots g) y) (link1_back g l x.good)
     ∙ named l.slot3 (omega arith)
   where
     named : (k : ℕ) → k < slots g → slot_named g.heads g.records g.vtoc_start (slots g) (link g k) ≡ k
-    named zero u = slot-none g.heads g.records g.vtoc_start (slots g)
-    named (suc k) u = slot-found g (slots g) (link g (suc k)) lim.heads lim.records (suc k) (omega arith) u refl
+    named zero u = slot_none g.heads g.records g.vtoc_start (slots g)
+    named (suc k) u = slot_found g (slots g) (link g (suc k)) lim.heads lim.records (suc k) (omega arith) u refl
 
 module _ (g : Geometry) (t m s : List ℕ) (len : length t ≡ 140 * slots g) (v : read t ≡ volume_at g t) (valid : Valid (volume_at g t)) (sound : Sound (records_of t) (volume_at g t)) (shown : Shown (volume_at g t) m s)
     (count top : ℕ) (tells : TellsVolume (volume_at g t) g count top) where
-  ready-so : ReadyToList g count t m
-  ready-so =
+  ready_so : ReadyToList g count t m
+  ready_so =
       let rs = records_of t in
       record {
         limits = sound.limits;
@@ -77,54 +77,54 @@ module _ (g : Geometry) (t m s : List ℕ) (len : length t ≡ 140 * slots g) (v
             (λ l x y.
             record {
               most = x.good.most;
-              proper = good-proper g sound.limits l x.good;
+              proper = good_proper g sound.limits l x.good;
               tracks = y;
-              linked = linked-so g t l sound.limits sound.many x;
+              linked = linked_so g t l sound.limits sound.many x;
             })
-            (labels_below g t (slots g)) sound.labels (tracks-most (volume_at g t) valid);
-        free_tracks = free-shown (volume_at g t) m s shown;
+            (labels_below g t (slots g)) sound.labels (tracks_most_lem (volume_at g t) valid);
+        free_tracks = free_shown (volume_at g t) m s shown;
         count_is = tells.count_is;
         count_most = tells.count_most;
       }
 
-pub ready-to-list : (t m s : List ℕ) (g : Geometry) (count top : ℕ) → T (taken t) → Shown (read t) m s → TellsVolume (read t) g count top → ReadyToList g count t m
-ready-to-list t m s g count top x w tells =
+pub ready_to_list : (t m s : List ℕ) (g : Geometry) (count top : ℕ) → T (taken t) → Shown (read t) m s → TellsVolume (read t) g count top → ReadyToList g count t m
+ready_to_list t m s g count top x w tells =
     let p = taken_is t x in
-    let y = taken-sound t x in
-    let l = taken-long t x in
+    let y = taken_sound t x in
+    let l = taken_long t x in
     let n = y.limits.least in
     let q : g ≡ (read t).geometry = tells.geometry_is in
     let z : slots g ≡ slots (read t).geometry = ap slots q in
     let len : length t ≡ 140 * slots g = omega arith in
-    let v : read t ≡ volume_at g t = volume-is g t len (omega arith) (q ∙ geometry-read t (omega arith)) in
-    ready-so g t m s len v (subst Valid v p.0) (subst (Sound (records_of t)) v y) (subst (λ (u : Volume). Shown u m s) v w) count top
+    let v : read t ≡ volume_at g t = volume_is g t len (omega arith) (q ∙ geometry_read t (omega arith)) in
+    ready_so g t m s len v (subst Valid v p.0) (subst (Sound (records_of t)) v y) (subst (λ (u : Volume). Shown u m s) v w) count top
     (subst (λ (u : Volume). TellsVolume u g count top) v tells)
 
 -- ---- its listing
 
 module _ (g : Geometry) (count : ℕ) (t m : List ℕ) (h : ReadyToList g count t m) where
-  pub whole-written : {a b d r : ℕ} {o o₁ o₂ o₃ o₄ : List ℕ} (n : ℕ) → n ≡ tracks g
+  pub whole_written : {a b d r : ℕ} {o o₁ o₂ o₃ o₄ : List ℕ} (n : ℕ) → n ≡ tracks g
       → Written 0 (volume_text g.cylinders g.heads) 64 o o₁ a
       → Written a (flat data_line (labels_below g t (slots g))) 29952 o₁ o₂ b
       → Written b (flat free_line (free_from m n 0)) (14 * n) o₂ o₃ d
       → Written d (slot_line count) 64 o₃ o₄ r → Written 0 (listing_of (read t)) 1000000 o o₄ r
-  whole-written n all v w x y =
+  whole_written n all v w x y =
       let top = h.limits.tracks_most in
       reads (listing_of (read t)) (ap listing_of (sym h.volume))
       (widen 1000000 (omega arith)
-      (then (then (then (reads (volume_line g) (volume-text g) v) w) (reads (flat free_line (free g (labels_below g t (slots g)))) (ap (flat free_line) (ap (λ (k : ℕ). free_from m k 0) all ∙ h.free_tracks)) x))
+      (then (then (then (reads (volume_line g) (volume_text_lem g) v) w) (reads (flat free_line (free g (labels_below g t (slots g)))) (ap (flat free_line) (ap (λ (k : ℕ). free_from m k 0) all ∙ h.free_tracks)) x))
       (reads (slot_line (length (format0s (volume_at g t)))) (ap slot_line h.count_is) y)))
 
 -- ---- refused or not
 
-pub list-wrong-length : (t : List ℕ) → good_length t ≡ false → refusal_line 2 ≡ listing t
+pub list_wrong_length : (t : List ℕ) → good_length t ≡ false → refusal_line 2 ≡ listing t
 unfolding listing
-list-wrong-length t h = rw h
+list_wrong_length t h = rw h
 
 pub not_taken : (t : List ℕ) → good_length t ≡ true → taken t ≡ false → refusal_line 3 ≡ listing t
 unfolding listing
 not_taken t h k = rw (h, k)
 
-pub is-taken : (t : List ℕ) → good_length t ≡ true → taken t ≡ true → listing_of (read t) ≡ listing t
+pub is_taken_lem : (t : List ℕ) → good_length t ≡ true → taken t ≡ true → listing_of (read t) ≡ listing t
 unfolding listing
-is-taken t h k = rw (h, k)
+is_taken_lem t h k = rw (h, k)

@@ -15,30 +15,30 @@ use Rattle.model.specs.Basics.{up_from}
 use Rattle.model.specs.Model.{Run, total}
 use Rattle.model.specs.Predicates.{StaysOf, kept_from, room}
 use Rattle.model.specs.Tracks.{follows, goes_on, tracks_kept, tracks_of}
-use Rattle.model.proofs.Lists.{and_l, and_r, by, clash, length-up_from, true-is}
+use Rattle.model.proofs.Lists.{and_l, and_r, by, clash, length_up_from, true_is}
 
-pub tracks-length : (rs : List Run) → length (tracks_of rs) ≡ total rs
-tracks-length [] = refl
-tracks-length (r ∷ rs) =
-    let i = tracks-length rs in
+pub tracks_length : (rs : List Run) → length (tracks_of rs) ≡ total rs
+tracks_length [] = refl
+tracks_length (r ∷ rs) =
+    let i = tracks_length rs in
     let a = length-append (up_from r.start r.count) (tracks_of rs) in
-    let b = length-up_from r.start r.count in
+    let b = length_up_from r.start r.count in
     omega arith
 
 -- ---- bounds
 
-more-or-none : (b : Bool) (m n : ℕ) → m ≤ n → cond b (suc m) 0 ≤ suc n
-more-or-none true m n u = omega arith
-more-or-none false m n u = omega arith
+more_or_none : (b : Bool) (m n : ℕ) → m ≤ n → cond b (suc m) 0 ≤ suc n
+more_or_none true m n u = omega arith
+more_or_none false m n u = omega arith
 
-goes-most : (h t : ℕ) (ts : List ℕ) → goes_on h t ts ≤ length ts
-goes-most h t [] = omega arith
-goes-most h t (s ∷ ts) = more-or-none (follows h t s) (goes_on h s ts) (length ts) (goes-most h s ts)
+goes_most : (h t : ℕ) (ts : List ℕ) → goes_on h t ts ≤ length ts
+goes_most h t [] = omega arith
+goes_most h t (s ∷ ts) = more_or_none (follows h t s) (goes_on h s ts) (length ts) (goes_most h s ts)
 
-kept-most : (h k t : ℕ) (ts : List ℕ) → kept_from h k t ts ≤ length ts
-kept-most h k t [] = omega arith
-kept-most h zero t (s ∷ ts) = goes-most h t (s ∷ ts)
-kept-most h (suc k) t (s ∷ ts) = let i = kept-most h k s ts in omega arith
+kept_most : (h k t : ℕ) (ts : List ℕ) → kept_from h k t ts ≤ length ts
+kept_most h k t [] = omega arith
+kept_most h zero t (s ∷ ts) = goes_most h t (s ∷ ts)
+kept_most h (suc k) t (s ∷ ts) = let i = kept_most h k s ts in omega arith
 
 module _ (h : ℕ) (pos : 1 ≤ h) where
   -- ---- one track further
@@ -53,8 +53,8 @@ module _ (h : ℕ) (pos : 1 ≤ h) where
       (sym (ap (λ (y : ℕ). y % h) e) ∙ digits_mod (s / h) u, sym (ap (λ (y : ℕ). y / h) e) ∙ digits_div (s / h) u)
 
   -- in the next one
-  step-out : (s : ℕ) → h ≤ suc (s % h) → (suc s % h ≡ 0) × (suc s / h ≡ suc (s / h))
-  step-out s u =
+  step_out : (s : ℕ) → h ≤ suc (s % h) → (suc s % h ≡ 0) × (suc s / h ≡ suc (s / h))
+  step_out s u =
       let l : s % h < h = mod-lt s pos in
       let m = suc-mul (s / h) h in
       let e : suc (s / h) * h + 0 ≡ suc s = let x = split s in omega arith in
@@ -62,42 +62,42 @@ module _ (h : ℕ) (pos : 1 ≤ h) where
 
   -- ---- room in the cylinder
 
-  pub room-none : (s : ℕ) → s % h ≡ 0 → room h s ≡ 0
+  pub room_none : (s : ℕ) → s % h ≡ 0 → room h s ≡ 0
   unfolding room
-  room-none s e = rw e
+  room_none s e = rw e
 
-  pub room-some : (s : ℕ) → (s % h ≡ 0 → ⊥) → room h s ≡ h - s % h
+  pub room_some : (s : ℕ) → (s % h ≡ 0 → ⊥) → room h s ≡ h - s % h
   unfolding room
-  room-some s n = go (s % h) refl
+  room_some s n = go (s % h) refl
     where
       go : (o : ℕ) → s % h ≡ o → room h s ≡ h - s % h
       go zero e = absurd (n e)
       go (suc o) e = rw e
 
-  room-step : (s : ℕ) → (s % h ≡ 0 → ⊥) → room h s ≡ suc (room h (suc s))
-  room-step s n =
+  room_step : (s : ℕ) → (s % h ≡ 0 → ⊥) → room h s ≡ suc (room h (suc s))
+  room_step s n =
       let l : s % h < h = mod-lt s pos in
-      let a = room-some s n in
+      let a = room_some s n in
       by (leb h (suc (s % h)))
-      (λ u. let v : h ≤ suc (s % h) = leb-true _ _ u in let b = room-none (suc s) (step-out s v).0 in omega arith)
+      (λ u. let v : h ≤ suc (s % h) = leb-true _ _ u in let b = room_none (suc s) (step_out s v).0 in omega arith)
       (λ u.
       let v : suc (s % h) < h = leb-false _ _ u in
       let x = (step_in s v).0 in
-      let b = room-some (suc s) (λ z. absurd (omega arith)) in
+      let b = room_some (suc s) (λ z. absurd (omega arith)) in
       omega arith)
 
   -- behind it a cylinder begins
-  room-ends : (s : ℕ) → (s + room h s) % h ≡ 0
-  room-ends s =
+  room_ends : (s : ℕ) → (s + room h s) % h ≡ 0
+  room_ends s =
       by (eqb (s % h) 0)
       (λ e.
       let z : s % h ≡ 0 = eqb-true _ _ e in
-      let q : s + room h s ≡ s = let r = room-none s z in omega arith in
+      let q : s + room h s ≡ s = let r = room_none s z in omega arith in
       ap (λ (y : ℕ). y % h) q ∙ z)
       (λ e.
       let l : s % h < h = mod-lt s pos in
       let m = suc-mul (s / h) h in
-      let q : s + room h s ≡ suc (s / h) * h = let r = room-some s (eqb-false _ _ e) in let x = split s in omega arith in
+      let q : s + room h s ≡ suc (s / h) * h = let r = room_some s (eqb-false _ _ e) in let x = split s in omega arith in
       ap (λ (y : ℕ). y % h) q ∙ mul-mod_left (suc (s / h)) h)
 
   -- ---- a run that goes on from track t
@@ -105,45 +105,45 @@ module _ (h : ℕ) (pos : 1 ≤ h) where
   goes_step : (t : ℕ) (ts : List ℕ) → (suc t % h ≡ 0 → ⊥) → goes_on h t (suc t ∷ ts) ≡ suc (goes_on h (suc t) ts)
   goes_step t ts n =
       by (leb h (suc (t % h)))
-      (λ u. absurd (n (step-out t (leb-true _ _ u)).0))
+      (λ u. absurd (n (step_out t (leb-true _ _ u)).0))
       (λ u. rw (eq-eqb (suc t) (suc t) refl, eq-eqb (suc t / h) (t / h) (step_in t (leb-false _ _ u)).1))
 
-  goes-stop : (t : ℕ) (ts : List ℕ) → suc t % h ≡ 0 → goes_on h t (suc t ∷ ts) ≡ 0
-  goes-stop t ts z =
+  goes_stop : (t : ℕ) (ts : List ℕ) → suc t % h ≡ 0 → goes_on h t (suc t ∷ ts) ≡ 0
+  goes_stop t ts z =
       by (leb h (suc (t % h)))
-      (λ u. let q = (step-out t (leb-true _ _ u)).1 in rw (eq-eqb (suc t) (suc t) refl, ne_eqb (suc t / h) (t / h) (λ e. absurd (omega arith))))
+      (λ u. let q = (step_out t (leb-true _ _ u)).1 in rw (eq-eqb (suc t) (suc t) refl, ne_eqb (suc t / h) (t / h) (λ e. absurd (omega arith))))
       (λ u. let x = (step_in t (leb-false _ _ u)).0 in absurd (omega arith))
 
-  goes-away : (t s : ℕ) (ts : List ℕ) → (s ≡ suc t → ⊥) → goes_on h t (s ∷ ts) ≡ 0
-  goes-away t s ts n = rw (ne_eqb s (suc t) n)
+  goes_away : (t s : ℕ) (ts : List ℕ) → (s ≡ suc t → ⊥) → goes_on h t (s ∷ ts) ≡ 0
+  goes_away t s ts n = rw (ne_eqb s (suc t) n)
 
   -- all j tracks of it are in the cylinder
-  goes-all : (j t : ℕ) (rest : List ℕ) → j ≤ room h (suc t) → goes_on h t (up_from (suc t) j ++ rest) ≡ j + goes_on h (t + j) rest
-  goes-all zero t rest u = let e : t ≡ t + 0 = omega arith in ap (λ (x : ℕ). goes_on h x rest) e ∙ sym (zero-add (goes_on h (t + 0) rest))
-  goes-all (suc j) t rest u =
-      let n : suc t % h ≡ 0 → ⊥ = λ z. absurd (let r = room-none (suc t) z in omega arith) in
+  goes_all : (j t : ℕ) (rest : List ℕ) → j ≤ room h (suc t) → goes_on h t (up_from (suc t) j ++ rest) ≡ j + goes_on h (t + j) rest
+  goes_all zero t rest u = let e : t ≡ t + 0 = omega arith in ap (λ (x : ℕ). goes_on h x rest) e ∙ sym (zero-add (goes_on h (t + 0) rest))
+  goes_all (suc j) t rest u =
+      let n : suc t % h ≡ 0 → ⊥ = λ z. absurd (let r = room_none (suc t) z in omega arith) in
       let e : suc t + j ≡ t + suc j = omega arith in
-      let i = goes-all j (suc t) rest (let r = room-step (suc t) n in omega arith) in
+      let i = goes_all j (suc t) rest (let r = room_step (suc t) n in omega arith) in
       let g = ap (λ (x : ℕ). goes_on h x rest) e in
       goes_step t (up_from (suc (suc t)) j ++ rest) n ∙ omega arith
 
   -- or the cylinder ends inside it
-  goes-part : (j t : ℕ) (rest : List ℕ) → room h (suc t) < j → goes_on h t (up_from (suc t) j ++ rest) ≡ room h (suc t)
-  goes-part zero t rest u = absurd (omega arith)
-  goes-part (suc j) t rest u =
-      let i = goes-part j (suc t) rest in
+  goes_part : (j t : ℕ) (rest : List ℕ) → room h (suc t) < j → goes_on h t (up_from (suc t) j ++ rest) ≡ room h (suc t)
+  goes_part zero t rest u = absurd (omega arith)
+  goes_part (suc j) t rest u =
+      let i = goes_part j (suc t) rest in
       by (eqb (suc t % h) 0)
-      (λ e. let z : suc t % h ≡ 0 = eqb-true _ _ e in goes-stop t (up_from (suc (suc t)) j ++ rest) z ∙ sym (room-none (suc t) z))
+      (λ e. let z : suc t % h ≡ 0 = eqb-true _ _ e in goes_stop t (up_from (suc (suc t)) j ++ rest) z ∙ sym (room_none (suc t) z))
       (λ e.
       let n : suc t % h ≡ 0 → ⊥ = eqb-false _ _ e in
-      let r = room-step (suc t) n in
+      let r = room_step (suc t) n in
       goes_step t (up_from (suc (suc t)) j ++ rest) n ∙ ap suc (i (omega arith)) ∙ sym r)
 
   -- ---- the first k of a run
 
-  from-none : (t : ℕ) (ts : List ℕ) → kept_from h 0 t ts ≡ goes_on h t ts
-  from-none t [] = refl
-  from-none t (s ∷ ts) = refl
+  from_none : (t : ℕ) (ts : List ℕ) → kept_from h 0 t ts ≡ goes_on h t ts
+  from_none t [] = refl
+  from_none t (s ∷ ts) = refl
 
   same_from : (k k' t t' s s' c c' : ℕ) (rest : List ℕ) → k ≡ k' → t ≡ t' → s ≡ s' → c ≡ c'
       → kept_from h k t (up_from s c ++ rest) ≡ kept_from h k' t' (up_from s' c' ++ rest)
@@ -199,7 +199,7 @@ module _ (h : ℕ) (pos : 1 ≤ h) where
     where
       go : (c : ℕ) → 1 ≤ c → (rest : List ℕ) → kept_from h 0 t (up_from s c ++ rest) ≡ 0
       go zero f rest = absurd (omega arith)
-      go (suc c) f rest = goes-away t s (up_from (suc s) c ++ rest) (λ e. n (omega arith))
+      go (suc c) f rest = goes_away t s (up_from (suc s) c ++ rest) (λ e. n (omega arith))
 
   -- its first k, and r that go on from track l, the last of these
   module _ (k t s c l r : ℕ) (less : k < c) (next : last_of t s k ≡ l) (on : s + k ≡ suc l) (is : r ≡ min (c - k) (room h (s + k))) where
@@ -207,7 +207,7 @@ module _ (h : ℕ) (pos : 1 ≤ h) where
     moved rest =
         let a = same_from k (k + 0) t t s s c c rest (omega arith) refl refl refl in
         let e = same_from 0 0 (last_of t s k) l (s + k) (suc l) (c - k) (c - k) rest refl next on refl in
-        let n = from-none l (up_from (suc l) (c - k) ++ rest) in
+        let n = from_none l (up_from (suc l) (c - k) ++ rest) in
         let i = first k 0 c t s rest (omega arith) in
         a ∙ omega arith
 
@@ -215,25 +215,25 @@ module _ (h : ℕ) (pos : 1 ≤ h) where
     roomy = ap (room h) on
 
     end : (k t d : ℕ) (rest : List ℕ) → k ≡ 0 → d ≡ t → goes_on h t rest ≡ kept_from h k d rest
-    end k t d rest p q = sym (from-none t rest) ∙ sym (λ i. kept_from h (p i) (q i) rest)
+    end k t d rest p q = sym (from_none t rest) ∙ sym (λ i. kept_from h (p i) (q i) rest)
 
-    stay-part : StaysOf h k t s c (k + r)
-    stay-part =
+    stay_part : StaysOf h k t s c (k + r)
+    stay_part =
         let q = roomy in
         record {
           most = omega arith;
-          part = λ v rest. let g = goes-part (c - k) l rest (omega arith) in let m = moved rest in omega arith;
+          part = λ v rest. let g = goes_part (c - k) l rest (omega arith) in let m = moved rest in omega arith;
           whole = λ v rest.
-              let g = goes-all (c - k) l rest (omega arith) in
+              let g = goes_all (c - k) l rest (omega arith) in
               let m = moved rest in
               let e = end (k - c) (l + (c - k)) (s + c - 1) rest (omega arith) (omega arith) in
               omega arith;
-          ends = λ _ v. let e : s + (k + r) ≡ s + k + room h (s + k) = omega arith in ap (λ (y : ℕ). y % h) e ∙ room-ends (s + k);
+          ends = λ _ v. let e : s + (k + r) ≡ s + k + room h (s + k) = omega arith in ap (λ (y : ℕ). y % h) e ∙ room_ends (s + k);
         }
 
-  pub stay-cut : (k t s c r : ℕ) → k < c → (k ≡ 0 → s ≡ t + 1) → r ≡ min (c - k) (room h (s + k)) → StaysOf h k t s c (k + r)
-  stay-cut zero t s c r less on is = let e = on refl in stay-part 0 t s c t r less refl (omega arith) is
-  stay-cut (suc k) t s c r less on is = stay-part (suc k) t s c (s + k) r less refl (omega arith) is
+  pub stay_cut : (k t s c r : ℕ) → k < c → (k ≡ 0 → s ≡ t + 1) → r ≡ min (c - k) (room h (s + k)) → StaysOf h k t s c (k + r)
+  stay_cut zero t s c r less on is = let e = on refl in stay_part 0 t s c t r less refl (omega arith) is
+  stay_cut (suc k) t s c r less on is = stay_part (suc k) t s c (s + k) r less refl (omega arith) is
 
   -- some number of them stays
   pub some_stay : (k t s c : ℕ) → 1 ≤ c → (r : ℕ) × StaysOf h k t s c r
@@ -243,47 +243,47 @@ module _ (h : ℕ) (pos : 1 ≤ h) where
       (λ u.
       let less : k < c = leb-false _ _ u in
       by (eqb s (t + 1))
-      (λ e. (k + min (c - k) (room h (s + k)), stay-cut k t s c _ less (λ _. eqb-true _ _ e) refl))
+      (λ e. (k + min (c - k) (room h (s + k)), stay_cut k t s c _ less (λ _. eqb-true _ _ e) refl))
       (λ e. by (eqb k 0)
       (λ z. (0, stay_none k t s c full (eqb-true _ _ z) (eqb-false _ _ e)))
-      (λ z. (k + min (c - k) (room h (s + k)), stay-cut k t s c _ less (λ q. absurd (eqb-false _ _ z q)) refl))))
+      (λ z. (k + min (c - k) (room h (s + k)), stay_cut k t s c _ less (λ q. absurd (eqb-false _ _ z q)) refl))))
 
   -- ---- the whole list
 
-  kept-first : (k t : ℕ) (ts : List ℕ) → k < length ts → kept_from h (suc k) t ts ≡ suc k + goes_on h (get_or ts k 0) (drop (suc k) ts)
-  kept-first k t [] u = absurd (omega arith)
-  kept-first zero t (s ∷ ts) u = let a = from-none s ts in omega arith
-  kept-first (suc k) t (s ∷ ts) u = let i = kept-first k s ts (omega arith) in omega arith
+  kept_first : (k t : ℕ) (ts : List ℕ) → k < length ts → kept_from h (suc k) t ts ≡ suc k + goes_on h (get_or ts k 0) (drop (suc k) ts)
+  kept_first k t [] u = absurd (omega arith)
+  kept_first zero t (s ∷ ts) u = let a = from_none s ts in omega arith
+  kept_first (suc k) t (s ∷ ts) u = let i = kept_first k s ts (omega arith) in omega arith
 
 -- how many a cylinder file keeps
-pub kept-cylinders : (h unit ttr : ℕ) (ts : List ℕ) → 1 ≤ h → unit ≡ 0xC0 → ttr / 256 + 1 ≤ length ts
+pub kept_cylinders : (h unit ttr : ℕ) (ts : List ℕ) → 1 ≤ h → unit ≡ 0xC0 → ttr / 256 + 1 ≤ length ts
     → tracks_kept h unit ttr ts ≡ kept_from h (ttr / 256 + 1) 0 ts
 unfolding tracks_kept
-kept-cylinders h unit ttr ts pos e u =
+kept_cylinders h unit ttr ts pos e u =
     let n = add-one (ttr / 256) in
-    let a = kept-first h pos (ttr / 256) 0 ts (omega arith) in
+    let a = kept_first h pos (ttr / 256) 0 ts (omega arith) in
     let b : ttr / 256 + 1 + goes_on h (get_or ts (ttr / 256) 0) (drop (ttr / 256 + 1) ts) ≡ suc (ttr / 256) + goes_on h (get_or ts (ttr / 256) 0) (drop (suc (ttr / 256)) ts)
     = ap (λ (i : ℕ). i + goes_on h (get_or ts (ttr / 256) 0) (drop i ts)) n in
     rw (eq-eqb unit 0xC0 e) (b ∙ sym a ∙ ap (λ (i : ℕ). kept_from h i 0 ts) (sym n))
 
 -- another set keeps the first TT + 1
-pub kept-plain : (h unit ttr : ℕ) (ts : List ℕ) → (unit ≡ 0xC0 → ⊥) → tracks_kept h unit ttr ts ≡ ttr / 256 + 1
+pub kept_plain : (h unit ttr : ℕ) (ts : List ℕ) → (unit ≡ 0xC0 → ⊥) → tracks_kept h unit ttr ts ≡ ttr / 256 + 1
 unfolding tracks_kept
-kept-plain h unit ttr ts n = rw (ne_eqb unit 0xC0 n)
+kept_plain h unit ttr ts n = rw (ne_eqb unit 0xC0 n)
 
-kept-least : (h unit ttr : ℕ) (ts : List ℕ) → ttr / 256 + 1 ≤ tracks_kept h unit ttr ts
+kept_least : (h unit ttr : ℕ) (ts : List ℕ) → ttr / 256 + 1 ≤ tracks_kept h unit ttr ts
 unfolding tracks_kept
-kept-least h unit ttr ts = by (eqb unit 0xC0) (λ e. rw e (omega arith)) (λ e. rw e (omega arith))
+kept_least h unit ttr ts = by (eqb unit 0xC0) (λ e. rw e (omega arith)) (λ e. rw e (omega arith))
 
 -- no fewer than the first TT + 1, and no more than there are
-pub kept-within : (h unit ttr : ℕ) (ts : List ℕ) → 1 ≤ h → ttr / 256 + 1 ≤ length ts → (ttr / 256 + 1 ≤ tracks_kept h unit ttr ts) × (tracks_kept h unit ttr ts ≤ length ts)
-kept-within h unit ttr ts pos u =
+pub kept_within : (h unit ttr : ℕ) (ts : List ℕ) → 1 ≤ h → ttr / 256 + 1 ≤ length ts → (ttr / 256 + 1 ≤ tracks_kept h unit ttr ts) × (tracks_kept h unit ttr ts ≤ length ts)
+kept_within h unit ttr ts pos u =
     by (eqb unit 0xC0)
     (λ e.
-    let q = kept-cylinders h unit ttr ts pos (eqb-true _ _ e) u in
-    let m = kept-most h (ttr / 256 + 1) 0 ts in
-    (kept-least h unit ttr ts, omega arith))
-    (λ e. let q = kept-plain h unit ttr ts (eqb-false _ _ e) in (omega arith, omega arith))
+    let q = kept_cylinders h unit ttr ts pos (eqb-true _ _ e) u in
+    let m = kept_most h (ttr / 256 + 1) 0 ts in
+    (kept_least h unit ttr ts, omega arith))
+    (λ e. let q = kept_plain h unit ttr ts (eqb-false _ _ e) in (omega arith, omega arith))
 
 -- ---- in the paper's words: which tracks of a cylinder file stay after the first TT + 1
 
@@ -291,24 +291,24 @@ kept-within h unit ttr ts pos u =
 abbrev pub Next : (h t s : ℕ) → Type 0
 Next h t s = (s ≡ suc t) × (s / h ≡ t / h)
 
-is-next : (h t s : ℕ) → follows h t s ≡ true → Next h t s
-is-next h t s e =
-    let b = true-is e in
+is_next : (h t s : ℕ) → follows h t s ≡ true → Next h t s
+is_next h t s e =
+    let b = true_is e in
     (eqb→eq s (suc t) (and_l (eqb s (suc t)) (eqb (s / h) (t / h)) b), eqb→eq (s / h) (t / h) (and_r (eqb s (suc t)) (eqb (s / h) (t / h)) b))
 
-goes-next : (h t : ℕ) (ts : List ℕ) (i : ℕ) → i < goes_on h t ts → Next h (get_or (t ∷ ts) i 0) (get_or ts i 0)
-goes-next h t [] i u = absurd (omega arith)
-goes-next h t (s ∷ ts) i u = go i (follows h t s) refl u (goes-next h s ts)
+goes_next : (h t : ℕ) (ts : List ℕ) (i : ℕ) → i < goes_on h t ts → Next h (get_or (t ∷ ts) i 0) (get_or ts i 0)
+goes_next h t [] i u = absurd (omega arith)
+goes_next h t (s ∷ ts) i u = go i (follows h t s) refl u (goes_next h s ts)
   where
     go : (i : ℕ) (b : Bool) → follows h t s ≡ b → i < cond b (suc (goes_on h s ts)) 0
         → ((j : ℕ) → j < goes_on h s ts → Next h (get_or (s ∷ ts) j 0) (get_or ts j 0)) → Next h (get_or (t ∷ s ∷ ts) i 0) (get_or (s ∷ ts) i 0)
-    go zero true e v more = is-next h t s e
+    go zero true e v more = is_next h t s e
     go (suc i) true e v more = more i (omega arith)
     go i false e v more = absurd (omega arith)
 
-goes-ends : (h t : ℕ) (ts : List ℕ) (n : ℕ) → n ≡ goes_on h t ts → n < length ts → Next h (get_or (t ∷ ts) n 0) (get_or ts n 0) → ⊥
-goes-ends h t [] n q u x = absurd (omega arith)
-goes-ends h t (s ∷ ts) n q u x = go n (follows h t s) refl q u x (goes-ends h s ts)
+goes_ends : (h t : ℕ) (ts : List ℕ) (n : ℕ) → n ≡ goes_on h t ts → n < length ts → Next h (get_or (t ∷ ts) n 0) (get_or ts n 0) → ⊥
+goes_ends h t [] n q u x = absurd (omega arith)
+goes_ends h t (s ∷ ts) n q u x = go n (follows h t s) refl q u x (goes_ends h s ts)
   where
     go : (n : ℕ) (b : Bool) → follows h t s ≡ b → n ≡ cond b (suc (goes_on h s ts)) 0 → n < length (s ∷ ts)
         → Next h (get_or (t ∷ s ∷ ts) n 0) (get_or (s ∷ ts) n 0)
@@ -334,9 +334,9 @@ module _ (h unit ttr : ℕ) (ts : List ℕ) (inside : ttr / 256 < length ts) whe
   abbrev more : ℕ
   more = goes_on h (get_or ts (ttr / 256) 0) (drop (ttr / 256 + 1) ts)
 
-  kept-is : unit ≡ 0xC0 → kept ≡ ttr / 256 + 1 + more
+  kept_is : unit ≡ 0xC0 → kept ≡ ttr / 256 + 1 + more
   unfolding tracks_kept
-  kept-is e = rw (eq-eqb unit 0xC0 e)
+  kept_is e = rw (eq-eqb unit 0xC0 e)
 
   from_last : get_or ts (ttr / 256) 0 ∷ drop (ttr / 256 + 1) ts ≡ drop (ttr / 256) ts
   from_last = ap (λ (i : ℕ). get_or ts (ttr / 256) 0 ∷ drop i ts) (add-one (ttr / 256)) ∙ sym (drop-cons ts (ttr / 256) 0 inside)
@@ -351,17 +351,17 @@ module _ (h unit ttr : ℕ) (ts : List ℕ) (inside : ttr / 256 < length ts) whe
   kept_next : unit ≡ 0xC0 → (i : ℕ) → ttr / 256 + 1 + i < kept → Next h (get_or ts (ttr / 256 + i) 0) (get_or ts (ttr / 256 + 1 + i) 0)
   kept_next e i u =
       subst (λ (P : Type 0). P) (moved_on i)
-      (goes-next h (get_or ts (ttr / 256) 0) (drop (ttr / 256 + 1) ts) i (let q = kept-is e in omega arith))
+      (goes_next h (get_or ts (ttr / 256) 0) (drop (ttr / 256 + 1) ts) i (let q = kept_is e in omega arith))
 
-  kept-ends : unit ≡ 0xC0 → kept < length ts → Next h (get_or ts (kept - 1) 0) (get_or ts kept 0) → ⊥
-  kept-ends e u x =
-      let q = kept-is e in
+  kept_ends : unit ≡ 0xC0 → kept < length ts → Next h (get_or ts (kept - 1) 0) (get_or ts kept 0) → ⊥
+  kept_ends e u x =
+      let q = kept_is e in
       let l = length-drop (ttr / 256 + 1) ts in
       let p : kept - 1 ≡ ttr / 256 + more = omega arith in
       let y = subst (λ (i : ℕ). Next h (get_or ts (ttr / 256 + more) 0) (get_or ts i 0)) q (subst (λ (i : ℕ). Next h (get_or ts i 0) (get_or ts kept 0)) p x) in
-      goes-ends h (get_or ts (ttr / 256) 0) (drop (ttr / 256 + 1) ts) more refl (omega arith) (subst (λ (P : Type 0). P) (sym (moved_on more)) y)
+      goes_ends h (get_or ts (ttr / 256) 0) (drop (ttr / 256 + 1) ts) more refl (omega arith) (subst (λ (P : Type 0). P) (sym (moved_on more)) y)
 
-  pub kept-count : 1 ≤ h → KeptCount h unit ttr ts kept
-  kept-count pos =
-      let w = kept-within h unit ttr ts pos (omega arith) in
-      record { least = w.0; most = w.1; plain = kept-plain h unit ttr ts; next = kept_next; ends = kept-ends }
+  pub kept_count : 1 ≤ h → KeptCount h unit ttr ts kept
+  kept_count pos =
+      let w = kept_within h unit ttr ts pos (omega arith) in
+      record { least = w.0; most = w.1; plain = kept_plain h unit ttr ts; next = kept_next; ends = kept_ends }

@@ -12,13 +12,13 @@ use native.Mathlib.Nat.{le_refl, lt_of_not-le}
 use lib.ListN.{length, get_or}
 use Rattle.model.specs.Basics.{same}
 use Rattle.model.specs.Model.{Geometry}
-use Rattle.model.proofs.Lists.{and_l, and_r, by, clash, is_true, true-is}
+use Rattle.model.proofs.Lists.{and_l, and_r, by, clash, is_true, true_is}
 use Rattle.rules.specs.Reading.{read_label, read_labels}
-use Rattle.rules.proofs.Labels.{same-sym}
+use Rattle.rules.proofs.Labels.{same_sym}
 use Rattle.rules.specs.Predicates.{Differ, Unlike}
 use Rattle.dscb.specs.Records.{slot_bytes}
 use Rattle.names.specs.Find.{answer_of, distinct, distinct_from, find_slot, is_label, is_named, is_nothing, name_of, new_at}
-use Rattle.names.proofs.Laws.{answered, found_at, label_at, no-label-in, nothing-at}
+use Rattle.names.proofs.Laws.{answered, found_at, label_at, no_label_in, nothing_at}
 
 -- ---- names by slot
 
@@ -50,7 +50,7 @@ differ→ g R k (r ∷ more) d zero zero u w p q = absurd (omega arith)
 differ→ g R k (r ∷ more) d (suc i) zero u w p q = absurd (omega arith)
 differ→ g R k (r ∷ more) d zero (suc j) u w p q =
     let e = rw p at d in
-    same-sym (name_of r) (name_of (get_or more j []))
+    same_sym (name_of r) (name_of (get_or more j []))
     ∙ ap (same (name_of (get_or more j []))) (sym (read_name g R k r))
     ∙ unlike→ g R (read_label g R k r).name (suc k) more e.0 j (omega arith) q
 differ→ g R k (r ∷ more) d (suc i) (suc j) u w p q =
@@ -64,32 +64,32 @@ entered→differ g R k (r ∷ more) a =
     (λ h.
     rw h (
       subst (λ (n : List ℕ). Unlike n (read_labels g R (suc k) more)) (sym (read_name g R k r))
-          (→unlike g R (name_of r) (suc k) more (λ j l e. same-sym (name_of (get_or more j [])) (name_of r) ∙ a 0 (suc j) (omega arith) (omega arith) h e)),
+          (→unlike g R (name_of r) (suc k) more (λ j l e. same_sym (name_of (get_or more j [])) (name_of r) ∙ a 0 (suc j) (omega arith) (omega arith) h e)),
       i,
     ))
     (λ h. rw h i)
 
 -- ---- `distinct` says the same
 
-named-false : (r name : List ℕ) → is_label r ≡ true → same (name_of r) name ≡ false → is_named r name ≡ false
+named_false : (r name : List ℕ) → is_label r ≡ true → same (name_of r) name ≡ false → is_named r name ≡ false
 unfolding is_named
-named-false r name l e = rw (l, e)
+named_false r name l e = rw (l, e)
 
-false-named : (r name : List ℕ) → is_label r ≡ true → is_named r name ≡ false → same (name_of r) name ≡ false
+false_named : (r name : List ℕ) → is_label r ≡ true → is_named r name ≡ false → same (name_of r) name ≡ false
 unfolding is_named
-false-named r name l e = rw l at e
+false_named r name l e = rw l at e
 
-label-named : (r name : List ℕ) → is_named r name ≡ true → is_label r ≡ true
+label_named : (r name : List ℕ) → is_named r name ≡ true → is_label r ≡ true
 unfolding is_named
-label-named r name e = is_true (and_l (is_label r) (same (name_of r) name) (true-is e))
+label_named r name e = is_true (and_l (is_label r) (same (name_of r) name) (true_is e))
 
-new-at : (t : List ℕ) (n k : ℕ) → distinct_from t k n ≡ true → (j : ℕ) → k ≤ j → j < k + n → new_at t j ≡ true
+new_at_lem : (t : List ℕ) (n k : ℕ) → distinct_from t k n ≡ true → (j : ℕ) → k ≤ j → j < k + n → new_at t j ≡ true
 unfolding distinct_from
-new-at t zero k e j u w = absurd (omega arith)
-new-at t (suc n) k e j u w =
+new_at_lem t zero k e j u w = absurd (omega arith)
+new_at_lem t (suc n) k e j u w =
     elim (dec_le (suc k) j) [
-      | yes x ↦ new-at t n (suc k) (is_true (and_r (new_at t k) (distinct_from t (suc k) n) (true-is e))) j x (omega arith)
-      | no x ↦ let q : j ≡ k = let z = lt_of_not-le x in omega arith in rw q (is_true (and_l (new_at t k) (distinct_from t (suc k) n) (true-is e)))
+      | yes x ↦ new_at_lem t n (suc k) (is_true (and_r (new_at t k) (distinct_from t (suc k) n) (true_is e))) j x (omega arith)
+      | no x ↦ let q : j ≡ k = let z = lt_of_not-le x in omega arith in rw q (is_true (and_l (new_at t k) (distinct_from t (suc k) n) (true_is e)))
     ]
 
 at_new : (t : List ℕ) (n k : ℕ) → ((j : ℕ) → k ≤ j → j < k + n → new_at t j ≡ true) → distinct_from t k n ≡ true
@@ -100,12 +100,12 @@ at_new t (suc n) k f = rw (f k (le_refl k) (omega arith)) (at_new t n (suc k) (�
 pub distinct→ : (t : List ℕ) (n : ℕ) → distinct t n ≡ true → Apart (slot_bytes t) n
 unfolding distinct
 distinct→ t n e j k u w p q =
-    let a = new-at t n 0 e k (omega arith) (omega arith) in
-    false-named (slot_bytes t j) (name_of (slot_bytes t k)) p
+    let a = new_at_lem t n 0 e k (omega arith) (omega arith) in
+    false_named (slot_bytes t j) (name_of (slot_bytes t k)) p
     (go (answered t (name_of (slot_bytes t k)) k).0 (answered t (name_of (slot_bytes t k)) k).1 (sym (label_at t k q) ∙ a))
   where
     go : (f : Found) → answer_of f ≡ find_slot t (name_of (slot_bytes t k)) k → is_nothing (find_slot t (name_of (slot_bytes t k)) k) ≡ true → is_named (slot_bytes t j) (name_of (slot_bytes t k)) ≡ false
-    go Nothing e n = nothing-at t (name_of (slot_bytes t k)) k (sym e) j u
+    go Nothing e n = nothing_at t (name_of (slot_bytes t k)) k (sym e) j u
     go (Slot i) e n = clash n (sym (ap is_nothing e))
 
 pub →distinct : (t : List ℕ) (n : ℕ) → Apart (slot_bytes t) n → distinct t n ≡ true
@@ -117,8 +117,8 @@ unfolding distinct
     found k w l (Slot j) e =
         let x = found_at t (name_of (slot_bytes t k)) k j (sym e) in
         let h = x.high in
-        let y = label-named (slot_bytes t j) (name_of (slot_bytes t k)) x.here in
-        clash x.here (named-false (slot_bytes t j) (name_of (slot_bytes t k)) y (a j k (omega arith) w y l))
+        let y = label_named (slot_bytes t j) (name_of (slot_bytes t k)) x.here in
+        clash x.here (named_false (slot_bytes t j) (name_of (slot_bytes t k)) y (a j k (omega arith) w y l))
 
     new : (k : ℕ) → k < n → new_at t k ≡ true
-    new k w = by (is_label (slot_bytes t k)) (λ l. label_at t k l ∙ found k w l (answered t (name_of (slot_bytes t k)) k).0 (answered t (name_of (slot_bytes t k)) k).1) (λ l. no-label-in t k l)
+    new k w = by (is_label (slot_bytes t k)) (λ l. label_at t k l ∙ found k w l (answered t (name_of (slot_bytes t k)) k).0 (answered t (name_of (slot_bytes t k)) k).1) (λ l. no_label_in t k l)

@@ -12,7 +12,7 @@ use lib.ListN.{length}
 use Rattle.open_table.specs.declared.Opening.{Opening}
 use Rattle.open_table.specs.declared.SetOpening.{SetOpening}
 use Rattle.model.specs.Model.{Geometry, Label, Volume, slots}
-use Rattle.model.proofs.Lists.{and_l, and_r, by, true-is}
+use Rattle.model.proofs.Lists.{and_l, and_r, by, true_is}
 use Rattle.rules.specs.Predicates.{Limits}
 use Rattle.rules.specs.Calls.{Call, Outcome, given, on_copy, preview, refuse, rule, unless}
 use Rattle.rules.specs.Entries.{Lent, call_lengths, good_lengths, other_lengths, perform, result_of, unless_refused, written}
@@ -23,8 +23,8 @@ use Rattle.names.specs.Find.{find_slot, in_slot, not_found}
 use Rattle.dscb.specs.Forms.{geometry_of}
 use Rattle.check_table.specs.Check.{Roomy}
 use Rattle.open_table.specs.Opening.{FoundAt, KnownAt, KnownMaps, Mapped, Opened, OpenedSet, first_refusal, name_refusal}
-use Rattle.open_table.proofs.Lookup.{not_there, there, there-inside}
-use Rattle.open_table.proofs.Numbers.{known, known-maps}
+use Rattle.open_table.proofs.Lookup.{not_there, there, there_inside}
+use Rattle.open_table.proofs.Numbers.{known, known_maps}
 
 -- the call c on the buffers b: `ok` are its other lengths, `good` its names, and `own` is its rule behind those
 pub record AsksTable (b : Lent) (c : Call) (ok good : Bool) (own : Volume → Outcome) : Type 0 where
@@ -38,45 +38,45 @@ pub record AsksSet (b : Lent) (c : Call) (ok good : Bool) (name : List ℕ) (own
 
 -- ---- a preview: as its call, on a copy
 
-copy-unless : (v : Volume) (good : Bool) (n : ℕ) (o : Outcome) → on_copy v (unless good n o) ≡ unless good n (on_copy v o)
-copy-unless v true n o = refl
-copy-unless v false n o = refl
+copy_unless : (v : Volume) (good : Bool) (n : ℕ) (o : Outcome) → on_copy v (unless good n o) ≡ unless good n (on_copy v o)
+copy_unless v true n o = refl
+copy_unless v false n o = refl
 
-copy-given : {A : Type 0} (v : Volume) (x : Option A) (n : ℕ) (k : A → Outcome) → on_copy v (given x n k) ≡ given x n (λ a. on_copy v (k a))
-copy-given v none n k = refl
-copy-given v (some a) n k = refl
+copy_given : {A : Type 0} (v : Volume) (x : Option A) (n : ℕ) (k : A → Outcome) → on_copy v (given x n k) ≡ given x n (λ a. on_copy v (k a))
+copy_given v none n k = refl
+copy_given v (some a) n k = refl
 
-pub preview-table : {b : Lent} {c : Call} {ok good : Bool} {own : Volume → Outcome} → AsksTable b c ok good own → AsksTable b (preview c) ok good (λ v. on_copy v (own v))
+pub preview_table : {b : Lent} {c : Call} {ok good : Bool} {own : Volume → Outcome} → AsksTable b c ok good own → AsksTable b (preview c) ok good (λ v. on_copy v (own v))
 unfolding rule
-preview-table {good = good} {own = own} y =
-    record { lengths = y.lengths; rules = λ v. ap (on_copy v) (y.rules v) ∙ copy-unless v good 4 (own v) }
+preview_table {good = good} {own = own} y =
+    record { lengths = y.lengths; rules = λ v. ap (on_copy v) (y.rules v) ∙ copy_unless v good 4 (own v) }
 
-pub preview-set : {b : Lent} {c : Call} {ok good : Bool} {name : List ℕ} {own : Volume → Label → Outcome} → AsksSet b c ok good name own
+pub preview_set : {b : Lent} {c : Call} {ok good : Bool} {name : List ℕ} {own : Volume → Label → Outcome} → AsksSet b c ok good name own
     → AsksSet b (preview c) ok good name (λ v l. on_copy v (own v l))
 unfolding rule
-preview-set {good = good} {name = name} {own = own} y =
+preview_set {good = good} {name = name} {own = own} y =
     record {
       lengths = y.lengths;
       rules = λ v.
-          ap (on_copy v) (y.rules v) ∙ copy-unless v good 4 (given (found v name) 5 (own v)) ∙ ap (unless good 4) (copy-given v (found v name) 5 (own v));
+          ap (on_copy v) (y.rules v) ∙ copy_unless v good 4 (given (found v name) 5 (own v)) ∙ ap (unless good 4) (copy_given v (found v name) 5 (own v));
     }
 
 -- ---- the outcome, whatever refuses a table
 
 module _ (o : Outcome) (n : ℕ) where
-  refused-there : (k : ℕ) (good long : Bool) → n ≡ first_refusal (cond long k 2) (name_refusal good) → (n ≡ 0 → ⊥)
+  refused_there : (k : ℕ) (good long : Bool) → n ≡ first_refusal (cond long k 2) (name_refusal good) → (n ≡ 0 → ⊥)
       → unless long 2 (unless_refused k (unless good 4 o)) ≡ refuse n
-  refused-there k good false e z = ap refuse (sym e)
-  refused-there (suc k) good true e z = ap refuse (sym e)
-  refused-there zero true true e z = absurd (z e)
-  refused-there zero false true e z = ap refuse (sym e)
+  refused_there k good false e z = ap refuse (sym e)
+  refused_there (suc k) good true e z = ap refuse (sym e)
+  refused_there zero true true e z = absurd (z e)
+  refused_there zero false true e z = ap refuse (sym e)
 
-  passed-there : (k : ℕ) (good long : Bool) → n ≡ first_refusal (cond long k 2) (name_refusal good) → n ≡ 0
+  passed_there : (k : ℕ) (good long : Bool) → n ≡ first_refusal (cond long k 2) (name_refusal good) → n ≡ 0
       → unless long 2 (unless_refused k (unless good 4 o)) ≡ o
-  passed-there k good false e z = absurd (omega arith)
-  passed-there (suc k) good true e z = absurd (omega arith)
-  passed-there zero true true e z = refl
-  passed-there zero false true e z = absurd (omega arith)
+  passed_there k good false e z = absurd (omega arith)
+  passed_there (suc k) good true e z = absurd (omega arith)
+  passed_there zero true true e z = refl
+  passed_there zero false true e z = absurd (omega arith)
 
 -- ---- the call
 
@@ -92,23 +92,23 @@ module _ {b : Lent} {c : Call} {ok good : Bool} {own : Volume → Outcome} (y : 
 
   pub refused : (o.refusal ≡ 0 → ⊥) → result_of o.refusal b ≡ perform b c
   refused n =
-      sym (ap (written b) (refused-there (own v) o.refusal (table_refusal b.table) good (good_length b.table && ok) x.number n)) ∙ sym performs
+      sym (ap (written b) (refused_there (own v) o.refusal (table_refusal b.table) good (good_length b.table && ok) x.number n)) ∙ sym performs
 
   module _ (z : o.refusal ≡ 0) where
     pub passed : (n : ℕ) (b' : Lent) → result_of n b' ≡ written b (own v) → result_of n b' ≡ perform b c
     passed n b' q =
         q
-        ∙ sym (ap (written b) (passed-there (own v) o.refusal (table_refusal b.table) good (good_length b.table && ok) x.number z))
+        ∙ sym (ap (written b) (passed_there (own v) o.refusal (table_refusal b.table) good (good_length b.table && ok) x.number z))
         ∙ sym performs
 
-    all-long : T (other_lengths c (length b.answer) (length b.extra))
-    all-long = true-is (sym y.lengths ∙ (known x z).lengths_good)
+    all_long : T (other_lengths c (length b.answer) (length b.extra))
+    all_long = true_is (sym y.lengths ∙ (known x z).lengths_good)
 
-    pub answer-long : length b.answer ≡ 24
-    answer-long = eqb→eq (length b.answer) 24 (and_l (eqb (length b.answer) 24) _ all-long)
+    pub answer_long : length b.answer ≡ 24
+    answer_long = eqb→eq (length b.answer) 24 (and_l (eqb (length b.answer) 24) _ all_long)
 
-    pub arguments-long : T (call_lengths c (length b.extra))
-    arguments-long = and_r (eqb (length b.answer) 24) _ all-long
+    pub arguments_long : T (call_lengths c (length b.extra))
+    arguments_long = and_r (eqb (length b.answer) 24) _ all_long
 
 -- ---- a call on one data set
 
@@ -125,11 +125,11 @@ module _ {b : Lent} {c : Call} {ok good : Bool} {name : List ℕ} {own : Volume 
     pub found_at : (k : ℕ) → in_slot k ≡ find_slot b.table name (slots (geometry_of o.geometry)) → FoundAt b.table (read b.table) name k
     found_at k e = let w = known x z in there b.table w.is_taken _ w.geometry_is name k e
 
-    pub slot-inside : (k : ℕ) → in_slot k ≡ find_slot b.table name (slots (geometry_of o.geometry)) → k < slots (geometry_of o.geometry)
-    slot-inside k e = let w = known x z in there-inside b.table w.is_taken _ w.geometry_is name k e
+    pub slot_inside : (k : ℕ) → in_slot k ≡ find_slot b.table name (slots (geometry_of o.geometry)) → k < slots (geometry_of o.geometry)
+    slot_inside k e = let w = known x z in there_inside b.table w.is_taken _ w.geometry_is name k e
 
-    pub record-inside : (k : ℕ) → in_slot k ≡ find_slot b.table name (slots (geometry_of o.geometry)) → 140 * k + 140 ≤ length b.table
-    record-inside k e = let n = (known x z).long in let i = slot-inside k e in omega arith
+    pub record_inside : (k : ℕ) → in_slot k ≡ find_slot b.table name (slots (geometry_of o.geometry)) → 140 * k + 140 ≤ length b.table
+    record_inside k e = let n = (known x z).long in let i = slot_inside k e in omega arith
 
     pub done : {k : ℕ} (f : FoundAt b.table (read b.table) name k) (n : ℕ) (b' : Lent) → result_of n b' ≡ written b (own (read b.table) f.label) → result_of n b' ≡ perform b c
     done f n b' q = passed asks x z n b' (q ∙ sym (ap (λ (u : Option Label). written b (given u 5 (own (read b.table)))) f.same))
@@ -138,24 +138,24 @@ module _ {b : Lent} {c : Call} {ok good : Bool} {name : List ℕ} {own : Volume 
 
 module _ (t : List ℕ) (ok good : Bool) (name m m' s s' : List ℕ) (o : Opening) (x : Opened t ok good o) (w : Mapped t m m' s s' o.refusal) where
   -- the cases of `open_set`
-  pub opened-early : (o.refusal ≡ 0 → ⊥) → (r : SetOpening) → r.refusal ≡ o.refusal → OpenedSet t ok good name m m' s s' r
-  opened-early n r e =
+  pub opened_early : (o.refusal ≡ 0 → ⊥) → (r : SetOpening) → r.refusal ≡ o.refusal → OpenedSet t ok good name m m' s s' r
+  opened_early n r e =
       record { opening = o; opened = x; mapped = w; early = λ _. e; absent = λ z _. absurd (n z); there = λ z. absurd (n (sym e ∙ z)) }
 
   module _ (z : o.refusal ≡ 0) where
-    pub opened-absent : not_found ≡ find_slot t name (slots (geometry_of o.geometry)) → (r : SetOpening) → r.refusal ≡ 5 → OpenedSet t ok good name m m' s s' r
-    opened-absent f r e =
+    pub opened_absent : not_found ≡ find_slot t name (slots (geometry_of o.geometry)) → (r : SetOpening) → r.refusal ≡ 5 → OpenedSet t ok good name m m' s s' r
+    opened_absent f r e =
         record { opening = o; opened = x; mapped = w; early = λ n. absurd (n z); absent = λ _ _. (e, f); there = λ q. absurd (omega arith) }
 
-    pub opened-there : (r : SetOpening) → r.refusal ≡ 0 → r.geometry ≡ o.geometry → in_slot r.slot ≡ find_slot t name (slots (geometry_of o.geometry))
+    pub opened_there : (r : SetOpening) → r.refusal ≡ 0 → r.geometry ≡ o.geometry → in_slot r.slot ≡ find_slot t name (slots (geometry_of o.geometry))
         → OpenedSet t ok good name m m' s s' r
-    opened-there r e g f =
+    opened_there r e g f =
         record { opening = o; opened = x; mapped = w; early = λ n. absurd (n z); absent = λ _ n. absurd (n e); there = λ _. (z, g, f) }
 
 module _ {b : Lent} {c : Call} {ok good : Bool} {name : List ℕ} {own : Volume → Label → Outcome} (y : AsksSet b c ok good name own)
     {m m' s s' : List ℕ} {r : SetOpening} (x : OpenedSet b.table ok good name m m' s s' r) where
-  pub set-refused : (r.refusal ≡ 0 → ⊥) → result_of r.refusal b ≡ perform b c
-  set-refused n =
+  pub set_refused : (r.refusal ≡ 0 → ⊥) → result_of r.refusal b ≡ perform b c
+  set_refused n =
       by (eqb x.opening.refusal 0)
       (λ k.
       let z : x.opening.refusal ≡ 0 = eqb-true _ 0 k in
@@ -177,13 +177,13 @@ module _ {b : Lent} {c : Call} {ok good : Bool} {name : List ℕ} {own : Volume 
           geometry_is = sym e ∙ w.geometry_is;
           limits = subst Limits e w.limits;
           long = subst (λ (i : Geometry). length b.table ≡ 140 * slots i) e w.long;
-          maps = subst (KnownMaps b.table m' s') e (known-maps x.opened f.0 x.mapped room eight);
+          maps = subst (KnownMaps b.table m' s') e (known_maps x.opened f.0 x.mapped room eight);
           it = found_at y x.opened f.0 r.slot f.2;
-          inside = subst (λ (i : Geometry). r.slot < slots i) e (slot-inside y x.opened f.0 r.slot f.2);
+          inside = subst (λ (i : Geometry). r.slot < slots i) e (slot_inside y x.opened f.0 r.slot f.2);
         }
 
-    pub set-answer-long : length b.answer ≡ 24
-    set-answer-long = answer-long (asks y) x.opened (x.there z).0
+    pub set_answer_long : length b.answer ≡ 24
+    set_answer_long = answer_long (asks y) x.opened (x.there z).0
 
-    pub set-done : (f : FoundAt b.table (read b.table) name r.slot) (n : ℕ) (b' : Lent) → result_of n b' ≡ written b (own (read b.table) f.label) → result_of n b' ≡ perform b c
-    set-done f n b' q = done y x.opened (x.there z).0 f n b' q
+    pub set_done : (f : FoundAt b.table (read b.table) name r.slot) (n : ℕ) (b' : Lent) → result_of n b' ≡ written b (own (read b.table) f.label) → result_of n b' ≡ perform b c
+    set_done f n b' q = done y x.opened (x.there z).0 f n b' q

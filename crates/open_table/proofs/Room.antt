@@ -23,15 +23,15 @@ use Rattle.open_table.proofs.Lookup.{limits_of}
 pub no_answer : (n : ℕ) → false ≡ true → n ≤ 4096
 no_answer n e = clash e refl
 
-pub map-fits : (a b : ℕ) → a < 65536 → b < 65536 → a * b < 4294967296
-map-fits a b u v = let x : a ≤ 65535 = omega arith in let y : b ≤ 65535 = omega arith in let m : a * b ≤ 65535 * 65535 = mul-le-mul x y in omega arith
+pub map_fits_lem : (a b : ℕ) → a < 65536 → b < 65536 → a * b < 4294967296
+map_fits_lem a b u v = let x : a ≤ 65535 = omega arith in let y : b ≤ 65535 = omega arith in let m : a * b ≤ 65535 * 65535 = mul-le-mul x y in omega arith
 
 told : (rec : List ℕ) → get2 rec 62 * get2 rec 64 ≡ tracks (read_geometry rec)
 unfolding read_geometry
 told rec = refl
 
-pub small-told : (t rec : List ℕ) (a b : ℕ) → rec ≡ slot_bytes t 0 → a ≡ get2 rec 62 → b ≡ get2 rec 64 → a * b ≤ 4096 → tracks (read_geometry (slot_bytes t 0)) ≤ 4096
-small-told t rec a b e p q w =
+pub small_told : (t rec : List ℕ) (a b : ℕ) → rec ≡ slot_bytes t 0 → a ≡ get2 rec 62 → b ≡ get2 rec 64 → a * b ≤ 4096 → tracks (read_geometry (slot_bytes t 0)) ≤ 4096
+small_told t rec a b e p q w =
     subst (λ (r : List ℕ). tracks (read_geometry r) ≤ 4096) e (subst (λ (n : ℕ). n ≤ 4096) (ap₂ (λ (x y : ℕ). x * y) p q ∙ told rec) w)
 
 -- ---- the map of a table that is taken

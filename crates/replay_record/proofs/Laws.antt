@@ -10,67 +10,67 @@ use lib.ListN.{length, take, drop, get_or, length-drop, length-append, drop_of_l
 use lib.Seq.{drop-cons, drop-drop, length-take-le, take-suc, take_all}
 use borrow.Rule.Slice.PartMut.{mid_of, put_mid}
 use Rattle.rows.specs.Text.{Written}
-use Rattle.rows.proofs.Text.{then, write-none, written-whole}
-use Rattle.dscb.proofs.Records.{copied-in}
+use Rattle.rows.proofs.Text.{then, write_none, written_whole}
+use Rattle.dscb.proofs.Records.{copied_in}
 use Rattle.replay_record.specs.Asked.{over, over_at}
 use Rattle.replay_record.specs.Line.{be4, digest, digest_from, hex, hex_byte, hex_digit, line_of, two_digits}
 
 -- ---- writing
 
-pub two-hexes : {at p r : ℕ} {o₀ o₁ o₂ : List ℕ} (v a b : ℕ) → a ≡ hex_digit (v / 16) → b ≡ hex_digit (v % 16) → Written at (a ∷ []) 1 o₀ o₁ p
+pub two_hexes : {at p r : ℕ} {o₀ o₁ o₂ : List ℕ} (v a b : ℕ) → a ≡ hex_digit (v / 16) → b ≡ hex_digit (v % 16) → Written at (a ∷ []) 1 o₀ o₁ p
     → Written p (b ∷ []) 1 o₁ o₂ r → Written at (hex_byte v) 2 o₀ o₂ r
-two-hexes {at} {p} {r} {o₀} {o₁} {o₂} v a b e f x y = subst (λ (s : List ℕ). Written at s 2 o₀ o₂ r) (ap₂ (λ (m n : ℕ). m ∷ n ∷ []) e f) (then x y)
+two_hexes {at} {p} {r} {o₀} {o₁} {o₂} v a b e f x y = subst (λ (s : List ℕ). Written at s 2 o₀ o₂ r) (ap₂ (λ (m n : ℕ). m ∷ n ∷ []) e f) (then x y)
 
-hex-append : (xs ys : List ℕ) → hex (xs ++ ys) ≡ hex xs ++ hex ys
+hex_append : (xs ys : List ℕ) → hex (xs ++ ys) ≡ hex xs ++ hex ys
 unfolding hex
-hex-append [] ys = refl
-hex-append (x ∷ xs) ys = ap (λ (t : List ℕ). hex_byte x ++ t) (hex-append xs ys)
+hex_append [] ys = refl
+hex_append (x ∷ xs) ys = ap (λ (t : List ℕ). hex_byte x ++ t) (hex_append xs ys)
 
-pub hex-none : (out : List ℕ) (i : ℕ) → Written i (hex []) 0 out out i
+pub hex_none : (out : List ℕ) (i : ℕ) → Written i (hex []) 0 out out i
 unfolding hex
-hex-none out i = write-none out i 0
+hex_none out i = write_none out i 0
 
-pub hex-one : (b : ℕ) → hex_byte b ≡ hex (b ∷ [])
+pub hex_one : (b : ℕ) → hex_byte b ≡ hex (b ∷ [])
 unfolding hex
-hex-one b = refl
+hex_one b = refl
 
-pub hex-next : {at p r : ℕ} {o₀ o₁ o₂ : List ℕ} (s : List ℕ) (i : ℕ) → i < length s → Written at (hex (take i s)) (2 * i) o₀ o₁ p
+pub hex_next : {at p r : ℕ} {o₀ o₁ o₂ : List ℕ} (s : List ℕ) (i : ℕ) → i < length s → Written at (hex (take i s)) (2 * i) o₀ o₁ p
     → Written p (hex_byte (get_or s i 0)) 2 o₁ o₂ r → Written at (hex (take (i + 1) s)) (2 * (i + 1)) o₀ o₂ r
-hex-next {at} {p} {r} {o₀} {o₁} {o₂} s i h a b =
+hex_next {at} {p} {r} {o₀} {o₁} {o₂} s i h a b =
     let e : take (i + 1) s ≡ take i s ++ (get_or s i 0 ∷ []) = rw add-one (take-suc s i 0 h) in
-    let f : hex (take i s) ++ hex_byte (get_or s i 0) ≡ hex (take (i + 1) s) = ap (λ (t : List ℕ). hex (take i s) ++ t) (hex-one (get_or s i 0)) ∙ sym (hex-append (take i s) (get_or s i 0 ∷ [])) ∙ ap hex (sym e) in
+    let f : hex (take i s) ++ hex_byte (get_or s i 0) ≡ hex (take (i + 1) s) = ap (λ (t : List ℕ). hex (take i s) ++ t) (hex_one (get_or s i 0)) ∙ sym (hex_append (take i s) (get_or s i 0 ∷ [])) ∙ ap hex (sym e) in
     let g : 2 * i + 2 ≡ 2 * (i + 1) = omega arith in
     subst (λ (n : ℕ). Written at (hex (take (i + 1) s)) n o₀ o₂ r) g (subst (λ (t : List ℕ). Written at t (2 * i + 2) o₀ o₂ r) f (then a b))
 
-pub hex-done : {at r : ℕ} {o₀ o₁ : List ℕ} (s : List ℕ) (i : ℕ) → i ≤ length s → length s ≤ i → Written at (hex (take i s)) (2 * i) o₀ o₁ r
+pub hex_done : {at r : ℕ} {o₀ o₁ : List ℕ} (s : List ℕ) (i : ℕ) → i ≤ length s → length s ≤ i → Written at (hex (take i s)) (2 * i) o₀ o₁ r
     → Written at (hex s) (2 * length s) o₀ o₁ r
-hex-done {at} {r} {o₀} {o₁} s i h k a =
+hex_done {at} {r} {o₀} {o₁} s i h k a =
     let e : i ≡ length s = omega arith in
     let w : Written at (hex (take (length s) s)) (2 * length s) o₀ o₁ r = subst (λ (n : ℕ). Written at (hex (take n s)) (2 * n) o₀ o₁ r) e a in
     subst (λ (t : List ℕ). Written at (hex t) (2 * length s) o₀ o₁ r) (take_all (length s) s (omega arith)) w
 
-pub four-hexes : {at p a b c r : ℕ} {o₀ o₁ o₂ o₃ o₄ o₅ : List ℕ} (v : ℕ) → Written at (0x20 ∷ []) 1 o₀ o₁ p → Written p (hex_byte (v / 16777216)) 2 o₁ o₂ a
+pub four_hexes : {at p a b c r : ℕ} {o₀ o₁ o₂ o₃ o₄ o₅ : List ℕ} (v : ℕ) → Written at (0x20 ∷ []) 1 o₀ o₁ p → Written p (hex_byte (v / 16777216)) 2 o₁ o₂ a
     → Written a (hex_byte (v / 65536 % 256)) 2 o₂ o₃ b → Written b (hex_byte (v / 256 % 256)) 2 o₃ o₄ c → Written c (hex_byte (v % 256)) 2 o₄ o₅ r
     → Written at (0x20 ∷ hex (be4 v)) 9 o₀ o₅ r
 unfolding hex
-four-hexes v p a b c d = then p (then a (then b (then c d)))
+four_hexes v p a b c d = then p (then a (then b (then c d)))
 
-hex-long : (s : List ℕ) → length (hex s) ≡ 2 * length s
+hex_long : (s : List ℕ) → length (hex s) ≡ 2 * length s
 unfolding hex
-hex-long [] = refl
-hex-long (x ∷ xs) = let e = hex-long xs in omega arith
+hex_long [] = refl
+hex_long (x ∷ xs) = let e = hex_long xs in omega arith
 
-line-long : (op res : ℕ) (ans : List ℕ) (t l : ℕ) → length ans ≡ 24 → length (line_of op res ans t l) ≡ 73
+line_long : (op res : ℕ) (ans : List ℕ) (t l : ℕ) → length ans ≡ 24 → length (line_of op res ans t l) ≡ 73
 unfolding line_of hex
-line-long op res ans t l k = let e = hex-long ans in simp length-append (omega arith)
+line_long op res ans t l k = let e = hex_long ans in simp length-append (omega arith)
 
-pub line-done : {a b c d e f g : ℕ} {o₀ o₁ o₂ o₃ o₄ o₅ o₆ o₇ : List ℕ} (op res : ℕ) (ans : List ℕ) (t l : ℕ) → length o₀ ≡ 73 → length ans ≡ 24
+pub line_done : {a b c d e f g : ℕ} {o₀ o₁ o₂ o₃ o₄ o₅ o₆ o₇ : List ℕ} (op res : ℕ) (ans : List ℕ) (t l : ℕ) → length o₀ ≡ 73 → length ans ≡ 24
     → Written 0 (hex_byte op) 2 o₀ o₁ a → Written a (0x20 ∷ two_digits res) 3 o₁ o₂ b → Written b (0x20 ∷ []) 1 o₂ o₃ c
     → Written c (hex ans) (2 * length ans) o₃ o₄ d → Written d (0x20 ∷ hex (be4 t)) 9 o₄ o₅ e → Written e (0x20 ∷ hex (be4 l)) 9 o₅ o₆ f
     → Written f (0x0A ∷ []) 1 o₆ o₇ g → o₇ ≡ line_of op res ans t l
 unfolding line_of
-line-done op res ans t l h k wa wb wc wd we wf wg =
-    written-whole (line-long op res ans t l k ∙ sym h) (then wa (then wb (then (then wc wd) (then we (then wf wg)))))
+line_done op res ans t l h k wa wb wc wd we wf wg =
+    written_whole (line_long op res ans t l k ∙ sym h) (then wa (then wb (then (then wc wd) (then we (then wf wg)))))
 
 -- ---- lengths and bytes put
 
@@ -79,63 +79,63 @@ unfolding over
 over_none [] = refl
 over_none (x ∷ xs) = refl
 
-over-part : (xs t : List ℕ) (n m : ℕ) → n ≡ min (length xs) (length t) → m ≡ n → over xs t ≡ take n xs ++ drop m t
+over_part : (xs t : List ℕ) (n m : ℕ) → n ≡ min (length xs) (length t) → m ≡ n → over xs t ≡ take n xs ++ drop m t
 unfolding over
-over-part [] t n m e h = let z : m ≡ 0 = omega arith in let y : n ≡ 0 = omega arith in rw (z, y)
-over-part (x ∷ xs) [] n m e h = let z : m ≡ 0 = omega arith in let y : n ≡ 0 = omega arith in rw (z, y)
-over-part (x ∷ xs) (y ∷ t) n m e h =
+over_part [] t n m e h = let z : m ≡ 0 = omega arith in let y : n ≡ 0 = omega arith in rw (z, y)
+over_part (x ∷ xs) [] n m e h = let z : m ≡ 0 = omega arith in let y : n ≡ 0 = omega arith in rw (z, y)
+over_part (x ∷ xs) (y ∷ t) n m e h =
     let a : n ≡ suc (n - 1) = omega arith in
     let b : m ≡ suc (n - 1) = omega arith in
     subst (λ (k : ℕ). over (x ∷ xs) (y ∷ t) ≡ take k (x ∷ xs) ++ drop m (y ∷ t)) (sym a)
     (subst (λ (k : ℕ). over (x ∷ xs) (y ∷ t) ≡ take (suc (n - 1)) (x ∷ xs) ++ drop k (y ∷ t)) (sym b)
-    (ap (λ (l : List ℕ). x ∷ l) (over-part xs t (n - 1) (n - 1) (omega arith) refl)))
+    (ap (λ (l : List ℕ). x ∷ l) (over_part xs t (n - 1) (n - 1) (omega arith) refl)))
 
 -- no such place
-pub over-behind : (t xs : List ℕ) (p : ℕ) → length t ≤ p → t ≡ over_at p xs t
+pub over_behind : (t xs : List ℕ) (p : ℕ) → length t ≤ p → t ≡ over_at p xs t
 unfolding over_at
-over-behind t xs p h =
+over_behind t xs p h =
     sym (ap₂ (λ (a b : List ℕ). a ++ over xs b) (take_all p t h) (drop_of_length-le t {i = p} h) ∙ ap (λ (b : List ℕ). t ++ b) (over_none xs) ∙ append-nil t)
 
 -- `&mut t[p..]` was lent to a copy of the first n bytes of xs and is back
-pub over-copied : (t xs ys : List ℕ) (p n : ℕ) → p < length t → n ≡ min (length xs) (length t - p)
+pub over_copied : (t xs ys : List ℕ) (p n : ℕ) → p < length t → n ≡ min (length xs) (length t - p)
     → ys ≡ take (length (take n xs)) (take n xs) ++ drop (length (take n xs)) (mid_of p (length t - p) t) → put_mid p (length t - p) t ys ≡ over_at p xs t
 unfolding over_at
-over-copied t xs ys p n h e k =
+over_copied t xs ys p n h e k =
     let long : length (take n xs) ≡ n = length-take-le n xs (omega arith) in
     let room : length (drop p t) ≡ length t - p = length-drop p t in
     let all : p + length (take n xs) ≤ length t = omega arith in
-    copied-in t (take n xs) ys p all k
+    copied_in t (take n xs) ys p all k
     ∙ ap (λ (l : List ℕ). take p t ++ l)
-    (ap (λ (d : List ℕ). take n xs ++ d) (sym (drop-drop (length (take n xs)) p t)) ∙ sym (over-part xs (drop p t) n (length (take n xs)) (omega arith) (omega arith)))
+    (ap (λ (d : List ℕ). take n xs ++ d) (sym (drop-drop (length (take n xs)) p t)) ∙ sym (over_part xs (drop p t) n (length (take n xs)) (omega arith) (omega arith)))
 
 -- ---- the digest
 
 rest : (l : List ℕ) (i : ℕ) → i < length l → drop i l ≡ get_or l i 0 ∷ drop (i + 1) l
 rest l i h = rw (add-one, drop-cons l i 0 h)
 
-pub digest-next : (s : List ℕ) (i a b : ℕ) → i < length s
+pub digest_next : (s : List ℕ) (i a b : ℕ) → i < length s
     → digest_from a b (drop i s) ≡ digest_from ((a + get_or s i 0) % 65521) ((b + (a + get_or s i 0) % 65521) % 65521) (drop (i + 1) s)
 unfolding digest_from
-digest-next s i a b h = rw (rest s i h)
+digest_next s i a b h = rw (rest s i h)
 
-pub digest-done : (s : List ℕ) (i a b : ℕ) → length s ≤ i → digest_from a b (drop i s) ≡ b * 65536 + a
+pub digest_done : (s : List ℕ) (i a b : ℕ) → length s ≤ i → digest_from a b (drop i s) ≡ b * 65536 + a
 unfolding digest_from
-digest-done s i a b h = rw (drop_of_length-le s {i = i} h)
+digest_done s i a b h = rw (drop_of_length-le s {i = i} h)
 
-pub digest-start : (s : List ℕ) → digest s ≡ digest_from 1 0 (drop 0 s)
+pub digest_start : (s : List ℕ) → digest s ≡ digest_from 1 0 (drop 0 s)
 unfolding digest
-digest-start s = refl
+digest_start s = refl
 
 -- ---- lengths, and a part cut to a length
 
 pub capped : (x y m r : ℕ) → x ≡ y → r ≡ min x m → (r ≡ min y m) × (r ≤ m)
 capped x y m r e h = (omega arith, omega arith)
 
-pub part-capped : (s : List ℕ) (i x y m r : ℕ) → x ≡ y → r ≡ min x m → take (i + r - i) (drop i s) ≡ part i (min y m) s
-part-capped s i x y m r e h = let k : i + r - i ≡ min y m = omega arith in rw k
+pub part_capped : (s : List ℕ) (i x y m r : ℕ) → x ≡ y → r ≡ min x m → take (i + r - i) (drop i s) ≡ part i (min y m) s
+part_capped s i x y m r e h = let k : i + r - i ≡ min y m = omega arith in rw k
 
 pub digit_low : (v : ℕ) → v < 10 → 0x30 + v ≡ hex_digit v
 digit_low v h = rw (lt-ltb v 10 h)
 
-pub digit-high : (v : ℕ) → 10 ≤ v → 0x37 + v ≡ hex_digit v
-digit-high v h = rw (le-ltb v 10 h)
+pub digit_high : (v : ℕ) → 10 ≤ v → 0x37 + v ≡ hex_digit v
+digit_high v h = rw (le-ltb v 10 h)

@@ -6,13 +6,13 @@ use native.Mathlib.Omega.{arith}
 use borrow.Author.Tests.{ne_eqb}
 use lib.Dec.{leb, leb→le}
 use mathlib.Core.Bool.{true}
-use Rattle.model.proofs.Lists.{and_l, and_r, by, true-is}
+use Rattle.model.proofs.Lists.{and_l, and_r, by, true_is}
 use lib.ListN.{length, take, drop, get_or, take-append-drop}
 use lib.Seq.{length-take-le}
 use Rattle.rules.specs.Calls.{Call, DateCall, allocate, date_to_packed, date_to_stored, extend, lspace, obtain, preview, release, rename, request, scratch}
 use Rattle.rules.specs.Promises.{ConvertsDate, geometry}
 use Rattle.rules.specs.Entries.{Lent, Result, convert_date, initialise, lent, perform, result_of}
-use Rattle.rules.proofs.DateCalls.{beside-any-table}
+use Rattle.rules.proofs.DateCalls.{beside_any_table}
 use Rattle.replay_record.specs.Asked.{answer_lent, bytes_of, date_asked, get4, labels_lent, name_asked, other_of, over_at, table_lent}
 use Rattle.replay_record.specs.Line.{digest, line_of}
 use Rattle.replay_step.specs.Play.{Does, Loads, Tells, both_lent, called, play_done, fresh_answer, fresh_labels, initialised, is_date, is_preview, later_op, lent_of, line_for, loaded, obtained, operated, played, preview_op, reading_op, request_of, scratch_of, told, whole_table}
@@ -33,19 +33,19 @@ does_call {c} {r} {t'} {a'} c' asked t a n k d e f h = λ l.
     ∙ ap₂ (λ (i j : ℕ). perform (lent (take i t) (take j a) []) c') e f)
 
 -- the table is only read
-pub reads-call : {c : Call} {r : ℕ} {a' : List ℕ} (c' : Call) (asked t a : List ℕ) (n k : ℕ) → c ≡ c' → n ≡ table_lent asked → k ≡ answer_lent asked
+pub reads_call : {c : Call} {r : ℕ} {a' : List ℕ} (c' : Call) (asked t a : List ℕ) (n k : ℕ) → c ≡ c' → n ≡ table_lent asked → k ≡ answer_lent asked
     → result_of r (lent (take n t) a' []) ≡ perform (lent (take n t) (take k a) []) c → Does (λ b. called asked b c') t a r t (a' ++ drop k a)
-reads-call {c} {r} {a'} c' asked t a n k d e f h = λ l.
+reads_call {c} {r} {a'} c' asked t a n k d e f h = λ l.
     ap (λ (u : List ℕ). result_of r (lent u (a' ++ drop k a) l)) (sym (take-append-drop n t)) ∙ does_call c' asked t a n k d e f h l
 
 -- a date is converted beside whatever table there is
-pub tells-date : {c : DateCall} {r : ℕ} {a' : List ℕ} (c' : DateCall) (asked a : List ℕ) (k : ℕ) → c ≡ c' → k ≡ answer_lent asked
+pub tells_date : {c : DateCall} {r : ℕ} {a' : List ℕ} (c' : DateCall) (asked a : List ℕ) (k : ℕ) → c ≡ c' → k ≡ answer_lent asked
     → ConvertsDate c [] (take k a) [] r [] a' [] → Tells asked c' a r (a' ++ drop k a)
 unfolding told
-tells-date {c} {r} {a'} c' asked a k d f h = λ t l.
+tells_date {c} {r} {a'} c' asked a k d f h = λ t l.
     ap (λ (u : List ℕ). result_of r (lent u (a' ++ drop k a) l)) (sym (take-append-drop (table_lent asked) t))
     ∙ put_back asked t a l (table_lent asked) k refl f
-    (beside-any-table c (take k a) r a' h (take (table_lent asked) t) []
+    (beside_any_table c (take k a) r a' h (take (table_lent asked) t) []
     ∙ ap₂ (λ (x : DateCall) (j : ℕ). convert_date x (lent (take (table_lent asked) t) (take j a) [])) d f)
 
 pub obtains : {r : ℕ} {a' l' : List ℕ} (name asked t a l : List ℕ) (n k m : ℕ) → n ≡ table_lent asked → k ≡ answer_lent asked → m ≡ labels_lent asked
@@ -76,98 +76,98 @@ initialises {r} {t'} {a'} asked t a n k c h d s v e f g₁ g₂ g₃ g₄ g₅ w
 pub beyond : (k n : ℕ) → k ≤ n → (n ≡ k → ⊥) → k + 1 ≤ n
 beyond k n h e = omega (arith, e)
 
-not-both : (n : ℕ) → n ≤ 133 → 134 ≤ n → ⊥
-not-both n a b = absurd (omega arith)
+not_both : (n : ℕ) → n ≤ 133 → 134 ≤ n → ⊥
+not_both n a b = absurd (omega arith)
 
-not-twelve : (n : ℕ) → n ≤ 11 → 12 ≤ n → ⊥
-not-twelve n a b = absurd (omega arith)
+not_twelve : (n : ℕ) → n ≤ 11 → 12 ≤ n → ⊥
+not_twelve n a b = absurd (omega arith)
 
 module _ (r : List ℕ) (b : Lent) {x : Result} (op : ℕ) where
-  pub op-1 : op ≡ 1 → x ≡ initialised r b → x ≡ operated op r b
+  pub op_1 : op ≡ 1 → x ≡ initialised r b → x ≡ operated op r b
   unfolding operated
-  op-1 e h = rw e h
+  op_1 e h = rw e h
 
-  pub op-2 : op ≡ 2 → x ≡ called r b (allocate (request_of r)) → x ≡ operated op r b
+  pub op_2 : op ≡ 2 → x ≡ called r b (allocate (request_of r)) → x ≡ operated op r b
   unfolding operated
-  op-2 e h = rw e h
+  op_2 e h = rw e h
 
-  pub op-3 : op ≡ 3 → x ≡ called r b (extend (name_asked r)) → x ≡ operated op r b
+  pub op_3 : op ≡ 3 → x ≡ called r b (extend (name_asked r)) → x ≡ operated op r b
   unfolding operated
-  op-3 e h = rw e h
+  op_3 e h = rw e h
 
-  pub op-4 : op ≡ 4 → x ≡ called r b (release (name_asked r) (get4 r 8)) → x ≡ operated op r b
+  pub op_4 : op ≡ 4 → x ≡ called r b (release (name_asked r) (get4 r 8)) → x ≡ operated op r b
   unfolding operated
-  op-4 e h = rw e h
+  op_4 e h = rw e h
 
-  pub op-5 : op ≡ 5 → x ≡ called r b (scratch_of r) → x ≡ later_op op r b
+  pub op_5 : op ≡ 5 → x ≡ called r b (scratch_of r) → x ≡ later_op op r b
   unfolding later_op
-  op-5 e h = rw e h
+  op_5 e h = rw e h
 
-  pub op-6 : op ≡ 6 → x ≡ called r b (rename (name_asked r) (other_of r)) → x ≡ later_op op r b
+  pub op_6 : op ≡ 6 → x ≡ called r b (rename (name_asked r) (other_of r)) → x ≡ later_op op r b
   unfolding later_op
-  op-6 e h = rw e h
+  op_6 e h = rw e h
 
-  pub op-7 : op ≡ 7 → x ≡ obtained r b → x ≡ later_op op r b
+  pub op_7 : op ≡ 7 → x ≡ obtained r b → x ≡ later_op op r b
   unfolding later_op
-  op-7 e h = rw e h
+  op_7 e h = rw e h
 
-  pub op-8 : op ≡ 8 → x ≡ called r b lspace → x ≡ later_op op r b
+  pub op_8 : op ≡ 8 → x ≡ called r b lspace → x ≡ later_op op r b
   unfolding later_op
-  op-8 e h = rw e h
+  op_8 e h = rw e h
 
-  pub op-9 : op ≡ 9 → x ≡ loaded r b → x ≡ later_op op r b
+  pub op_9 : op ≡ 9 → x ≡ loaded r b → x ≡ later_op op r b
   unfolding later_op
-  op-9 e h = rw e h
+  op_9 e h = rw e h
 
-  pub op-later : (op ≡ 1 → ⊥) → (op ≡ 2 → ⊥) → (op ≡ 3 → ⊥) → (op ≡ 4 → ⊥) → x ≡ later_op op r b → x ≡ operated op r b
+  pub op_later : (op ≡ 1 → ⊥) → (op ≡ 2 → ⊥) → (op ≡ 3 → ⊥) → (op ≡ 4 → ⊥) → x ≡ later_op op r b → x ≡ operated op r b
   unfolding operated
-  op-later e₁ e₂ e₃ e₄ h = rw (ne_eqb op 1 e₁, ne_eqb op 2 e₂, ne_eqb op 3 e₃, ne_eqb op 4 e₄) h
+  op_later e₁ e₂ e₃ e₄ h = rw (ne_eqb op 1 e₁, ne_eqb op 2 e₂, ne_eqb op 3 e₃, ne_eqb op 4 e₄) h
 
-  pub op-reading : (op ≡ 5 → ⊥) → (op ≡ 6 → ⊥) → (op ≡ 7 → ⊥) → (op ≡ 8 → ⊥) → (op ≡ 9 → ⊥) → x ≡ reading_op op r b → x ≡ later_op op r b
+  pub op_reading : (op ≡ 5 → ⊥) → (op ≡ 6 → ⊥) → (op ≡ 7 → ⊥) → (op ≡ 8 → ⊥) → (op ≡ 9 → ⊥) → x ≡ reading_op op r b → x ≡ later_op op r b
   unfolding later_op
-  op-reading e₁ e₂ e₃ e₄ e₅ h = rw (ne_eqb op 5 e₁, ne_eqb op 6 e₂, ne_eqb op 7 e₃, ne_eqb op 8 e₄, ne_eqb op 9 e₅) h
+  op_reading e₁ e₂ e₃ e₄ e₅ h = rw (ne_eqb op 5 e₁, ne_eqb op 6 e₂, ne_eqb op 7 e₃, ne_eqb op 8 e₄, ne_eqb op 9 e₅) h
 
-  pub op-10 : op ≡ 10 → x ≡ told r b (date_to_stored (date_asked r)) → x ≡ reading_op op r b
+  pub op_10 : op ≡ 10 → x ≡ told r b (date_to_stored (date_asked r)) → x ≡ reading_op op r b
   unfolding reading_op
-  op-10 e h = rw e h
+  op_10 e h = rw e h
 
-  pub op-11 : op ≡ 11 → x ≡ told r b (date_to_packed (date_asked r)) → x ≡ reading_op op r b
+  pub op_11 : op ≡ 11 → x ≡ told r b (date_to_packed (date_asked r)) → x ≡ reading_op op r b
   unfolding reading_op
-  op-11 e h = rw e h
+  op_11 e h = rw e h
 
-  pub op-preview : (op ≡ 10 → ⊥) → (op ≡ 11 → ⊥) → x ≡ preview_op op r b → x ≡ reading_op op r b
+  pub op_preview : (op ≡ 10 → ⊥) → (op ≡ 11 → ⊥) → x ≡ preview_op op r b → x ≡ reading_op op r b
   unfolding reading_op
-  op-preview e₁ e₂ h = by (is_date op) (λ k. absurd (none k)) (λ k. rw k h)
+  op_preview e₁ e₂ h = by (is_date op) (λ k. absurd (none k)) (λ k. rw k h)
     where
       none : is_date op ≡ true → ⊥
       none k =
-          not-twelve op (leb→le op 11 (and_r (leb 10 op) (leb op 11) (true-is k)))
-          (beyond 11 op (beyond 10 op (leb→le 10 op (and_l (leb 10 op) (leb op 11) (true-is k))) e₁) e₂)
+          not_twelve op (leb→le op 11 (and_r (leb 10 op) (leb op 11) (true_is k)))
+          (beyond 11 op (beyond 10 op (leb→le 10 op (and_l (leb 10 op) (leb op 11) (true_is k))) e₁) e₂)
 
-  pub op-130 : op ≡ 130 → x ≡ called r b (preview (allocate (request_of r))) → x ≡ preview_op op r b
+  pub op_130 : op ≡ 130 → x ≡ called r b (preview (allocate (request_of r))) → x ≡ preview_op op r b
   unfolding preview_op
-  op-130 e h = rw e h
+  op_130 e h = rw e h
 
-  pub op-131 : op ≡ 131 → x ≡ called r b (preview (extend (name_asked r))) → x ≡ preview_op op r b
+  pub op_131 : op ≡ 131 → x ≡ called r b (preview (extend (name_asked r))) → x ≡ preview_op op r b
   unfolding preview_op
-  op-131 e h = rw e h
+  op_131 e h = rw e h
 
-  pub op-132 : op ≡ 132 → x ≡ called r b (preview (release (name_asked r) (get4 r 8))) → x ≡ preview_op op r b
+  pub op_132 : op ≡ 132 → x ≡ called r b (preview (release (name_asked r) (get4 r 8))) → x ≡ preview_op op r b
   unfolding preview_op
-  op-132 e h = rw e h
+  op_132 e h = rw e h
 
-  pub op-133 : op ≡ 133 → x ≡ called r b (preview (scratch_of r)) → x ≡ preview_op op r b
+  pub op_133 : op ≡ 133 → x ≡ called r b (preview (scratch_of r)) → x ≡ preview_op op r b
   unfolding preview_op
-  op-133 e h = rw e h
+  op_133 e h = rw e h
 
-  pub op-other : (op ≡ 130 → ⊥) → (op ≡ 131 → ⊥) → (op ≡ 132 → ⊥) → (op ≡ 133 → ⊥) → x ≡ result_of 99 b → x ≡ preview_op op r b
+  pub op_other : (op ≡ 130 → ⊥) → (op ≡ 131 → ⊥) → (op ≡ 132 → ⊥) → (op ≡ 133 → ⊥) → x ≡ result_of 99 b → x ≡ preview_op op r b
   unfolding preview_op
-  op-other e₁ e₂ e₃ e₄ h = by (is_preview op) (λ k. absurd (none k)) (λ k. rw k h)
+  op_other e₁ e₂ e₃ e₄ h = by (is_preview op) (λ k. absurd (none k)) (λ k. rw k h)
     where
       none : is_preview op ≡ true → ⊥
       none k =
-          not-both op (leb→le op 133 (and_r (leb 130 op) (leb op 133) (true-is k)))
-          (beyond 133 op (beyond 132 op (beyond 131 op (beyond 130 op (leb→le 130 op (and_l (leb 130 op) (leb op 133) (true-is k))) e₁) e₂) e₃) e₄)
+          not_both op (leb→le op 133 (and_r (leb 130 op) (leb op 133) (true_is k)))
+          (beyond 133 op (beyond 132 op (beyond 131 op (beyond 130 op (leb→le 130 op (and_l (leb 130 op) (leb op 133) (true_is k))) e₁) e₂) e₃) e₄)
 
 -- ---- put, and the line
 
@@ -182,24 +182,24 @@ unfolding line_for
 reported {line} asked t a l r n m x y e f g h k =
     k ∙ ap₂ (λ (i j : ℕ). line_of (get_or asked 0 0) r (take 24 a) i j) (g ∙ ap (λ (i : ℕ). digest (take i t)) e) (h ∙ ap (λ (i : ℕ). digest (take i l)) f)
 
-pub step-done : {line t' a' l' : List ℕ} {r : ℕ} (asked t a l : List ℕ) → a ≡ fresh_answer → l ≡ fresh_labels
+pub step_done : {line t' a' l' : List ℕ} {r : ℕ} (asked t a l : List ℕ) → a ≡ fresh_answer → l ≡ fresh_labels
     → result_of r (lent t' a' l') ≡ operated (get_or asked 0 0) asked (lent t a l) → line ≡ line_for asked (result_of r (lent t' a' l')) → both_lent line t' ≡ played asked t
 unfolding played play_done
-step-done {line} {t'} {a'} {l'} {r} asked t a l e f h k =
+step_done {line} {t'} {a'} {l'} {r} asked t a l e f h k =
     let d : result_of r (lent t' a' l') ≡ play_done asked t = h ∙ ap₂ (λ (i j : List ℕ). operated (get_or asked 0 0) asked (lent t i j)) e f in
     ap₂ both_lent (k ∙ ap (λ (q : Result). line_for asked q) d) (ap (λ (q : Result). q.after.table) d)
 
 -- so many bytes are lent
-pub lent-long : (n m : ℕ) (t : List ℕ) → length t ≡ m → n ≤ m → n ≡ length (take n t)
-lent-long n m t h k = sym (length-take-le n t (omega arith))
+pub lent_long : (n m : ℕ) (t : List ℕ) → length t ≡ m → n ≤ m → n ≡ length (take n t)
+lent_long n m t h k = sym (length-take-le n t (omega arith))
 
-pub same-request : {n n' at at' : List ℕ} {k k' s s' a a' v v' o o' : ℕ} {d d' : List ℕ} → n ≡ n' → at ≡ at' → k ≡ k' → s ≡ s' → a ≡ a' → v ≡ v' → o ≡ o' → d ≡ d'
+pub same_request : {n n' at at' : List ℕ} {k k' s s' a a' v v' o o' : ℕ} {d d' : List ℕ} → n ≡ n' → at ≡ at' → k ≡ k' → s ≡ s' → a ≡ a' → v ≡ v' → o ≡ o' → d ≡ d'
     → allocate (request n at k s a v o d) ≡ allocate (request n' at' k' s' a' v' o' d')
-same-request {n} {n'} {at} {at'} {k} {k'} {s} {s'} {a} {a'} {v} {v'} {o} {o'} {d} {d'} e₁ e₂ e₃ e₄ e₅ e₆ e₇ e₈ =
+same_request {n} {n'} {at} {at'} {k} {k'} {s} {s'} {a} {a'} {v} {v'} {o} {o'} {d} {d'} e₁ e₂ e₃ e₄ e₅ e₆ e₇ e₈ =
     ap₂ (λ (x y : List ℕ). allocate (request x y k s a v o d)) e₁ e₂
     ∙ ap₂ (λ (x y : ℕ). allocate (request n' at' x y a v o d)) e₃ e₄
     ∙ ap₂ (λ (x y : ℕ). allocate (request n' at' k' s' x y o d)) e₅ e₆
     ∙ ap₂ (λ (x : ℕ) (y : List ℕ). allocate (request n' at' k' s' a' v' x y)) e₇ e₈
 
-pub same-scratch : {n n' d d' : List ℕ} {k k' : ℕ} → n ≡ n' → d ≡ d' → k ≡ k' → scratch n d k ≡ scratch n' d' k'
-same-scratch {n} {n'} {d} {d'} {k} {k'} e f g = ap₂ (λ (x y : List ℕ). scratch x y k) e f ∙ ap (scratch n' d') g
+pub same_scratch : {n n' d d' : List ℕ} {k k' : ℕ} → n ≡ n' → d ≡ d' → k ≡ k' → scratch n d k ≡ scratch n' d' k'
+same_scratch {n} {n'} {d} {d'} {k} {k'} e f g = ap₂ (λ (x y : List ℕ). scratch x y k) e f ∙ ap (scratch n' d') g

@@ -12,36 +12,36 @@ use lib.Seq.{take_all, take-append-le}
 use Rattle.model.specs.Basics.{all, bit, map_option, up_from}
 use Rattle.model.specs.Choice.{SpaceOption}
 use Rattle.model.specs.Model.{Extent, Geometry, Label, Run, Volume, covers, extent, free, held, overs, run, times, total, tracks}
-use Rattle.model.proofs.Lists.{and_l, and_r, by, sum-append, true-is}
+use Rattle.model.proofs.Lists.{and_l, and_r, by, sum_append, true_is}
 use Rattle.model.specs.Predicates.{All, Once}
 use Rattle.model.proofs.Runs.{Inside, balance}
 use Rattle.rules.specs.Calls.{Amount, Outcome, absolute, amount_of, given, in_cylinders, in_tracks, option_for, option_of, refuse, grant as granting}
-use Rattle.rules.proofs.Grant.{grant-law}
+use Rattle.rules.proofs.Grant.{grant_law}
 use Rattle.rules.specs.Predicates.{Asks, GoodExtent, Valid}
-use Rattle.rules.proofs.Valid.{free-once}
+use Rattle.rules.proofs.Valid.{free_once}
 use Rattle.bitmap.specs.Map.{Shows, Room}
 use Rattle.choose_pieces.specs.Grant.{granted_runs, grant_of, no_pieces, rows_in, row}
-use Rattle.choose_pieces.proofs.Reply.{granted-pieces, none-back, overs-extents, array_back}
+use Rattle.choose_pieces.proofs.Reply.{granted_pieces, none_back, overs_extents, array_back}
 use Rattle.request.specs.Request.{is_known, pieces_of, type_of, Good}
-use Rattle.request.proofs.Granting.{runs-back}
+use Rattle.request.proofs.Granting.{runs_back}
 
 -- ---- what may be asked for
 
 -- the answer about a place, where the number t of tracks was computed
-pub on-volume : (start n secondary t t' : ℕ) (r : Bool) → t ≡ t' → r ≡ (leb 1 n && leb (start + n) t && eqb secondary 0) → r ≡ (leb 1 n && leb (start + n) t' && eqb secondary 0)
-on-volume start n secondary t t' r e h = subst (λ (u : ℕ). r ≡ (leb 1 n && leb (start + n) u && eqb secondary 0)) e h
+pub on_volume : (start n secondary t t' : ℕ) (r : Bool) → t ≡ t' → r ≡ (leb 1 n && leb (start + n) t && eqb secondary 0) → r ≡ (leb 1 n && leb (start + n) t' && eqb secondary 0)
+on_volume start n secondary t t' r e h = subst (λ (u : ℕ). r ≡ (leb 1 n && leb (start + n) u && eqb secondary 0)) e h
 
 -- 7 for an unknown option
-unknown-option : (option : ℕ) → 4 ≤ option → option_of option ≡ none
-unknown-option zero h = absurd (omega arith)
-unknown-option (suc zero) h = absurd (omega arith)
-unknown-option (suc (suc zero)) h = absurd (omega arith)
-unknown-option (suc (suc (suc zero))) h = absurd (omega arith)
-unknown-option (suc (suc (suc (suc k)))) h = refl
+unknown_option : (option : ℕ) → 4 ≤ option → option_of option ≡ none
+unknown_option zero h = absurd (omega arith)
+unknown_option (suc zero) h = absurd (omega arith)
+unknown_option (suc (suc zero)) h = absurd (omega arith)
+unknown_option (suc (suc (suc zero))) h = absurd (omega arith)
+unknown_option (suc (suc (suc (suc k)))) h = refl
 
-no-option : (s n option : ℕ) → 1 ≤ option → option_for (absolute s n) option ≡ none
-no-option s n zero h = absurd (omega arith)
-no-option s n (suc k) h = refl
+no_option_lem : (s n option : ℕ) → 1 ≤ option → option_for (absolute s n) option ≡ none
+no_option_lem s n zero h = absurd (omega arith)
+no_option_lem s n (suc k) h = refl
 
 -- as the code asks
 pub none_only : (option : ℕ) → eqb option 0 ≡ leb option 0
@@ -51,86 +51,86 @@ none_only option =
     (λ h. let e = eqb-false option 0 h in h ∙ sym (lt-leb option 0 (omega arith)))
 
 -- 7 for a kind or an option that is not known
-pub unknown-asked : (kind start n option : ℕ) (k : Amount → SpaceOption → Outcome) → is_known kind option ≡ false
+pub unknown_asked : (kind start n option : ℕ) (k : Amount → SpaceOption → Outcome) → is_known kind option ≡ false
     → given (amount_of kind start n) 7 (λ a. given (option_for a option) 7 (k a)) ≡ refuse 7
-unknown-asked zero start n option k e = rw (unknown-option option (leb-false option 3 e))
-unknown-asked (suc zero) start n option k e = rw (unknown-option option (leb-false option 3 e))
-unknown-asked (suc (suc zero)) start n option k e = rw (no-option start n option (leb-false option 0 e))
-unknown-asked (suc (suc (suc j))) start n option k e = refl
+unknown_asked zero start n option k e = rw (unknown_option option (leb-false option 3 e))
+unknown_asked (suc zero) start n option k e = rw (unknown_option option (leb-false option 3 e))
+unknown_asked (suc (suc zero)) start n option k e = rw (no_option_lem start n option (leb-false option 0 e))
+unknown_asked (suc (suc (suc j))) start n option k e = refl
 
 -- a kind and an option that are known
-pub known-kind : (kind option : ℕ) → is_known kind option ≡ true → kind ≤ 2
-known-kind kind option e = leb→le kind 2 (and_l (leb kind 2) (leb option (cond (eqb kind 2) 0 3)) (true-is e))
+pub known_kind : (kind option : ℕ) → is_known kind option ≡ true → kind ≤ 2
+known_kind kind option e = leb→le kind 2 (and_l (leb kind 2) (leb option (cond (eqb kind 2) 0 3)) (true_is e))
 
-most-option : (kind option : ℕ) → is_known kind option ≡ true → option ≤ cond (eqb kind 2) 0 3
-most-option kind option e = leb→le option (cond (eqb kind 2) 0 3) (and_r (leb kind 2) (leb option (cond (eqb kind 2) 0 3)) (true-is e))
+most_option : (kind option : ℕ) → is_known kind option ≡ true → option ≤ cond (eqb kind 2) 0 3
+most_option kind option e = leb→le option (cond (eqb kind 2) 0 3) (and_r (leb kind 2) (leb option (cond (eqb kind 2) 0 3)) (true_is e))
 
-pub known-option : (kind option : ℕ) → is_known kind option ≡ true → option ≤ 3
-known-option kind option e =
+pub known_option : (kind option : ℕ) → is_known kind option ≡ true → option ≤ 3
+known_option kind option e =
     by (eqb kind 2)
-    (λ h. let k : option ≤ 0 = rw h at (most-option kind option e) in omega arith)
-    (λ h. rw h at (most-option kind option e))
+    (λ h. let k : option ≤ 0 = rw h at (most_option kind option e) in omega arith)
+    (λ h. rw h at (most_option kind option e))
 
 -- the option of an absolute request
-pub absolute-option : (kind option : ℕ) → is_known kind option ≡ true → kind ≡ 2 → option ≡ 0
-absolute-option kind option e k =
-    let h : option ≤ 0 = rw (eq-eqb kind 2 k) at (most-option kind option e) in
+pub absolute_option : (kind option : ℕ) → is_known kind option ≡ true → kind ≡ 2 → option ≡ 0
+absolute_option kind option e k =
+    let h : option ≤ 0 = rw (eq-eqb kind 2 k) at (most_option kind option e) in
     omega arith
 
 -- a secondary amount that is not 0
-pub secondary-asks : (g : Geometry) (unit sec : ℕ) → 1 ≤ sec → Asks g (cond (eqb unit 0xC0) (in_cylinders sec) (in_tracks sec))
-secondary-asks g unit sec h = by (eqb unit 0xC0) (λ e. rw e h) (λ e. rw e h)
+pub secondary_asks : (g : Geometry) (unit sec : ℕ) → 1 ≤ sec → Asks g (cond (eqb unit 0xC0) (in_cylinders sec) (in_tracks sec))
+secondary_asks g unit sec h = by (eqb unit 0xC0) (λ e. rw e h) (λ e. rw e h)
 
 -- ---- the extents are the pieces, all of one type
 
-typed-back : (b : ℕ) (o : Option (List Run)) (x : Option (List Extent)) → x ≡ map_option (map (extent b)) o → x ≡ map_option (map (extent b)) (map_option overs x)
-typed-back b o x e = e ∙ ap (map_option (map (extent b))) (runs-back b o ∙ ap (map_option overs) (sym e))
+typed_back : (b : ℕ) (o : Option (List Run)) (x : Option (List Extent)) → x ≡ map_option (map (extent b)) o → x ≡ map_option (map (extent b)) (map_option overs x)
+typed_back b o x e = e ∙ ap (map_option (map (extent b))) (runs_back b o ∙ ap (map_option overs) (sym e))
 
 module _ (g : Geometry) (ls : List Label) (o : SpaceOption) where
-  pub granted-typed : (a : Amount) → granting g ls o a ≡ map_option (map (extent (type_of a))) (pieces_of g ls o a)
+  pub granted_typed : (a : Amount) → granting g ls o a ≡ map_option (map (extent (type_of a))) (pieces_of g ls o a)
   unfolding granting pieces_of
-  granted-typed (in_tracks n) = typed-back 0x01 (granted_runs o 1 n (free g ls)) _ (granted-pieces o 0x01 1 n (free g ls))
-  granted-typed (in_cylinders n) = typed-back 0x81 (granted_runs o g.heads n (free g ls)) _ (granted-pieces o 0x81 g.heads n (free g ls))
-  granted-typed (absolute s n) = go (all (λ t. eqb (times t (held g ls)) 0) (up_from s n))
+  granted_typed (in_tracks n) = typed_back 0x01 (granted_runs o 1 n (free g ls)) _ (granted_pieces o 0x01 1 n (free g ls))
+  granted_typed (in_cylinders n) = typed_back 0x81 (granted_runs o g.heads n (free g ls)) _ (granted_pieces o 0x81 g.heads n (free g ls))
+  granted_typed (absolute s n) = go (all (λ t. eqb (times t (held g ls)) 0) (up_from s n))
     where
       go : (x : Bool) → cond x (some (extent 0x01 (run s n) ∷ [])) none ≡ map_option (map (extent 0x01)) (map_option overs (cond x (some (extent 0x01 (run s n) ∷ [])) none))
       go true = refl
       go false = refl
 
-  pub granted-some : (a : Amount) (ps : List Run) → pieces_of g ls o a ≡ some ps → granting g ls o a ≡ some (map (extent (type_of a)) ps)
-  granted-some a ps e = granted-typed a ∙ ap (map_option (map (extent (type_of a)))) e
+  pub granted_some : (a : Amount) (ps : List Run) → pieces_of g ls o a ≡ some ps → granting g ls o a ≡ some (map (extent (type_of a)) ps)
+  granted_some a ps e = granted_typed a ∙ ap (map_option (map (extent (type_of a)))) e
 
-  pub granted-none : (a : Amount) → pieces_of g ls o a ≡ none → granting g ls o a ≡ none
-  granted-none a e = granted-typed a ∙ ap (map_option (map (extent (type_of a)))) e
+  pub granted_none : (a : Amount) → pieces_of g ls o a ≡ none → granting g ls o a ≡ none
+  granted_none a e = granted_typed a ∙ ap (map_option (map (extent (type_of a)))) e
 
 -- ---- where the pieces lie
 
-all-full : (g : Geometry) (es : List Extent) → All (GoodExtent g) es → All (λ p. 1 ≤ p.count) (overs es)
-all-full g [] a = tt
-all-full g (e ∷ es) a = (a.0.full, all-full g es a.1)
+all_full : (g : Geometry) (es : List Extent) → All (GoodExtent g) es → All (λ p. 1 ≤ p.count) (overs es)
+all_full g [] a = tt
+all_full g (e ∷ es) a = (a.0.full, all_full g es a.1)
 
-all-below : (g : Geometry) (es : List Extent) → All (GoodExtent g) es → All (λ p. p.start + p.count ≤ tracks g) (overs es)
-all-below g [] a = tt
-all-below g (e ∷ es) a = (a.0.ends, all-below g es a.1)
+all_below : (g : Geometry) (es : List Extent) → All (GoodExtent g) es → All (λ p. p.start + p.count ≤ tracks g) (overs es)
+all_below g [] a = tt
+all_below g (e ∷ es) a = (a.0.ends, all_below g es a.1)
 
-all-inside : (n : ℕ) (ps : List Run) → All (λ p. p.start + p.count ≤ n) ps → Inside n ps
-all-inside n [] a = tt
-all-inside n (p ∷ ps) a = (a.0, all-inside n ps a.1)
+all_inside : (n : ℕ) (ps : List Run) → All (λ p. p.start + p.count ≤ n) ps → Inside n ps
+all_inside n [] a = tt
+all_inside n (p ∷ ps) a = (a.0, all_inside n ps a.1)
 
-pub fulfilled-good : (v : Volume) → Valid v → (o : SpaceOption) (a : Amount) (es : List Extent) → Asks v.geometry a → granting v.geometry v.labels o a ≡ some es → Good v (overs es)
-fulfilled-good v h o a es k e =
+pub fulfilled_good : (v : Volume) → Valid v → (o : SpaceOption) (a : Amount) (es : List Extent) → Asks v.geometry a → granting v.geometry v.labels o a ≡ some es → Good v (overs es)
+fulfilled_good v h o a es k e =
     let g = v.geometry in
     let hs = held g v.labels in
     let n = tracks g in
-    let x = grant-law v h o a es k e in
+    let x = grant_law v h o a es k e in
     let l = length-map es (λ e. e.over) in
-    let low = all-below g es x.good in
+    let low = all_below g es x.good in
     let once : Once n (overs es ++ hs)
-    = λ t u. let p = sum-append (λ r. bit (covers r t)) (overs es) hs in let q = x.inside t in let o = free-once v h t u in omega arith in
-    let alone : Once n (overs es) = λ t u. let q = x.inside t in let o = free-once v h t u in omega arith in
-    let b = balance n (overs es) (all-inside n (overs es) low) alone in
+    = λ t u. let p = sum_append (λ r. bit (covers r t)) (overs es) hs in let q = x.inside t in let o = free_once v h t u in omega arith in
+    let alone : Once n (overs es) = λ t u. let q = x.inside t in let o = free_once v h t u in omega arith in
+    let b = balance n (overs es) (all_inside n (overs es) low) alone in
     record {
-      full = all-full g es x.good;
+      full = all_full g es x.good;
       below = low;
       least = let y = x.least in omega arith;
       most = let y = x.most in omega arith;
@@ -141,7 +141,7 @@ fulfilled-good v h o a es k e =
 -- they can be taken out of the map
 pub pieces_room : (m : List ℕ) (v : Volume) (ps : List Run) → Shows m (tracks v.geometry) (held v.geometry v.labels) → Good v ps → Room m (tracks v.geometry) ps
 pieces_room m v ps h x t u =
-    let p = sum-append (λ r. bit (covers r t)) ps (held v.geometry v.labels) in
+    let p = sum_append (λ r. bit (covers r t)) ps (held v.geometry v.labels) in
     let q = x.once t u in
     let e = h t u in
     omega arith
@@ -160,40 +160,40 @@ pub record Fulfilled (v : Volume) (o : SpaceOption) (a : Amount) (count sum : �
 
 module _ (v : Volume) (h : Valid v) (o : SpaceOption) (a : Amount) (k : Asks v.geometry a) (p : List (List ℕ)) (e : p ≡ grant_of (pieces_of v.geometry v.labels o a))
     (count sum : ℕ) (c : (count ≡ length (rows_in p)) × (sum ≡ total (rows_in p))) where
-  pieces-good : (ps : List Run) → pieces_of v.geometry v.labels o a ≡ some ps → Good v ps
-  pieces-good ps q =
-      subst (Good v) (overs-extents (type_of a) ps)
-      (fulfilled-good v h o a (map (extent (type_of a)) ps) k (granted-some v.geometry v.labels o a ps q))
+  pieces_good : (ps : List Run) → pieces_of v.geometry v.labels o a ≡ some ps → Good v ps
+  pieces_good ps q =
+      subst (Good v) (overs_extents (type_of a) ps)
+      (fulfilled_good v h o a (map (extent (type_of a)) ps) k (granted_some v.geometry v.labels o a ps q))
 
-  none-there : pieces_of v.geometry v.labels o a ≡ none → rows_in p ≡ []
-  none-there q = ap rows_in (e ∙ ap grant_of q) ∙ none-back
+  none_there : pieces_of v.geometry v.labels o a ≡ none → rows_in p ≡ []
+  none_there q = ap rows_in (e ∙ ap grant_of q) ∙ none_back
 
-  those-there : (ps : List Run) → pieces_of v.geometry v.labels o a ≡ some ps → rows_in p ≡ ps
-  those-there ps q = ap rows_in (e ∙ ap grant_of q) ∙ array_back ps (pieces-good ps q).full
+  those_there : (ps : List Run) → pieces_of v.geometry v.labels o a ≡ some ps → rows_in p ≡ ps
+  those_there ps q = ap rows_in (e ∙ ap grant_of q) ∙ array_back ps (pieces_good ps q).full
 
   -- 9 no space
   pub refused : count ≡ 0 → granting v.geometry v.labels o a ≡ none
   refused z = go (pieces_of v.geometry v.labels o a) refl
     where
       go : (x : Option (List Run)) → pieces_of v.geometry v.labels o a ≡ x → granting v.geometry v.labels o a ≡ none
-      go none q = granted-none v.geometry v.labels o a q
-      go (some ps) q = absurd (let l = (pieces-good ps q).least in let n = c.0 in let t = ap (λ (x : List Run). length x) (those-there ps q) in omega arith)
+      go none q = granted_none v.geometry v.labels o a q
+      go (some ps) q = absurd (let l = (pieces_good ps q).least in let n = c.0 in let t = ap (λ (x : List Run). length x) (those_there ps q) in omega arith)
 
   pub accepted : (count ≡ 0 → ⊥) → Fulfilled v o a count sum p
   unfolding grant_of
   accepted z = go (pieces_of v.geometry v.labels o a) refl
     where
       go : (x : Option (List Run)) → pieces_of v.geometry v.labels o a ≡ x → Fulfilled v o a count sum p
-      go none q = absurd (z (c.0 ∙ ap (λ (x : List Run). length x) (none-there q)))
+      go none q = absurd (z (c.0 ∙ ap (λ (x : List Run). length x) (none_there q)))
       go (some ps) q =
-          let t = those-there ps q in
+          let t = those_there ps q in
           let n : count ≡ length ps = c.0 ∙ ap (λ (x : List Run). length x) t in
           let l = length-map ps row in
           record {
             ps = ps;
-            granted = granted-some v.geometry v.labels o a ps q;
-            runs = overs-extents (type_of a) ps;
-            good = pieces-good ps q;
+            granted = granted_some v.geometry v.labels o a ps q;
+            runs = overs_extents (type_of a) ps;
+            good = pieces_good ps q;
             number = sym n;
             adds = sym (c.1 ∙ ap total t);
             first =

@@ -17,13 +17,13 @@ use Rattle.rows.specs.Words.{all_are}
 pub rest : (l : List ℕ) (i : ℕ) → i < length l → drop i l ≡ get_or l i 0 ∷ drop (i + 1) l
 rest l i h = rw (add-one, drop-cons l i 0)
 
-pub and-false : (t : Bool) → t && false ≡ false
-and-false true = refl
-and-false false = refl
+pub and_false : (t : Bool) → t && false ≡ false
+and_false true = refl
+and_false false = refl
 
-pub and-true : (t : Bool) → t && true ≡ t
-and-true true = refl
-and-true false = refl
+pub and_true : (t : Bool) → t && true ≡ t
+and_true true = refl
+and_true false = refl
 
 pub and_assoc : (a b c : Bool) → (a && b) && c ≡ a && (b && c)
 and_assoc true b c = refl
@@ -32,8 +32,8 @@ and_assoc false b c = refl
 -- ---- all alike
 
 -- what is gathered stays 0 as long as the bytes are v
-pub gather-rows : (a x v : ℕ) → eqb (bit_or a (bit_xor x v)) 0 ≡ eqb a 0 && eqb x v
-gather-rows a x v =
+pub gather_rows : (a x v : ℕ) → eqb (bit_or a (bit_xor x v)) 0 ≡ eqb a 0 && eqb x v
+gather_rows a x v =
     let o = or_add_and a (bit_xor x v) in
     let l = and_le_l a (bit_xor x v) in
     let r = and_le_r a (bit_xor x v) in
@@ -51,14 +51,14 @@ gather-rows a x v =
     (λ k. rw (h, k) (ne_eqb (bit_or a (bit_xor x v)) 0 (λ e. eqb-false x v k (omega arith)))))
     (λ h. rw h (ne_eqb (bit_or a (bit_xor x v)) 0 (λ e. eqb-false a 0 h (omega arith))))
 
-pub are-next : (a v : ℕ) (l : List ℕ) (i : ℕ) → i < length l
+pub are_next : (a v : ℕ) (l : List ℕ) (i : ℕ) → i < length l
     → eqb a 0 && all_are v (drop i l) ≡ eqb (bit_or a (bit_xor (get_or l i 0) v)) 0 && all_are v (drop (i + 1) l)
 unfolding all_are
-are-next a v l i h = rw (rest l i h, gather-rows a (get_or l i 0) v, and_assoc)
+are_next a v l i h = rw (rest l i h, gather_rows a (get_or l i 0) v, and_assoc)
 
-pub are-end : (a v : ℕ) (l : List ℕ) (i : ℕ) → length l ≤ i → eqb a 0 && all_are v (drop i l) ≡ eqb a 0
+pub are_end : (a v : ℕ) (l : List ℕ) (i : ℕ) → length l ≤ i → eqb a 0 && all_are v (drop i l) ≡ eqb a 0
 unfolding all_are
-are-end a v l i h = rw (drop_of_length-le l {i = i} h) (and-true (eqb a 0))
+are_end a v l i h = rw (drop_of_length-le l {i = i} h) (and_true (eqb a 0))
 
 -- all are v: it is v, so many times
 pub are→ : (v : ℕ) (xs : List ℕ) → T (all_are v xs) → xs ≡ replicate (length xs) v
@@ -71,26 +71,26 @@ unfolding all_are
 →are v zero = tt
 →are v (suc n) = both (eqb v v) _ (eqb_refl v) (→are v n)
 
-pub are-append : (v : ℕ) (xs ys : List ℕ) → all_are v (xs ++ ys) ≡ all_are v xs && all_are v ys
+pub are_append : (v : ℕ) (xs ys : List ℕ) → all_are v (xs ++ ys) ≡ all_are v xs && all_are v ys
 unfolding all_are
-are-append v [] ys = refl
-are-append v (x ∷ xs) ys = ap (λ (b : Bool). eqb x v && b) (are-append v xs ys) ∙ sym (and_assoc (eqb x v) (all_are v xs) (all_are v ys))
+are_append v [] ys = refl
+are_append v (x ∷ xs) ys = ap (λ (b : Bool). eqb x v && b) (are_append v xs ys) ∙ sym (and_assoc (eqb x v) (all_are v xs) (all_are v ys))
 
 -- ---- two rows
 
 pub same_next : (x : ℕ) (a b : List ℕ) (i : ℕ) → i < length a → i < length b
     → eqb x 0 && same (drop i a) (drop i b) ≡ eqb (bit_or x (bit_xor (get_or a i 0) (get_or b i 0))) 0 && same (drop (i + 1) a) (drop (i + 1) b)
-same_next x a b i h k = rw (rest a i h, rest b i k, gather-rows x (get_or a i 0) (get_or b i 0), and_assoc)
+same_next x a b i h k = rw (rest a i h, rest b i k, gather_rows x (get_or a i 0) (get_or b i 0), and_assoc)
 
 pub same_end : (x : ℕ) (a b : List ℕ) (i : ℕ) → length a ≤ i → length b ≤ i → eqb x 0 && same (drop i a) (drop i b) ≡ eqb x 0
-same_end x a b i h k = rw (drop_of_length-le a {i = i} h, drop_of_length-le b {i = i} k) (and-true (eqb x 0))
+same_end x a b i h k = rw (drop_of_length-le a {i = i} h, drop_of_length-le b {i = i} k) (and_true (eqb x 0))
 
 -- lists of two lengths are two lists
-pub same-long : (a b : List ℕ) → (length a ≡ length b → ⊥) → same a b ≡ false
-same-long [] [] n = absurd (n refl)
-same-long [] (y ∷ ys) n = refl
-same-long (x ∷ xs) [] n = refl
-same-long (x ∷ xs) (y ∷ ys) n = rw (same-long xs ys (λ e. n (ap suc e)), and-false)
+pub same_long : (a b : List ℕ) → (length a ≡ length b → ⊥) → same a b ≡ false
+same_long [] [] n = absurd (n refl)
+same_long [] (y ∷ ys) n = refl
+same_long (x ∷ xs) [] n = refl
+same_long (x ∷ xs) (y ∷ ys) n = rw (same_long xs ys (λ e. n (ap suc e)), and_false)
 
 -- ---- a sum that fits
 

@@ -17,26 +17,26 @@ Told (refuse n) = Unit {0}
 Told (accept r w) = ⊥
 Told (tell r) = (bs : List ℕ) × (r ≡ date_bytes bs)
 
-told-given : (o : Option (List ℕ)) → Told (given o 14 (λ bs. tell (date_bytes bs)))
-told-given none = tt
-told-given (some bs) = (bs, refl)
+told_given : (o : Option (List ℕ)) → Told (given o 14 (λ bs. tell (date_bytes bs)))
+told_given none = tt
+told_given (some bs) = (bs, refl)
 
-told-unless : (b : Bool) (o : Outcome) → Told o → Told (unless b 2 o)
-told-unless true o h = h
-told-unless false o h = tt
+told_unless : (b : Bool) (o : Outcome) → Told o → Told (unless b 2 o)
+told_unless true o h = h
+told_unless false o h = tt
 
 told : (c : DateCall) → Told (date_outcome c)
-told (date_to_stored p) = told-given (to_stored p)
-told (date_to_packed s) = told-given (to_packed s)
+told (date_to_stored p) = told_given (to_stored p)
+told (date_to_packed s) = told_given (to_packed s)
 
-pub due-told : (c : DateCall) (answer : ℕ) → Told (date_due c answer)
-due-told c answer = told-unless (eqb answer 24 && date_lengths c) (date_outcome c) (told c)
+pub due_told : (c : DateCall) (answer : ℕ) → Told (date_due c answer)
+due_told c answer = told_unless (eqb answer 24 && date_lengths c) (date_outcome c) (told c)
 
 -- what is told is the same whatever table and labels stand beside it, and these stay
-written-told : (o : Outcome) → Told o → (t a x : List ℕ) → written (lent t a x) o ≡ result_of (written (lent [] a []) o).number (lent t (written (lent [] a []) o).after.answer x)
-written-told (refuse n) h t a x = refl
-written-told (accept r w) h t a x = absurd h
-written-told (tell r) h t a x = rw h.1
+written_told : (o : Outcome) → Told o → (t a x : List ℕ) → written (lent t a x) o ≡ result_of (written (lent [] a []) o).number (lent t (written (lent [] a []) o).after.answer x)
+written_told (refuse n) h t a x = refl
+written_told (accept r w) h t a x = absurd h
+written_told (tell r) h t a x = rw h.1
 
 pub table_stays : (o : Outcome) → Told o → (b : Lent) → (written b o).after.table ≡ b.table
 table_stays (refuse n) h b = refl
@@ -44,7 +44,7 @@ table_stays (accept r w) h b = absurd h
 table_stays (tell r) h b = refl
 
 -- WHAT AN ENTRY POINT ENSURES holds beside any table and labels, which it is not lent: so it is a deed of demand 3
-pub beside-any-table : (c : DateCall) (a : List ℕ) (r : ℕ) (a' : List ℕ) → ConvertsDate c [] a [] r [] a' [] → (t x : List ℕ) → ConvertsDate c t a x r t a' x
+pub beside_any_table : (c : DateCall) (a : List ℕ) (r : ℕ) (a' : List ℕ) → ConvertsDate c [] a [] r [] a' [] → (t x : List ℕ) → ConvertsDate c t a x r t a' x
 unfolding convert_date
-beside-any-table c a r a' e t x =
-    ap (λ (p : Result). result_of p.number (lent t p.after.answer x)) e ∙ sym (written-told (date_due c (length a)) (due-told c (length a)) t a x)
+beside_any_table c a r a' e t x =
+    ap (λ (p : Result). result_of p.number (lent t p.after.answer x)) e ∙ sym (written_told (date_due c (length a)) (due_told c (length a)) t a x)

@@ -11,16 +11,16 @@ use lib.ListN.{get_or, length, take}
 use Rattle.model.specs.Model.{Extent, Geometry, Label, Volume, overs, runs_of, total}
 use Rattle.model.specs.Tracks.{tracks_of}
 use Rattle.model.proofs.Cylinders.{KeptCount}
-use Rattle.model.proofs.Lists.{All-map, All-both}
+use Rattle.model.proofs.Lists.{All_map, All_both}
 use Rattle.model.specs.Predicates.{All}
 use Rattle.rules.specs.Calls.{Outcome, Reply, accept, cut_type, given, given_back, good_ttr, refuse, release, release_tracks, release_set, rule, shorter, tell, tracks_kept_of, unless}
 use Rattle.rules.specs.Predicates.{GoodExtent, Valid}
 use Rattle.rules.specs.Slots.{changed, found, without}
 use Rattle.rules.specs.Table.{good_name, unit_in}
-use Rattle.rules.proofs.Cut.{keep-cut, keep_same, keep-tracks, keep_typed, whole-extent}
-use Rattle.rules.proofs.FoundSet.{found-good}
-use Rattle.rules.proofs.Grants.{put-released, release-count}
-use Rattle.rules.proofs.Placed.{Put, put-found}
+use Rattle.rules.proofs.Cut.{keep_cut, keep_same, keep_tracks, keep_typed, whole_extent}
+use Rattle.rules.proofs.FoundSet.{found_good}
+use Rattle.rules.proofs.Grants.{put_released, release_count}
+use Rattle.rules.proofs.Placed.{Put, put_found}
 
 -- where a call is accepted, this holds of its reply and the volume after it
 abbrev pub After : (Reply → Volume → Type 0) → Outcome → Type 0
@@ -28,13 +28,13 @@ After P (refuse n) = Unit {0}
 After P (accept r w) = P r w
 After P (tell r) = ⊥
 
-pub after-unless : (P : Reply → Volume → Type 0) (b : Bool) (n : ℕ) (o : Outcome) → (T b → After P o) → After P (unless b n o)
-after-unless P true n o k = k tt
-after-unless P false n o k = tt
+pub after_unless : (P : Reply → Volume → Type 0) (b : Bool) (n : ℕ) (o : Outcome) → (T b → After P o) → After P (unless b n o)
+after_unless P true n o k = k tt
+after_unless P false n o k = tt
 
-pub after-given : {A : Type 0} (P : Reply → Volume → Type 0) (o : Option A) (n : ℕ) (k : A → Outcome) → ((a : A) → o ≡ some a → After P (k a)) → After P (given o n k)
-after-given P none n k p = tt
-after-given P (some a) n k p = p a refl
+pub after_given : {A : Type 0} (P : Reply → Volume → Type 0) (o : Option A) (n : ℕ) (k : A → Outcome) → ((a : A) → o ≡ some a → After P (k a)) → After P (given o n k)
+after_given P none n k p = tt
+after_given P (some a) n k p = p a refl
 
 -- extent e was d and is shorter now: in a cylinder file it has its type still, elsewhere X'01'
 pub record Shortened (unit : ℕ) (e d : Extent) : Type 0 where
@@ -84,23 +84,23 @@ module _ (v : Volume) (h : Valid v) (n : List ℕ) (l : Label) (f : found v n �
 
   module _ (w : Volume) (p : Put v others l₀ w) where
     there : found w n ≡ some p.label
-    there = put-found v n l f l₀ refl w p
+    there = put_found v n l f l₀ refl w p
 
-    put-leaves : (ok : T (good_ttr ttr (total (runs_of l)))) → Released v.geometry.heads n l ttr back w
-    put-leaves ok =
+    put_leaves : (ok : T (good_ttr ttr (total (runs_of l)))) → Released v.geometry.heads n l ttr back w
+    put_leaves ok =
         record {
           kept = k;
-          count = release-count v h n l f ttr ok;
+          count = release_count v h n l f ttr ok;
           reply = refl;
           label = p.label;
           there = there;
-          list = ap (λ (es : List Extent). tracks_of (overs es)) p.extents ∙ keep-tracks (unit_in l.unit) k l.extents;
+          list = ap (λ (es : List Extent). tracks_of (overs es)) p.extents ∙ keep_tracks (unit_in l.unit) k l.extents;
           same = λ i d u fits. ap (λ (es : List Extent). get_or es i d) p.extents ∙ keep_same (unit_in l.unit) k l.extents i d u fits;
           typed = λ i d.
               subst
               (λ (es : List Extent). i < length es → (get_or es i d).over.count < (get_or l.extents i d).over.count → Shortened (unit_in l.unit) (get_or es i d) (get_or l.extents i d))
               (sym p.extents)
-              (λ u less. shortened (unit_in l.unit) (get_or l₀.extents i d) (get_or l.extents i d) (keep-cut (unit_in l.unit) k l.extents i d u less));
+              (λ u less. shortened (unit_in l.unit) (get_or l₀.extents i d) (get_or l.extents i d) (keep_cut (unit_in l.unit) k l.extents i d u less));
           unit_is = p.unit;
           ttr_is = p.ttr;
         }
@@ -112,22 +112,22 @@ module _ (v : Volume) (h : Valid v) (n : List ℕ) (l : Label) (f : found v n �
           label = p.label;
           there = there;
           extents =
-              All-map (λ e. GoodExtent w.geometry e × (e.type_byte ≡ 0x81)) (WholeCylinders w.geometry)
-              (λ e x. let y = whole-extent w.geometry e x.0 x.1 in (x.1, y.0, y.1))
-              p.label.extents (All-both (GoodExtent w.geometry) (λ e. e.type_byte ≡ 0x81) p.label.extents (found-good w p.valid n p.label there).extents kept);
+              All_map (λ e. GoodExtent w.geometry e × (e.type_byte ≡ 0x81)) (WholeCylinders w.geometry)
+              (λ e x. let y = whole_extent w.geometry e x.0 x.1 in (x.1, y.0, y.1))
+              p.label.extents (All_both (GoodExtent w.geometry) (λ e. e.type_byte ≡ 0x81) p.label.extents (found_good w p.valid n p.label there).extents kept);
         }
 
   -- whatever holds where the rule accepts
-  after-release : (P : Reply → Volume → Type 0) → (T (good_ttr ttr (total (runs_of l))) → (w : Volume) → Put v others l₀ w → P back w) → After P (rule v (release n ttr))
+  after_release : (P : Reply → Volume → Type 0) → (T (good_ttr ttr (total (runs_of l))) → (w : Volume) → Put v others l₀ w → P back w) → After P (rule v (release n ttr))
   unfolding rule
-  after-release P leaves =
-      after-unless P (good_name n) 4 (given (found v n) 5 (release_set v n ttr))
+  after_release P leaves =
+      after_unless P (good_name n) 4 (given (found v n) 5 (release_set v n ttr))
       (λ good. subst (λ (o : Option Label). After P (given o 5 (release_set v n ttr))) (sym f)
-      (after-unless P (good_ttr ttr (total (runs_of l))) 12 (release_tracks v n ttr l k)
-      (λ ok. after-given P (changed v n l₀) 11 (accept back) (λ w e. leaves ok w (put-released v h n l f ttr ok w e)))))
+      (after_unless P (good_ttr ttr (total (runs_of l))) 12 (release_tracks v n ttr l k)
+      (λ ok. after_given P (changed v n l₀) 11 (accept back) (λ w e. leaves ok w (put_released v h n l f ttr ok w e)))))
 
-  pub release-leaves : After (Released v.geometry.heads n l ttr) (rule v (release n ttr))
-  release-leaves = after-release (Released v.geometry.heads n l ttr) (λ ok w p. put-leaves w p ok)
+  pub release_leaves : After (Released v.geometry.heads n l ttr) (rule v (release n ttr))
+  release_leaves = after_release (Released v.geometry.heads n l ttr) (λ ok w p. put_leaves w p ok)
 
-  pub release-whole : unit_in l.unit ≡ 0xC0 → All (λ e. e.type_byte ≡ 0x81) l.extents → After (InWholeCylinders n) (rule v (release n ttr))
-  release-whole unit typed = after-release (InWholeCylinders n) (λ ok w p. put_whole w p unit typed)
+  pub release_whole : unit_in l.unit ≡ 0xC0 → All (λ e. e.type_byte ≡ 0x81) l.extents → After (InWholeCylinders n) (rule v (release n ttr))
+  release_whole unit typed = after_release (InWholeCylinders n) (λ ok w p. put_whole w p unit typed)

@@ -14,59 +14,59 @@ use lib.ListN.{length, get_or, set, take, drop, length-append, length-take, drop
 use lib.Seq.{drop-append-le, get_or-drop, get_or-take, length-slice, slice, slice_empty, take-suc, take-suc-set}
 use Rattle.model.specs.Basics.{bit, filter, keep_if, sum_of, up_from}
 use Rattle.model.specs.Model.{run, tally, total, unused}
-use Rattle.model.proofs.Lists.{All-at, sum-append}
+use Rattle.model.proofs.Lists.{All_at, sum_append}
 use Rattle.model.specs.Predicates.{All}
-use Rattle.model.proofs.Runs.{Inside, hit-below, hit-in}
+use Rattle.model.proofs.Runs.{Inside, hit_below, hit_in}
 use Rattle.bitmap.specs.Map.{AllFree, Given, NextRun, Shows, Taken, free_bit, free_from}
-use Rattle.bitmap.proofs.Bits.{le-or-lt}
-use Rattle.bitmap.proofs.Held.{shows-give, taken_true}
-use Rattle.bitmap.proofs.Walk.{free-from-end}
+use Rattle.bitmap.proofs.Bits.{le_or_lt}
+use Rattle.bitmap.proofs.Held.{shows_give, taken_true}
+use Rattle.bitmap.proofs.Walk.{free_from_end}
 use Rattle.check_label.specs.Marks.{units}
-use Rattle.check_label.proofs.Taking.{took-yes}
-use Rattle.check_table.proofs.Scan.{unit-tally}
-use Rattle.check_table.proofs.Unused.{count-unused, run-bits}
+use Rattle.check_label.proofs.Taking.{took_yes}
+use Rattle.check_table.proofs.Scan.{unit_tally}
+use Rattle.check_table.proofs.Unused.{count_unused, run_bits}
 use Rattle.settle_slots.specs.Settling.{Filled, Gave, Lowest}
 
 -- ---- slots in use, counted
 
-pub shows-tally : (s : List ℕ) (n : ℕ) (us : List ℕ) → Shows s n (units us) → (k : ℕ) → k < n → free_bit s k + tally k us ≡ 1
-shows-tally s n us h k u = let e = h k u in let t = unit-tally k us in omega arith
+pub shows_tally : (s : List ℕ) (n : ℕ) (us : List ℕ) → Shows s n (units us) → (k : ℕ) → k < n → free_bit s k + tally k us ≡ 1
+shows_tally s n us h k u = let e = h k u in let t = unit_tally k us in omega arith
 
 -- the order of the slots in use does not matter
-pub shows-order : (s : List ℕ) (n : ℕ) (us vs : List ℕ) → ((k : ℕ) → tally k us ≡ tally k vs) → Shows s n (units us) → Shows s n (units vs)
-shows-order s n us vs same h k u = let e = h k u in let a = unit-tally k us in let b = unit-tally k vs in let q = same k in omega arith
+pub shows_order : (s : List ℕ) (n : ℕ) (us vs : List ℕ) → ((k : ℕ) → tally k us ≡ tally k vs) → Shows s n (units us) → Shows s n (units vs)
+shows_order s n us vs same h k u = let e = h k u in let a = unit_tally k us in let b = unit_tally k vs in let q = same k in omega arith
 
-pub unused-order : (n : ℕ) (us vs : List ℕ) → ((k : ℕ) → tally k us ≡ tally k vs) → unused n us ≡ unused n vs
+pub unused_order : (n : ℕ) (us vs : List ℕ) → ((k : ℕ) → tally k us ≡ tally k vs) → unused n us ≡ unused n vs
 unfolding unused
-unused-order n us vs same = ap (λ (f : ℕ → ℕ). filter (λ k. eqb (f k) 0) (up_from 0 n)) (fun_ext same)
+unused_order n us vs same = ap (λ (f : ℕ → ℕ). filter (λ k. eqb (f k) 0) (up_from 0 n)) (fun_ext same)
 
-pub tally-append : (k : ℕ) (xs ys : List ℕ) → tally k (xs ++ ys) ≡ tally k xs + tally k ys
-tally-append k xs ys = sum-append (λ x. bit (eqb x k)) xs ys
+pub tally_append : (k : ℕ) (xs ys : List ℕ) → tally k (xs ++ ys) ≡ tally k xs + tally k ys
+tally_append k xs ys = sum_append (λ x. bit (eqb x k)) xs ys
 
 -- the free slots of the map are the unused ones
 pub count_law : (s : List ℕ) (n : ℕ) (us : List ℕ) → Shows s n (units us) → total (free_from s n 0) ≡ length (unused n us)
-count_law s n us h = count-unused s n us (shows-tally s n us h)
+count_law s n us h = count_unused s n us (shows_tally s n us h)
 
 pub counted : (s : List ℕ) (n at count : ℕ) → n ≤ at → at ≤ n → count ≤ at → count + total (free_from s n at) ≡ total (free_from s n 0)
     → (count ≡ total (free_from s n 0)) × (count ≤ n)
 counted s n at count u v w e =
     let q : at ≡ n = omega arith in
-    let z : total (free_from s n at) ≡ 0 = ap (λ (y : ℕ). total (free_from s n y)) q ∙ ap total (free-from-end s n) in
+    let z : total (free_from s n at) ≡ 0 = ap (λ (y : ℕ). total (free_from s n y)) q ∙ ap total (free_from_end s n) in
     (omega arith, omega arith)
 
 -- ---- sums over the slots
 
-pub sum-most : (F : ℕ → ℕ) (a n : ℕ) → ((k : ℕ) → k < a + n → F k ≤ 1) → sum_of F (up_from a n) ≤ n
-sum-most F a zero h = le_refl 0
-sum-most F a (suc n) h = let i = sum-most F (suc a) n (λ k u. h k (omega arith)) in let e = h a (omega arith) in omega arith
+pub sum_most : (F : ℕ → ℕ) (a n : ℕ) → ((k : ℕ) → k < a + n → F k ≤ 1) → sum_of F (up_from a n) ≤ n
+sum_most F a zero h = le_refl 0
+sum_most F a (suc n) h = let i = sum_most F (suc a) n (λ k u. h k (omega arith)) in let e = h a (omega arith) in omega arith
 
-pub units-total : (ks : List ℕ) → total (units ks) ≡ length ks
-units-total [] = refl
-units-total (k ∷ ks) = let i = units-total ks in omega arith
+pub units_total : (ks : List ℕ) → total (units ks) ≡ length ks
+units_total [] = refl
+units_total (k ∷ ks) = let i = units_total ks in omega arith
 
-pub units-inside : (n : ℕ) (ks : List ℕ) → All (λ k. k < n) ks → Inside n (units ks)
-units-inside n [] a = tt
-units-inside n (k ∷ ks) a = (omega (arith, a.0), units-inside n ks a.1)
+pub units_inside : (n : ℕ) (ks : List ℕ) → All (λ k. k < n) ks → Inside n (units ks)
+units_inside n [] a = tt
+units_inside n (k ∷ ks) a = (omega (arith, a.0), units_inside n ks a.1)
 
 -- ---- the lowest
 
@@ -75,20 +75,20 @@ filter_same p q a zero h = refl
 filter_same p q a (suc n) h = ap₂ (λ (b : Bool) (xs : List ℕ). keep_if b a xs) (h a (le_refl a)) (filter_same p q (suc a) n (λ k u. h k (omega arith)))
 
 -- j is the first that passes p; q is p but for j
-filter-first : (p q : ℕ → Bool) (a n j : ℕ) → a ≤ j → j < a + n → ((k : ℕ) → k < j → p k ≡ false) → p j ≡ true → q j ≡ false → ((k : ℕ) → (k ≡ j → ⊥) → p k ≡ q k)
+filter_first : (p q : ℕ → Bool) (a n j : ℕ) → a ≤ j → j < a + n → ((k : ℕ) → k < j → p k ≡ false) → p j ≡ true → q j ≡ false → ((k : ℕ) → (k ≡ j → ⊥) → p k ≡ q k)
     → filter p (up_from a n) ≡ j ∷ filter q (up_from a n)
-filter-first p q a zero j u w low here gone other = absurd (omega arith)
-filter-first p q a (suc n) j u w low here gone other =
+filter_first p q a zero j u w low here gone other = absurd (omega arith)
+filter_first p q a (suc n) j u w low here gone other =
     elim (ℕ_discrete a j) [
       | yes e ↦ rw (ap p e ∙ here, ap q e ∙ gone) (ap₂ (λ (x : ℕ) (xs : List ℕ). x ∷ xs) e (filter_same p q (suc a) n (λ k v. other k (omega arith))))
       | no e ↦
           let z : p a ≡ false = low a (omega arith) in
-          rw (z, sym (other a e) ∙ z) (filter-first p q (suc a) n j (omega arith) (omega arith) low here gone other)
+          rw (z, sym (other a e) ∙ z) (filter_first p q (suc a) n j (omega arith) (omega arith) low here gone other)
     ]
 
 module _ {n : ℕ} {s : List ℕ} {a b : ℕ} (x : NextRun s n 0 a b) where
-  pub lowest-none : n ≤ a → Lowest n s s (n ∷ [])
-  lowest-none w =
+  pub lowest_none : n ≤ a → Lowest n s s (n ∷ [])
+  lowest_none w =
       record {
         long = refl;
         lowest = λ us h l. absurd (few us h l);
@@ -100,21 +100,21 @@ module _ {n : ℕ} {s : List ℕ} {a b : ℕ} (x : NextRun s n 0 a b) where
 
   module _ (u : a < n) where
     low_bits : (k : ℕ) → k < a → free_bit s k ≡ 0
-    low_bits k v = let l = x.low in let z = hit-below (run a (b - a)) k v in run-bits x k (omega arith) (omega arith) ∙ z
+    low_bits k v = let l = x.low in let z = hit_below (run a (b - a)) k v in run_bits x k (omega arith) (omega arith) ∙ z
 
-    free-bit : free_bit s a ≡ 1
-    free-bit = let m = (x.more u).0 in run-bits x a (omega arith) m ∙ hit-in (run a (b - a)) a (le_refl a) (omega arith)
+    free_bit_lem : free_bit s a ≡ 1
+    free_bit_lem = let m = (x.more u).0 in run_bits x a (omega arith) m ∙ hit_in (run a (b - a)) a (le_refl a) (omega arith)
 
-    all-free : AllFree s a (a + 1)
-    all-free k v w = let q : a ≡ k = omega arith in subst (λ (j : ℕ). free_bit s j ≡ 1) q free-bit
+    all_free_lem : AllFree s a (a + 1)
+    all_free_lem k v w = let q : a ≡ k = omega arith in subst (λ (j : ℕ). free_bit s j ≡ 1) q free_bit_lem
 
-    unused-first : (us : List ℕ) → Shows s n (units us) → unused n us ≡ a ∷ unused n (a ∷ us)
+    unused_first : (us : List ℕ) → Shows s n (units us) → unused n us ≡ a ∷ unused n (a ∷ us)
     unfolding unused
-    unused-first us h =
-        let here : tally a us ≡ 0 = let e = shows-tally s n us h a u in let f = free-bit in omega arith in
+    unused_first us h =
+        let here : tally a us ≡ 0 = let e = shows_tally s n us h a u in let f = free_bit_lem in omega arith in
         let self : bit (eqb a a) ≡ 1 = ap bit (eq-eqb a a refl) in
-        filter-first (λ k. eqb (tally k us) 0) (λ k. eqb (tally k (a ∷ us)) 0) 0 n a (omega arith) (omega arith)
-        (λ k v. ne_eqb (tally k us) 0 (let e = shows-tally s n us h k (omega arith) in let f = low_bits k v in omega arith))
+        filter_first (λ k. eqb (tally k us) 0) (λ k. eqb (tally k (a ∷ us)) 0) 0 n a (omega arith) (omega arith)
+        (λ k v. ne_eqb (tally k us) 0 (let e = shows_tally s n us h k (omega arith) in let f = low_bits k v in omega arith))
         (eq-eqb (tally a us) 0 here)
         (ne_eqb (tally a (a ∷ us)) 0 (omega arith))
         (λ k v.
@@ -122,25 +122,25 @@ module _ {n : ℕ} {s : List ℕ} {a b : ℕ} (x : NextRun s n 0 a b) where
         let e : tally k us ≡ tally k (a ∷ us) = omega arith in
         ap (λ (y : ℕ). eqb y 0) e)
 
-    pub lowest-one : (s' : List ℕ) (r : Bool) → Taken s s' a (a + 1) r → Lowest n s s' (a ∷ [])
-    lowest-one s' r t =
+    pub lowest_one : (s' : List ℕ) (r : Bool) → Taken s s' a (a + 1) r → Lowest n s s' (a ∷ [])
+    lowest_one s' r t =
         record {
           long = t.long;
-          lowest = λ us h l. unused-first us h;
-          shown = λ us h l. took-yes n a 1 s s' r t (taken_true s s' a (a + 1) r all-free t) (units us) h;
+          lowest = λ us h l. unused_first us h;
+          shown = λ us h l. took_yes n a 1 s s' r t (taken_true s s' a (a + 1) r all_free_lem t) (units us) h;
         }
 
 -- none taken, and one list after the other
-pub lowest-nil : (n : ℕ) (s : List ℕ) → Lowest n s s []
-lowest-nil n s = record { long = refl; lowest = λ us h l. refl; shown = λ us h l. h }
+pub lowest_nil : (n : ℕ) (s : List ℕ) → Lowest n s s []
+lowest_nil n s = record { long = refl; lowest = λ us h l. refl; shown = λ us h l. h }
 
 module _ (n : ℕ) (s s₁ s₂ ks js : List ℕ) (x : Lowest n s s₁ ks) (y : Lowest n s₁ s₂ js) where
   order : (us : List ℕ) (k : ℕ) → tally k (js ++ (ks ++ us)) ≡ tally k ((ks ++ js) ++ us)
   order us k =
-      let a = tally-append k js (ks ++ us) in
-      let b = tally-append k ks us in
-      let c = tally-append k (ks ++ js) us in
-      let d = tally-append k ks js in
+      let a = tally_append k js (ks ++ us) in
+      let b = tally_append k ks us in
+      let c = tally_append k (ks ++ js) us in
+      let d = tally_append k ks js in
       omega arith
 
   module _ (us : List ℕ) (h : Shows s n (units us)) (l : length (ks ++ js) ≤ length (unused n us)) where
@@ -153,22 +153,22 @@ module _ (n : ℕ) (s s₁ s₂ ks js : List ℕ) (x : Lowest n s s₁ ks) (y : 
     more : length js ≤ length (unused n (ks ++ us))
     more = let a = length-append ks js in let b = ap length first ∙ length-append ks (unused n (ks ++ us)) in omega arith
 
-    both-lowest : unused n us ≡ (ks ++ js) ++ unused n ((ks ++ js) ++ us)
-    both-lowest =
+    both_lowest : unused n us ≡ (ks ++ js) ++ unused n ((ks ++ js) ++ us)
+    both_lowest =
         first ∙ ap (λ (z : List ℕ). ks ++ z) (y.lowest (ks ++ us) (x.shown us h enough) more)
-        ∙ ap (λ (z : List ℕ). ks ++ (js ++ z)) (unused-order n (js ++ (ks ++ us)) ((ks ++ js) ++ us) (order us))
+        ∙ ap (λ (z : List ℕ). ks ++ (js ++ z)) (unused_order n (js ++ (ks ++ us)) ((ks ++ js) ++ us) (order us))
         ∙ sym (append_assoc ks js (unused n ((ks ++ js) ++ us)))
 
-    both-shown : Shows s₂ n (units ((ks ++ js) ++ us))
-    both-shown = shows-order s₂ n (js ++ (ks ++ us)) ((ks ++ js) ++ us) (order us) (y.shown (ks ++ us) (x.shown us h enough) more)
+    both_shown : Shows s₂ n (units ((ks ++ js) ++ us))
+    both_shown = shows_order s₂ n (js ++ (ks ++ us)) ((ks ++ js) ++ us) (order us) (y.shown (ks ++ us) (x.shown us h enough) more)
 
-  pub lowest-then : Lowest n s s₂ (ks ++ js)
-  lowest-then = record { long = y.long ∙ x.long; lowest = both-lowest; shown = both-shown }
+  pub lowest_then : Lowest n s s₂ (ks ++ js)
+  lowest_then = record { long = y.long ∙ x.long; lowest = both_lowest; shown = both_shown }
 
 -- ---- places of a list, one more and all
 
-pub slice-more : (a i : ℕ) (c : List ℕ) → a ≤ i → i < length c → slice a (i + 1) c ≡ slice a i c ++ (get_or c i 0 ∷ [])
-slice-more a i c u w =
+pub slice_more : (a i : ℕ) (c : List ℕ) → a ≤ i → i < length c → slice a (i + 1) c ≡ slice a i c ++ (get_or c i 0 ∷ [])
+slice_more a i c u w =
     ap (λ (m : ℕ). slice a m c) (add-one i) ∙ ap (drop a) (take-suc c i 0 w)
     ∙ drop-append-le a (take i c) (get_or c i 0 ∷ []) (omega (arith, length-take i c))
 
@@ -178,40 +178,40 @@ slice_set a i c r u w =
     ∙ drop-append-le a (take i c) (r ∷ []) (omega (arith, length-take i c))
 
 -- the loop's end, also where b is before a
-pub slice-end : (a b i : ℕ) (c : List ℕ) → a ≤ i → i ≤ max a b → b ≤ i → slice a i c ≡ slice a b c
-slice-end a b i c u v w =
+pub slice_end : (a b i : ℕ) (c : List ℕ) → a ≤ i → i ≤ max a b → b ≤ i → slice a i c ≡ slice a b c
+slice_end a b i c u v w =
     ⊎_elim
     (λ h.
     let q : i ≡ a = omega arith in
     ap (λ (m : ℕ). slice a m c) q ∙ slice_empty a c ∙ sym (drop_of_length-le (take b c) {i = a} (omega (arith, length-take b c))))
     (λ h. let q : i ≡ b = omega arith in ap (λ (m : ℕ). slice a m c) q)
-    (le-or-lt b a)
+    (le_or_lt b a)
 
-pub in-slice : (P : ℕ → Type 0) (a b i : ℕ) (c : List ℕ) → a ≤ i → i < b → b ≤ length c → All P (slice a b c) → P (get_or c i 0)
-in-slice P a b i c u v w h =
+pub in_slice : (P : ℕ → Type 0) (a b i : ℕ) (c : List ℕ) → a ≤ i → i < b → b ≤ length c → All P (slice a b c) → P (get_or c i 0)
+in_slice P a b i c u v w h =
     let q : a + (i - a) ≡ i = omega arith in
     subst P (get_or-drop a (take b c) (i - a) 0 ∙ ap (λ (m : ℕ). get_or (take b c) m 0) q ∙ get_or-take b c i 0 v)
-    (All-at P 0 (slice a b c) h (i - a) (omega (arith, length-slice a b c w)))
+    (All_at P 0 (slice a b c) h (i - a) (omega (arith, length-slice a b c w)))
 
 -- the turns of `take_slots`
 
 pub filled_none : (n : ℕ) (s c : List ℕ) (a : ℕ) → Lowest n s s (slice a a c)
-filled_none n s c a = subst (Lowest n s s) (sym (slice_empty a c)) (lowest-nil n s)
+filled_none n s c a = subst (Lowest n s s) (sym (slice_empty a c)) (lowest_nil n s)
 
 pub filled_next : (n : ℕ) (s s₁ s₂ c : List ℕ) (a i r : ℕ) → a ≤ i → i < length c → Lowest n s s₁ (slice a i c) → Lowest n s₁ s₂ (r ∷ []) → Lowest n s s₂ (slice a (i + 1) (set c i r))
-filled_next n s s₁ s₂ c a i r u w x y = subst (Lowest n s s₂) (sym (slice_set a i c r u w)) (lowest-then n s s₁ s₂ (slice a i c) (r ∷ []) x y)
+filled_next n s s₁ s₂ c a i r u w x y = subst (Lowest n s s₂) (sym (slice_set a i c r u w)) (lowest_then n s s₁ s₂ (slice a i c) (r ∷ []) x y)
 
 pub filled : (n : ℕ) (s s' c c' : List ℕ) (a b i : ℕ) → a ≤ i → i ≤ max a b → b ≤ i → length c' ≡ length c → take a c' ≡ take a c → (b ≤ a → c' ≡ c)
     → Lowest n s s' (slice a i c') → Filled n s s' c c' a b
-filled n s s' c c' a b i u v w long first none x = record { long = long; took = subst (Lowest n s s') (slice-end a b i c' u v w) x; first = first; none = none }
+filled n s s' c c' a b i u v w long first none x = record { long = long; took = subst (Lowest n s s') (slice_end a b i c' u v w) x; first = first; none = none }
 
 -- ---- given back
 
-pub gave-nil : (s : List ℕ) → Gave s s []
-gave-nil s = record { long = refl; shown = λ n us h. h }
+pub gave_nil : (s : List ℕ) → Gave s s []
+gave_nil s = record { long = refl; shown = λ n us h. h }
 
 pub gave_one : (s s' : List ℕ) (k : ℕ) → Given s s' k (k + 1) → Gave s s' (k ∷ [])
-gave_one s s' k d = record { long = d.long; shown = λ n us h. shows-give s s' n k 1 (units (k ∷ us)) (units us) (λ t u. refl) h d }
+gave_one s s' k d = record { long = d.long; shown = λ n us h. shows_give s s' n k 1 (units (k ∷ us)) (units us) (λ t u. refl) h d }
 
 pub gave_then : (s s₁ s₂ ks js : List ℕ) → Gave s s₁ ks → Gave s₁ s₂ js → Gave s s₂ (ks ++ js)
 gave_then s s₁ s₂ ks js x y =
@@ -221,12 +221,12 @@ gave_then s s₁ s₂ ks js x y =
     }
 
 -- the turns of `give_slots`
-pub gave-none : (s c : List ℕ) (a : ℕ) → Gave s s (slice a a c)
-gave-none s c a = subst (Gave s s) (sym (slice_empty a c)) (gave-nil s)
+pub gave_none : (s c : List ℕ) (a : ℕ) → Gave s s (slice a a c)
+gave_none s c a = subst (Gave s s) (sym (slice_empty a c)) (gave_nil s)
 
-pub gave-next : (s s₁ s₂ c : List ℕ) (a i k : ℕ) → a ≤ i → i < length c → k ≡ get_or c i 0 → Gave s s₁ (slice a i c) → Given s₁ s₂ k (k + 1) → Gave s s₂ (slice a (i + 1) c)
-gave-next s s₁ s₂ c a i k u w e x d =
-    subst (Gave s s₂) (ap (λ (y : ℕ). slice a i c ++ (y ∷ [])) e ∙ sym (slice-more a i c u w)) (gave_then s s₁ s₂ (slice a i c) (k ∷ []) x (gave_one s₁ s₂ k d))
+pub gave_next : (s s₁ s₂ c : List ℕ) (a i k : ℕ) → a ≤ i → i < length c → k ≡ get_or c i 0 → Gave s s₁ (slice a i c) → Given s₁ s₂ k (k + 1) → Gave s s₂ (slice a (i + 1) c)
+gave_next s s₁ s₂ c a i k u w e x d =
+    subst (Gave s s₂) (ap (λ (y : ℕ). slice a i c ++ (y ∷ [])) e ∙ sym (slice_more a i c u w)) (gave_then s s₁ s₂ (slice a i c) (k ∷ []) x (gave_one s₁ s₂ k d))
 
-pub gave-slots : (s s' c : List ℕ) (a b i : ℕ) → a ≤ i → i ≤ max a b → b ≤ i → Gave s s' (slice a i c) → Gave s s' (slice a b c)
-gave-slots s s' c a b i u v w x = subst (Gave s s') (slice-end a b i c u v w) x
+pub gave_slots : (s s' c : List ℕ) (a b i : ℕ) → a ≤ i → i ≤ max a b → b ≤ i → Gave s s' (slice a i c) → Gave s s' (slice a b c)
+gave_slots s s' c a b i u v w x = subst (Gave s s') (slice_end a b i c u v w) x

@@ -11,7 +11,7 @@ use lib.Dec.{eqb}
 use Rattle.update.specs.declared.Plan.{Plan}
 use Rattle.model.specs.Basics.{bit}
 use Rattle.model.specs.Model.{Geometry, Run, Volume, fives_for, free, held, one_slot, slots, slots_of, tally, tracks, used}
-use Rattle.model.proofs.Lists.{sum-append}
+use Rattle.model.proofs.Lists.{sum_append}
 use Rattle.model.specs.Predicates.{All}
 use Rattle.rules.specs.Layout.{encode, fives}
 use Rattle.rules.specs.Reading.{chop}
@@ -24,9 +24,9 @@ use Rattle.settle_slots.specs.Settling.{Settles}
 use Rattle.update.specs.Pending.{Pending}
 use Rattle.update.specs.Writing.{Reached, cleared, fives_put, four_put}
 use Rattle.update.specs.Commit.{Leaves, Left, Plans, remains}
-use Rattle.update.proofs.Core.{cleared_both, emptied, finished, settled-chain}
-use Rattle.update.proofs.Kept.{Stay, same-chain, stay}
-use Rattle.update.proofs.Put.{chain-tail, empty_of, free_of, slots-eq}
+use Rattle.update.proofs.Core.{cleared_both, emptied, finished, settled_chain}
+use Rattle.update.proofs.Kept.{Stay, same_chain, stay}
+use Rattle.update.proofs.Put.{chain_tail, empty_of, free_of, slots_eq}
 
 module _ {g : Geometry} {t m s : List ℕ} {lo slot third : ℕ} (d : Left g t m s lo slot third)
     {s' c' : List ℕ} {p : Plan} (pl : Plans g t m s s' c' lo 0 p) where
@@ -51,39 +51,39 @@ module _ {g : Geometry} {t m s : List ℕ} {lo slot third : ℕ} (d : Left g t m
   sound : Sound (chop (slots g) t) v
   sound = subst (λ (x : Geometry). Sound (chop (slots x) t) v) d.geometry_is d.ready.sound
 
-  read-chain : take was c ≡ v.chain
-  read-chain = pl.chained.chain v d.geometry_is sound
+  read_chain : take was c ≡ v.chain
+  read_chain = pl.chained.chain v d.geometry_is sound
 
-  pub left-shown : Shows s (slots g) (units (used d.others (take was c)))
-  left-shown = subst (λ (x : List ℕ). Shows s (slots g) (units (used d.others x))) (sym read-chain) d.shown_slots
+  pub left_shown : Shows s (slots g) (units (used d.others (take was c)))
+  left_shown = subst (λ (x : List ℕ). Shows s (slots g) (units (used d.others x))) (sym read_chain) d.shown_slots
 
-  need-free : need ≡ fives_for (length (free g d.others))
-  need-free = pl.need_is ∙ ap (λ (f : List Run). fives_for (length f)) (free_of g m d.others d.shown_tracks)
+  need_free : need ≡ fives_for (length (free g d.others))
+  need_free = pl.need_is ∙ ap (λ (f : List Run). fives_for (length f)) (free_of g m d.others d.shown_tracks)
 
   outcome : settle g v.chain d.others 0 (λ ks. d.others) ≡ cond p.fits (some w) none
-  outcome = ap (λ (x : List ℕ). settle g x d.others 0 (λ ks. d.others)) (sym read-chain) ∙ st.done d.others need-free left-shown (λ ks. d.others)
+  outcome = ap (λ (x : List ℕ). settle g x d.others 0 (λ ks. d.others)) (sym read_chain) ∙ st.done d.others need_free left_shown (λ ks. d.others)
 
-  pub drop-full : p.fits ≡ false → remains d ≡ none
-  drop-full e = outcome ∙ rw e
+  pub drop_full : p.fits ≡ false → remains d ≡ none
+  drop_full e = outcome ∙ rw e
 
   module _ (ok : p.fits ≡ true) where
-    is-w : settle g v.chain d.others 0 (λ ks. d.others) ≡ some w
-    is-w = outcome ∙ rw ok
+    is_w : settle g v.chain d.others 0 (λ ks. d.others) ≡ some w
+    is_w = outcome ∙ rw ok
 
     hw : Valid w
-    hw = d.valid w is-w
+    hw = d.valid w is_w
 
     abbrev freed : List ℕ
     freed = one_slot slot ++ one_slot third
 
-    old-slots : (x : ℕ) → tally x (slots_of d.label) ≡ tally x freed
-    old-slots x =
-        let a = slots-eq slot d.label.slot third d.label.slot3 x d.slot_is d.slot3_is in
-        let b = sum-append (λ y. bit (eqb y x)) (one_slot slot) (one_slot third) in
+    old_slots : (x : ℕ) → tally x (slots_of d.label) ≡ tally x freed
+    old_slots x =
+        let a = slots_eq slot d.label.slot third d.label.slot3 x d.slot_is d.slot3_is in
+        let b = sum_append (λ y. bit (eqb y x)) (one_slot slot) (one_slot third) in
         omega arith
 
-    pub left-inside : All (λ x. x < slots g) (take need c')
-    left-inside = st.inside ok d.others left-shown
+    pub left_inside : All (λ x. x < slots g) (take need c')
+    left_inside = st.inside ok d.others left_shown
 
     abbrev from : ℕ
     from = p.from
@@ -95,27 +95,27 @@ module _ {g : Geometry} {t m s : List ℕ} {lo slot third : ℕ} (d : Left g t m
     staying =
         stay v w d.ready.valid hw (sym d.geometry_is) m lo (min was need) need (omega arith) (subst (λ (x : Geometry). Shows m lo (held x v.labels)) (sym d.geometry_is) d.below)
         (free_of g m d.others d.shown_tracks)
-        (same-chain c c' v.chain was need read-chain st.first)
+        (same_chain c c' v.chain was need read_chain st.first)
         from at
         (subst (λ (ks : List ℕ). Reached (encode v) ks lo from at) (sym (take-take (min was need) need c' (omega arith)))
         (subst (λ (x : List ℕ). Reached x (take (min was need) c') lo from at) d.ready.bytes pl.reached))
 
-    pub drop-done : (t₁ t₂ t₃ t₄ : List ℕ) → t₁ ≡ cleared t (slice need was c') → t₂ ≡ cleared t₁ (one_slot slot) → t₃ ≡ cleared t₂ (one_slot third)
+    pub drop_done : (t₁ t₂ t₃ t₄ : List ℕ) → t₁ ≡ cleared t (slice need was c') → t₂ ≡ cleared t₁ (one_slot slot) → t₃ ≡ cleared t₂ (one_slot third)
         → t₄ ≡ four_put g (fives_put g t₃ (fives (drop from (take need c')) (free_from m (tracks g) at))) p.left
         → Leaves (remains d) t₄
-    drop-done t₁ t₂ t₃ t₄ e₁ e₂ e₃ e₄ =
-        let new = settled-chain g v.chain d.others 0 (λ ks. d.others) w is-w in
+    drop_done t₁ t₂ t₃ t₄ e₁ e₂ e₃ e₄ =
+        let new = settled_chain g v.chain d.others 0 (λ ks. d.others) w is_w in
         let p₀ : Pending w (drop from w.chain ++ (0 ∷ [])) (cleared (cleared t (drop need v.chain)) freed)
         = emptied v w d.ready.valid hw (sym d.geometry_is) d.label d.others d.stays d.slot_once d.slot_in need new.0
-        (new.1 ∙ ap (λ (n : ℕ). take n v.chain ++ new.0) (sym need-free)) freed []
-        (λ x. let a = old-slots x in omega arith) (λ x. let a = old-slots x in omega arith) (λ x. omega arith)
+        (new.1 ∙ ap (λ (n : ℕ). take n v.chain ++ new.0) (sym need_free)) freed []
+        (λ x. let a = old_slots x in omega arith) (λ x. let a = old_slots x in omega arith) (λ x. omega arith)
         (λ x p z. record { first = refl; third = refl }) m from at staying t d.ready.bytes in
         let e : t₃ ≡ cleared (cleared t (drop need v.chain)) freed
-        = e₃ ∙ ap (λ (y : List ℕ). cleared y (one_slot third)) (e₂ ∙ ap (λ (y : List ℕ). cleared y (one_slot slot)) (e₁ ∙ ap (cleared t) (chain-tail c c' v.chain was need st.tail read-chain (pl.chained.many v d.geometry_is sound))))
+        = e₃ ∙ ap (λ (y : List ℕ). cleared y (one_slot third)) (e₂ ∙ ap (λ (y : List ℕ). cleared y (one_slot slot)) (e₁ ∙ ap (cleared t) (chain_tail c c' v.chain was need st.tail read_chain (pl.chained.many v d.geometry_is sound))))
         ∙ cleared_both (cleared t (drop need v.chain)) (one_slot slot) (one_slot third) in (
           w,
-          is-w,
+          is_w,
           e₄ ∙ finished w hw from (free_from m (tracks g) at) t₃ p.left staying.rest
-              (st.left_is ok d.others left-shown ∙ empty_of w s' (λ k u. let a = st.shown ok d.others left-shown k u in omega arith))
+              (st.left_is ok d.others left_shown ∙ empty_of w s' (λ k u. let a = st.shown ok d.others left_shown k u in omega arith))
               (subst (Pending w (drop from w.chain ++ (0 ∷ []))) (sym e) p₀),
         )

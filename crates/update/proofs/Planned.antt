@@ -14,8 +14,8 @@ use Rattle.bitmap.specs.Map.{free_from}
 use Rattle.settle_slots.specs.Settling.{Chained, Settles}
 use Rattle.update.specs.Writing.{Reached}
 use Rattle.update.specs.Commit.{Plans}
-use Rattle.update.proofs.Kept.{place_in, place-low}
-use Rattle.update.proofs.Put.{tail-inside}
+use Rattle.update.proofs.Kept.{place_in, place_low}
+use Rattle.update.proofs.Put.{tail_inside}
 
 -- the members that are kept stand as they were read
 kept_same : (c c' : List ℕ) (was need j : ℕ) → j ≡ min was need → take was c' ≡ take was c → take j c ≡ take (min was need) c'
@@ -23,8 +23,8 @@ kept_same c c' was need j e f =
     sym (take-take j was c (omega arith)) ∙ ap (take j) (sym f) ∙ take-take j was c' (omega arith) ∙ ap (λ (i : ℕ). take i c') e
 
 -- the members of the chain lie below the number of slots, as it was told
-pub members-below : {g : Geometry} {t blank c : List ℕ} {was : ℕ} (told : ℕ) → told ≡ slots g → Chained g t blank c was → All (λ k. k < told) (take was c)
-members-below {c = c} {was = was} told e h = subst (λ (n : ℕ). All (λ k. k < n) (take was c)) (sym e) h.inside
+pub members_below : {g : Geometry} {t blank c : List ℕ} {was : ℕ} (told : ℕ) → told ≡ slots g → Chained g t blank c was → All (λ k. k < told) (take was c)
+members_below {c = c} {was = was} told e h = subst (λ (n : ℕ). All (λ k. k < n) (take was c)) (sym e) h.inside
 
 pub planned : (g : Geometry) (t m s s' blank c c' none given : List ℕ) (was told runs need j lo asked left from at : ℕ) (fits : Bool) → Limits g
     → length blank ≡ 468 → Chained g t blank c was → told ≡ tracks g → runs ≡ length (free_from m told 0) → need ≡ fives_for runs → j ≡ min was need → Reached t (take j c) lo from at
@@ -45,19 +45,19 @@ planned g t m s s' blank c c' none given was told runs need j lo asked left from
 
 module _ {g : Geometry} {t m s s' c : List ℕ} {lo asked : ℕ} {p : Plan} (d : Plans g t m s s' c lo asked p) where
   -- what `clear` asks
-  pub end-inside : (k : ℕ) → k ≡ 140 * slots g → (p.was ≤ length c) × All (λ x. 140 * x + 140 ≤ k) (slice p.need p.was c)
-  end-inside k e =
+  pub end_inside : (k : ℕ) → k ≡ 140 * slots g → (p.was ≤ length c) × All (λ x. 140 * x + 140 ≤ k) (slice p.need p.was c)
+  end_inside k e =
       let a = d.chained.few in
       let b = d.room in
-      (omega arith, tail-inside d.read c p.was p.need (slots g) k d.settles.tail d.chained.inside e)
+      (omega arith, tail_inside d.read c p.was p.need (slots g) k d.settles.tail d.chained.inside e)
 
   -- what `finish` asks
-  pub left-small : Limits g → p.left < 65536
-  left-small limits = let a = d.settles.left_most in let b = limits.most in omega arith
+  pub left_small : Limits g → p.left < 65536
+  left_small limits = let a = d.settles.left_most in let b = limits.most in omega arith
 
   pub chain_fits : p.fits ≡ true → lo ≤ tracks g → All (λ k. k < slots g) (take p.need c)
       → (p.need ≤ length c) × All (λ k. k < slots g) (take p.need c) × (p.from ≤ p.need) × (p.at ≤ tracks g)
   chain_fits ok low inside =
       let a = d.settles.most ok in
       let b = d.room in
-      (omega arith, inside, place_in t c p.was p.need lo p.from p.at d.reached, place-low t _ lo p.from p.at (tracks g) d.reached low)
+      (omega arith, inside, place_in t c p.was p.need lo p.from p.at d.reached, place_low t _ lo p.from p.at (tracks g) d.reached low)

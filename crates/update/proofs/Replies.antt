@@ -12,8 +12,8 @@ use Rattle.update.specs.Commit.{Leaves}
 
 -- t and a are the table and the answer before the call
 module _ (t a : List ℕ) (o : Option Volume) where
-  pub not-fitting : (r : Reply) → o ≡ none → result_of 11 (lent t a []) ≡ written (lent t a []) (settled r o)
-  not-fitting r e = sym (ap (λ (x : Option Volume). written (lent t a []) (settled r x)) e)
+  pub not_fitting : (r : Reply) → o ≡ none → result_of 11 (lent t a []) ≡ written (lent t a []) (settled r o)
+  not_fitting r e = sym (ap (λ (x : Option Volume). written (lent t a []) (settled r x)) e)
 
   -- a reply that fills the answer and nothing else
   replied : (r : Reply) → ((w : Volume) → result_of 0 (lent (encode w) (answer r) []) ≡ written (lent t a []) (accept r w))
@@ -21,11 +21,11 @@ module _ (t a : List ℕ) (o : Option Volume) where
   replied r plain t' a' w e =
       ap₂ (λ (x y : List ℕ). result_of 0 (lent x y [])) w.2 e ∙ plain w.0 ∙ sym (ap (λ (x : Option Volume). written (lent t a []) (settled r x)) w.1)
 
-  pub is-granted : (ps : List Run) (t' a' : List ℕ) → Leaves o t' → a' ≡ answer (granted ps) → result_of 0 (lent t' a' []) ≡ written (lent t a []) (settled (granted ps) o)
-  is-granted ps = replied (granted ps) (λ w. refl)
+  pub is_granted : (ps : List Run) (t' a' : List ℕ) → Leaves o t' → a' ≡ answer (granted ps) → result_of 0 (lent t' a' []) ≡ written (lent t a []) (settled (granted ps) o)
+  is_granted ps = replied (granted ps) (λ w. refl)
 
-  pub is-given-back : (n : ℕ) (t' a' : List ℕ) → Leaves o t' → a' ≡ answer (given_back n) → result_of 0 (lent t' a' []) ≡ written (lent t a []) (settled (given_back n) o)
-  is-given-back n = replied (given_back n) (λ w. refl)
+  pub is_given_back : (n : ℕ) (t' a' : List ℕ) → Leaves o t' → a' ≡ answer (given_back n) → result_of 0 (lent t' a' []) ≡ written (lent t a []) (settled (given_back n) o)
+  is_given_back n = replied (given_back n) (λ w. refl)
 
   -- ---- on a copy: there is a volume that the change would leave, and the table is that of v, as it was
 
@@ -35,8 +35,8 @@ module _ (t a : List ℕ) (o : Option Volume) where
     foreseen r plain e =
         ap₂ (λ (x y : List ℕ). result_of 0 (lent x y [])) same e ∙ plain ∙ sym (ap (λ (x : Option Volume). written (lent t a []) (on_copy v (settled r x))) there)
 
-    pub grant-foreseen : (ps : List Run) → a' ≡ answer (granted ps) → result_of 0 (lent t a' []) ≡ written (lent t a []) (on_copy v (settled (granted ps) o))
-    grant-foreseen ps = foreseen (granted ps) refl
+    pub grant_foreseen : (ps : List Run) → a' ≡ answer (granted ps) → result_of 0 (lent t a' []) ≡ written (lent t a []) (on_copy v (settled (granted ps) o))
+    grant_foreseen ps = foreseen (granted ps) refl
 
-    pub back-foreseen : (n : ℕ) → a' ≡ answer (given_back n) → result_of 0 (lent t a' []) ≡ written (lent t a []) (on_copy v (settled (given_back n) o))
-    back-foreseen n = foreseen (given_back n) refl
+    pub back_foreseen : (n : ℕ) → a' ≡ answer (given_back n) → result_of 0 (lent t a' []) ≡ written (lent t a []) (on_copy v (settled (given_back n) o))
+    back_foreseen n = foreseen (given_back n) refl

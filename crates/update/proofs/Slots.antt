@@ -14,65 +14,65 @@ use Rattle.rules.specs.Layout.{fives, format5, head_or0}
 use Rattle.rules.specs.Slots.{with_slots}
 use Rattle.bitmap.specs.Map.{free_from}
 use Rattle.dscb.specs.Records.{put_record, slot_bytes}
-use Rattle.dscb.proofs.Records.{put-length}
+use Rattle.dscb.proofs.Records.{put_length}
 use Rattle.dscb_write.specs.Fives.{Fills}
-use Rattle.dscb_write.proofs.Format5.{five-long}
+use Rattle.dscb_write.proofs.Format5.{five_long}
 use Rattle.dscb_write.specs.Labels.{Format1}
 use Rattle.update.specs.Writing.{Reached, chain_entry, cleared, fives_put, label_put}
 
 -- ---- zeros
 
-slice-next : (c : List ℕ) (i b : ℕ) → i < b → b ≤ length c → slice i b c ≡ get_or c i 0 ∷ slice (i + 1) b c
-slice-next c i b u v = slice-cons i b c 0 u v ∙ ap (λ (j : ℕ). get_or c i 0 ∷ slice j b c) (sym (add-one i))
+slice_next : (c : List ℕ) (i b : ℕ) → i < b → b ≤ length c → slice i b c ≡ get_or c i 0 ∷ slice (i + 1) b c
+slice_next c i b u v = slice-cons i b c 0 u v ∙ ap (λ (j : ℕ). get_or c i 0 ∷ slice j b c) (sym (add-one i))
 
 pub record Clearing (t₀ c : List ℕ) (a b : ℕ) (t : List ℕ) (i : ℕ) : Type 0 where
   pub long : length t ≡ length t₀
   pub inside : All (λ k. 140 * k + 140 ≤ length t₀) (slice i b c)
   pub rest : cleared t (slice i b c) ≡ cleared t₀ (slice a b c)
 
-pub clear-begin : (t c : List ℕ) (a b : ℕ) → All (λ k. 140 * k + 140 ≤ length t) (slice a b c) → Clearing t c a b t a
-clear-begin t c a b h = record { long = refl; inside = h; rest = refl }
+pub clear_begin : (t c : List ℕ) (a b : ℕ) → All (λ k. 140 * k + 140 ≤ length t) (slice a b c) → Clearing t c a b t a
+clear_begin t c a b h = record { long = refl; inside = h; rest = refl }
 
 module _ (t₀ c : List ℕ) (a b : ℕ) (t : List ℕ) (i : ℕ) (s : Clearing t₀ c a b t i) (u : i < b) (v : b ≤ length c) where
   here : All (λ k. 140 * k + 140 ≤ length t₀) (get_or c i 0 ∷ slice (i + 1) b c)
-  here = rw (slice-next c i b u v) at s.inside
+  here = rw (slice_next c i b u v) at s.inside
 
-  pub clear-slot : 140 * get_or c i 0 + 140 ≤ length t
-  clear-slot = let h = here.0 in let l = s.long in omega arith
+  pub clear_slot : 140 * get_or c i 0 + 140 ≤ length t
+  clear_slot = let h = here.0 in let l = s.long in omega arith
 
-  clear-rest : cleared (put_record t (get_or c i 0) (zeros 140)) (slice (i + 1) b c) ≡ cleared t₀ (slice a b c)
+  clear_rest : cleared (put_record t (get_or c i 0) (zeros 140)) (slice (i + 1) b c) ≡ cleared t₀ (slice a b c)
   unfolding cleared
-  clear-rest = sym (ap (cleared t) (slice-next c i b u v)) ∙ s.rest
+  clear_rest = sym (ap (cleared t) (slice_next c i b u v)) ∙ s.rest
 
   pub clear_next : Clearing t₀ c a b (put_record t (get_or c i 0) (zeros 140)) (i + 1)
-  clear_next = record { long = put-length t (get_or c i 0) (zeros 140) refl clear-slot ∙ s.long; inside = here.1; rest = clear-rest }
+  clear_next = record { long = put_length t (get_or c i 0) (zeros 140) refl clear_slot ∙ s.long; inside = here.1; rest = clear_rest }
 
-pub clear-end : (t₀ c : List ℕ) (a b : ℕ) (t : List ℕ) (i : ℕ) → Clearing t₀ c a b t i → b ≤ i → t ≡ cleared t₀ (slice a b c)
+pub clear_end : (t₀ c : List ℕ) (a b : ℕ) (t : List ℕ) (i : ℕ) → Clearing t₀ c a b t i → b ≤ i → t ≡ cleared t₀ (slice a b c)
 unfolding cleared
-clear-end t₀ c a b t i s h = ap (cleared t) (sym (drop_of_length-le (take b c) {i = i} (let e = length-take b c in omega arith))) ∙ s.rest
+clear_end t₀ c a b t i s h = ap (cleared t) (sym (drop_of_length-le (take b c) {i = i} (let e = length-take b c in omega arith))) ∙ s.rest
 
 pub clear_none : (t : List ℕ) (k : ℕ) → k ≡ 0 → t ≡ cleared t (one_slot k)
 unfolding cleared
 clear_none t zero e = refl
 clear_none t (suc k) e = absurd (omega arith)
 
-pub clear-one : (t : List ℕ) (k : ℕ) → (k ≡ 0 → ⊥) → put_record t k (zeros 140) ≡ cleared t (one_slot k)
+pub clear_one : (t : List ℕ) (k : ℕ) → (k ≡ 0 → ⊥) → put_record t k (zeros 140) ≡ cleared t (one_slot k)
 unfolding cleared
-clear-one t zero e = absurd (e refl)
-clear-one t (suc k) e = refl
+clear_one t zero e = absurd (e refl)
+clear_one t (suc k) e = refl
 
 -- ---- a label
 
-pub label-alone : (g : Geometry) (t : List ℕ) (k q : ℕ) (l : Label) (one three : List ℕ) → q ≡ 0 → Format1 g (with_slots k q l) one → put_record t k one ≡ label_put g t k q l three
+pub label_alone : (g : Geometry) (t : List ℕ) (k q : ℕ) (l : Label) (one three : List ℕ) → q ≡ 0 → Format1 g (with_slots k q l) one → put_record t k one ≡ label_put g t k q l three
 unfolding label_put
-label-alone g t k zero l one three e f = ap (put_record t k) f.bytes
-label-alone g t k (suc q) l one three e f = absurd (omega arith)
+label_alone g t k zero l one three e f = ap (put_record t k) f.bytes
+label_alone g t k (suc q) l one three e f = absurd (omega arith)
 
-pub label-both : (g : Geometry) (t : List ℕ) (k q : ℕ) (l : Label) (one three : List ℕ) → (q ≡ 0 → ⊥) → Format1 g (with_slots k q l) one
+pub label_both : (g : Geometry) (t : List ℕ) (k q : ℕ) (l : Label) (one three : List ℕ) → (q ≡ 0 → ⊥) → Format1 g (with_slots k q l) one
     → put_record (put_record t k one) q three ≡ label_put g t k q l three
 unfolding label_put
-label-both g t k zero l one three n f = absurd (n refl)
-label-both g t k (suc q) l one three n f = ap (λ (r : List ℕ). put_record (put_record t k r) (suc q) three) f.bytes
+label_both g t k zero l one three n f = absurd (n refl)
+label_both g t k (suc q) l one three n f = ap (λ (r : List ℕ). put_record (put_record t k r) (suc q) three) f.bytes
 
 -- ---- the chain
 
@@ -90,25 +90,25 @@ pub record Chaining (g : Geometry) (m ks t₀ t : List ℕ) (from start at i : �
   pub long : length t ≡ length t₀
   pub rest : fives_put g t (fives (drop i ks) (free_from m (tracks g) at)) ≡ fives_put g t₀ (fives (drop from ks) (free_from m (tracks g) start))
 
-pub chain-begin : (g : Geometry) (m ks t : List ℕ) (from start : ℕ) → from ≤ length ks → start ≤ tracks g → Chaining g m ks t t from start start from
-chain-begin g m ks t from start u v = record { up_to = u; at_up = v; long = refl; rest = refl }
+pub chain_begin : (g : Geometry) (m ks t : List ℕ) (from start : ℕ) → from ≤ length ks → start ≤ tracks g → Chaining g m ks t t from start start from
+chain_begin g m ks t from start u v = record { up_to = u; at_up = v; long = refl; rest = refl }
 
-pub chain-entry-is : (ks : List ℕ) (i : ℕ) → get_or ks i 0 ≡ chain_entry ks i
+pub chain_entry_is : (ks : List ℕ) (i : ℕ) → get_or ks i 0 ≡ chain_entry ks i
 unfolding chain_entry
-chain-entry-is ks i = refl
+chain_entry_is ks i = refl
 
-head-is : (ks : List ℕ) (i : ℕ) → head_or0 (drop i ks) ≡ chain_entry ks i
+head_is : (ks : List ℕ) (i : ℕ) → head_or0 (drop i ks) ≡ chain_entry ks i
 unfolding chain_entry
-head-is [] zero = refl
-head-is [] (suc i) = refl
-head-is (k ∷ ks) zero = refl
-head-is (k ∷ ks) (suc i) = head-is ks i ∙ sym (chain-entry-is ks i)
+head_is [] zero = refl
+head_is [] (suc i) = refl
+head_is (k ∷ ks) zero = refl
+head_is (k ∷ ks) (suc i) = head_is ks i ∙ sym (chain_entry_is ks i)
 
-pub entry-below : (n : ℕ) (ks : List ℕ) (i : ℕ) → 1 ≤ n → All (λ k. k < n) ks → chain_entry ks i < n
+pub entry_below : (n : ℕ) (ks : List ℕ) (i : ℕ) → 1 ≤ n → All (λ k. k < n) ks → chain_entry ks i < n
 unfolding chain_entry
-entry-below n [] i p h = omega arith
-entry-below n (k ∷ ks) zero p h = h.0
-entry-below n (k ∷ ks) (suc i) p h = let r = entry-below n ks i p h.1 in let e = chain-entry-is ks i in omega arith
+entry_below n [] i p h = omega arith
+entry_below n (k ∷ ks) zero p h = h.0
+entry_below n (k ∷ ks) (suc i) p h = let r = entry_below n ks i p h.1 in let e = chain_entry_is ks i in omega arith
 
 one_more : (g : Geometry) (t : List ℕ) (k : ℕ) (ks : List ℕ) (f : List Run)
     → fives_put g (put_record t k (format5 g (take 26 f) (head_or0 ks))) (fives ks (drop 26 f)) ≡ fives_put g t (fives (k ∷ ks) f)
@@ -125,46 +125,46 @@ module _ (g : Geometry) (m ks t₀ t : List ℕ) (from start at i : ℕ) (s : Ch
       record {
         up_to = omega arith;
         at_up = f.up_to;
-        long = put-length t (chain_entry ks i) made (ap length f.bytes ∙ five-long g (take 26 free) (chain_entry ks (i + 1))) fits ∙ s.long;
-        rest = rest-law;
+        long = put_length t (chain_entry ks i) made (ap length f.bytes ∙ five_long g (take 26 free) (chain_entry ks (i + 1))) fits ∙ s.long;
+        rest = rest_law;
       }
     where
       first : drop i ks ≡ chain_entry ks i ∷ drop (i + 1) ks
-      first = drop-cons ks i 0 u ∙ ap (λ (k : ℕ). k ∷ drop (suc i) ks) (chain-entry-is ks i) ∙ ap (λ (j : ℕ). chain_entry ks i ∷ drop j ks) (sym (add-one i))
+      first = drop-cons ks i 0 u ∙ ap (λ (k : ℕ). k ∷ drop (suc i) ks) (chain_entry_is ks i) ∙ ap (λ (j : ℕ). chain_entry ks i ∷ drop j ks) (sym (add-one i))
 
-      rest-law : fives_put g (put_record t (chain_entry ks i) made) (fives (drop (i + 1) ks) (free_from m (tracks g) next)) ≡ fives_put g t₀ (fives (drop from ks) (free_from m (tracks g) start))
-      rest-law =
+      rest_law : fives_put g (put_record t (chain_entry ks i) made) (fives (drop (i + 1) ks) (free_from m (tracks g) next)) ≡ fives_put g t₀ (fives (drop from ks) (free_from m (tracks g) start))
+      rest_law =
           ap (λ (r : List ℕ). fives_put g (put_record t (chain_entry ks i) r) (fives (drop (i + 1) ks) (free_from m (tracks g) next)))
-          (f.bytes ∙ ap (format5 g (take 26 free)) (sym (head-is ks (i + 1))))
+          (f.bytes ∙ ap (format5 g (take 26 free)) (sym (head_is ks (i + 1))))
           ∙ ap (λ (x : List Run). fives_put g (put_record t (chain_entry ks i) (format5 g (take 26 free) (head_or0 (drop (i + 1) ks)))) (fives (drop (i + 1) ks) x)) f.rest
           ∙ one_more g t (chain_entry ks i) (drop (i + 1) ks) free
           ∙ ap (λ (x : List ℕ). fives_put g t (fives x free)) (sym first)
           ∙ s.rest
 
 -- a record of the chain, where the number t of tracks and the next slot k were computed
-pub fills-told : (g : Geometry) (m : List ℕ) (t t' at k k' : ℕ) (made : List ℕ) (next : ℕ) → t ≡ t' → k ≡ k' → Fills g m t at k made next → Fills g m t' at k' made next
-fills-told g m t t' at k k' made next e h f = subst (λ (j : ℕ). Fills g m t' at j made next) h (subst (λ (n : ℕ). Fills g m n at k made next) e f)
+pub fills_told : (g : Geometry) (m : List ℕ) (t t' at k k' : ℕ) (made : List ℕ) (next : ℕ) → t ≡ t' → k ≡ k' → Fills g m t at k made next → Fills g m t' at k' made next
+fills_told g m t t' at k k' made next e h f = subst (λ (j : ℕ). Fills g m t' at j made next) h (subst (λ (n : ℕ). Fills g m n at k made next) e f)
 
-pub chain-end : (g : Geometry) (m ks t₀ t : List ℕ) (from start at i : ℕ) → Chaining g m ks t₀ t from start at i → length ks ≤ i
+pub chain_end : (g : Geometry) (m ks t₀ t : List ℕ) (from start at i : ℕ) → Chaining g m ks t₀ t from start at i → length ks ≤ i
     → t ≡ fives_put g t₀ (fives (drop from ks) (free_from m (tracks g) start))
 unfolding fives_put
-chain-end g m ks t₀ t from start at i s u = ap (λ (x : List ℕ). fives_put g t (fives x (free_from m (tracks g) at))) (sym (drop_of_length-le ks {i = i} u)) ∙ s.rest
+chain_end g m ks t₀ t from start at i s u = ap (λ (x : List ℕ). fives_put g t (fives x (free_from m (tracks g) at))) (sym (drop_of_length-le ks {i = i} u)) ∙ s.rest
 
 -- `&mut t[a..e]`, the record of slot k, was lent and is back as p
-pub put-part : (t p : List ℕ) (k a : ℕ) → a ≡ 140 * k → put_mid a (a + 140 - a) t p ≡ put_record t k p
+pub put_part : (t p : List ℕ) (k a : ℕ) → a ≡ 140 * k → put_mid a (a + 140 - a) t p ≡ put_record t k p
 unfolding put_record
-put-part t p k a x =
+put_part t p k a x =
     let d : a + 140 - a ≡ 140 = omega arith in
     ap₂ (λ (n j : ℕ). take n t ++ (p ++ drop j (drop n t))) x d ∙ ap (λ (l : List ℕ). take (140 * k) t ++ (p ++ l)) (drop-drop 140 (140 * k) t)
 
 -- ---- where it begins to be written
 
-pub reached-first : (t ks : List ℕ) (lo : ℕ) → Reached t ks lo 0 0
-reached-first t ks lo = record { none = λ _. refl; inside = λ u. absurd (omega arith); start = λ u. absurd (omega arith); low = λ u. absurd (omega arith) }
+pub reached_first : (t ks : List ℕ) (lo : ℕ) → Reached t ks lo 0 0
+reached_first t ks lo = record { none = λ _. refl; inside = λ u. absurd (omega arith); start = λ u. absurd (omega arith); low = λ u. absurd (omega arith) }
 
-pub reached-next : (t c rec : List ℕ) (n lo i k start : ℕ) → n ≤ length c → i + 1 < n → k ≡ chain_entry (take n c) (i + 1) → rec ≡ slot_bytes t k → start ≡ get2 rec 4 → start ≤ lo
+pub reached_next : (t c rec : List ℕ) (n lo i k start : ℕ) → n ≤ length c → i + 1 < n → k ≡ chain_entry (take n c) (i + 1) → rec ≡ slot_bytes t k → start ≡ get2 rec 4 → start ≤ lo
     → Reached t (take n c) lo (i + 1) start
-reached-next t c rec n lo i k start l u ek er es v =
+reached_next t c rec n lo i k start l u ek er es v =
     record {
       none = λ z. absurd (omega arith);
       inside = λ _. let q = length-take n c in omega arith;

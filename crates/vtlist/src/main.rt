@@ -41,7 +41,7 @@ fn read_rest(input: &mut impl Read) {
 }
 
 // No table is longer than 65,520 bytes: of a longer input the first 65,536 bytes are listed as the whole would be (rules'
-// `listing-cut`). A listing that cannot be printed is not told of.
+// `listing_cut`). A listing that cannot be printed is not told of.
 fn main(rt: HostRuntime) {
     let mut input = rt.stdin();
     let mut table = [0u8; 65536];

@@ -1,11 +1,11 @@
 use mathlib.Core.Path.{◌≡◌}
 use Prim.Native.Nat.{◌+◌, ◌*◌, ◌/◌}
 use native.Mathlib.Omega.{arith}
-use Rattle.bitmap.proofs.Counting.{counts-none}
+use Rattle.bitmap.proofs.Counting.{counts_none}
 use Rattle.bitmap.proofs.count_eights.Goals as goal
 
 pub loop-w-init : goal.loop-w-init
-loop-w-init c = (omega arith, omega arith, c.requires.0, c.requires.1, counts-none _)
+loop-w-init c = (omega arith, omega arith, c.requires.0, c.requires.1, counts_none _)
 
 pub loop-w-preserved : goal.loop-w-preserved
 loop-w-preserved c =

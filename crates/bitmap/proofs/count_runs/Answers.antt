@@ -1,5 +1,5 @@
 use native.Mathlib.Omega.{arith}
-use Rattle.bitmap.proofs.Counting.{and-part, whole_words}
+use Rattle.bitmap.proofs.Counting.{and_part, whole_words}
 use Rattle.bitmap.proofs.count_runs.Goals as goal
 
 pub returns-then-k-eq0 : goal.returns-then-k-eq0
@@ -10,14 +10,14 @@ returns-then-k-eq0 c =
 pub overflow_cast-result : goal.overflow_cast-result
 overflow_cast-result c =
     let a = c.args in
-    omega (arith, (and-part a.map.now a.n _ _ c.count_rest-c.ensures c.starts.result c.starts.ensures).1)
+    omega (arith, (and_part a.map.now a.n _ _ c.count_rest-c.ensures c.starts.result c.starts.ensures).1)
 
 pub overflow_add-result : goal.overflow_add-result
 overflow_add-result c =
     let a = c.args in
-    omega (arith, (and-part a.map.now a.n _ _ c.count_rest-c.ensures c.starts.result c.starts.ensures).1)
+    omega (arith, (and_part a.map.now a.n _ _ c.count_rest-c.ensures c.starts.result c.starts.ensures).1)
 
 pub returns : goal.returns
 returns c =
     let a = c.args in
-    and-part a.map.now a.n _ _ c.count_rest-c.ensures c.starts.result c.starts.ensures
+    and_part a.map.now a.n _ _ c.count_rest-c.ensures c.starts.result c.starts.ensures

@@ -3,13 +3,13 @@ use Prim.Native.Nat.{ℕ, ◌+◌}
 use borrow.Author.Tests.{eqb-true}
 use native.Mathlib.Omega.{arith}
 use Rattle.bitmap.specs.Steps.{WordsAlike}
-use Rattle.bitmap.proofs.Words.{alike-turn}
+use Rattle.bitmap.proofs.Words.{alike_turn}
 use Rattle.bitmap.proofs.eight_plain.Goals as goal
 
 pub loop-i-preserved : goal.loop-i-preserved
 loop-i-preserved c =
     let l = c.loop-i in
-    (omega arith, l.invariant.1, alike-turn c.args.map.now _ _ l.i l.unlike l.invariant.2)
+    (omega arith, l.invariant.1, alike_turn c.args.map.now _ _ l.i l.unlike l.invariant.2)
 
 pub returns : goal.returns
 returns c =

@@ -4,7 +4,7 @@ use native.Mathlib.Omega.{arith}
 use lib.ListN.{get_or, set}
 use lib.Bits.{bit_or}
 use Rattle.bitmap.specs.Map.{Made}
-use Rattle.bitmap.proofs.Words.{give-chunk, made_none, made_more}
+use Rattle.bitmap.proofs.Words.{give_chunk, made_none, made_more}
 use Rattle.bitmap.proofs.give_far.Goals as goal
 
 pub loop-t-init : goal.loop-t-init
@@ -16,7 +16,7 @@ loop-t-preserved c =
     let s = c.args.s in
     let t = c.loop-t.t in
     let n = c.chunk-n.result in
-    let step : Made 1 m (set m (t / 64) (bit_or (get_or m (t / 64) 0) c.mask.result)) t (t + n) = rw c.mask.ensures (give-chunk m t n (omega arith) (omega arith)) in
+    let step : Made 1 m (set m (t / 64) (bit_or (get_or m (t / 64) 0) c.mask.result)) t (t + n) = rw c.mask.ensures (give_chunk m t n (omega arith) (omega arith)) in
     (omega arith, omega arith, made_more 1 c.args.map.now m _ s t (t + n) (omega arith) (omega arith) c.loop-t.invariant.2 step)
 
 pub returns : goal.returns

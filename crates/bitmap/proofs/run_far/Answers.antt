@@ -4,23 +4,23 @@ use native.Mathlib.Nat.{le_refl}
 use native.Mathlib.Omega.{arith}
 use lib.Count.{count_trailing_zeros, trailing_le}
 use Rattle.bitmap.specs.Map.{NextRun}
-use Rattle.bitmap.proofs.Bits.{trailing-small}
-use Rattle.bitmap.proofs.Far.{ending-later, ending-none, ending-own, first-end, first-none, first_off, first_on, no_run}
-use Rattle.bitmap.proofs.Near.{rest-none}
-use Rattle.bitmap.proofs.Walk.{next-run-law}
+use Rattle.bitmap.proofs.Bits.{trailing_small}
+use Rattle.bitmap.proofs.Far.{ending_later, ending_none, ending_own, first_end, first_none, first_off, first_on, no_run}
+use Rattle.bitmap.proofs.Near.{rest_none}
+use Rattle.bitmap.proofs.Walk.{next_run_law}
 use Rattle.bitmap.proofs.run_far.Goals as goal
 
 pub returns-else-t-n : goal.returns-else-t-n
 returns-else-t-n c =
     let a = c.args in
-    (no_run a.map.now a.n a.t (first-end a.map.now a.n a.t c.if-t-n.false c.requires.0), rest-none a.map.now a.n a.n (le_refl a.n))
+    (no_run a.map.now a.n a.t (first_end a.map.now a.n a.t c.if-t-n.false c.requires.0), rest_none a.map.now a.n a.n (le_refl a.n))
 
 pub returns-then-y-eq0 : goal.returns-then-y-eq0
 returns-then-y-eq0 c =
     let a = c.args in
     let r = c.word_ahead-p.result in
     let p = c.word_ahead-p.ensures a.n (omega arith) c.requires.2 in
-    (no_run a.map.now a.n a.t (first-none a.map.now a.n a.t ((a.n - 1) / 64 + 1) r.at r.word p c.if-y-eq0.true c.requires.0), rest-none a.map.now a.n a.n (le_refl a.n))
+    (no_run a.map.now a.n a.t (first_none a.map.now a.n a.t ((a.n - 1) / 64 + 1) r.at r.word p c.if-y-eq0.true c.requires.0), rest_none a.map.now a.n a.n (le_refl a.n))
 
 pub overflow_cast-from : goal.overflow_cast-from
 overflow_cast-from c =
@@ -47,14 +47,14 @@ overflow_add-from c =
     let r = c.word_ahead-p.result in
     let p = c.word_ahead-p.ensures a.n (omega arith) c.requires.2 in
     let h = p.some c.if-y-eq0.false in
-    omega (arith, trailing-small 64 r.word (omega arith) c.if-y-eq0.false)
+    omega (arith, trailing_small 64 r.word (omega arith) c.if-y-eq0.false)
 
 pub returns-else-from-n : goal.returns-else-from-n
 returns-else-from-n c =
     let a = c.args in
     let r = c.word_ahead-p.result in
     let p = c.word_ahead-p.ensures a.n (omega arith) c.requires.2 in
-    (no_run a.map.now a.n a.t (first_off a.map.now a.n a.t ((a.n - 1) / 64 + 1) r.at r.word p c.if-y-eq0.false (omega arith) c.if-from-n.false c.requires.0), rest-none a.map.now a.n a.n (le_refl a.n))
+    (no_run a.map.now a.n a.t (first_off a.map.now a.n a.t ((a.n - 1) / 64 + 1) r.at r.word p c.if-y-eq0.false (omega arith) c.if-from-n.false c.requires.0), rest_none a.map.now a.n a.n (le_refl a.n))
 
 pub returns-then-low : goal.returns-then-low
 returns-then-low c =
@@ -62,8 +62,8 @@ returns-then-low c =
     let r = c.word_ahead-p.result in
     let p = c.word_ahead-p.ensures a.n (omega arith) c.requires.2 in
     let f = first_on a.map.now a.n a.t ((a.n - 1) / 64 + 1) r.at r.word p c.if-y-eq0.false (omega arith) c.if-from-n.true in
-    let s = c.stop_at.ensures.1 a.map.now (ending-own a.map.now a.n a.t ((a.n - 1) / 64 + 1) r.at r.word p c.if-y-eq0.false (omega arith)) in
-    (subst (λ (x : ℕ). NextRun a.map.now a.n a.t x c.stop_at.result.to) (sym c.stop_at.ensures.0) (next-run-law a.map.now a.n a.t (64 * r.at + count_trailing_zeros 64 r.word) c.stop_at.result.to f s.0), s.1)
+    let s = c.stop_at.ensures.1 a.map.now (ending_own a.map.now a.n a.t ((a.n - 1) / 64 + 1) r.at r.word p c.if-y-eq0.false (omega arith)) in
+    (subst (λ (x : ℕ). NextRun a.map.now a.n a.t x c.stop_at.result.to) (sym c.stop_at.ensures.0) (next_run_law a.map.now a.n a.t (64 * r.at + count_trailing_zeros 64 r.word) c.stop_at.result.to f s.0), s.1)
 
 pub stop_at-requires-then-z : goal.stop_at-requires-then-z
 stop_at-requires-then-z c =
@@ -79,8 +79,8 @@ returns-then-z c =
     let some = c.if-y-eq0.false in
     let v = c.pass-q.result in
     let f = first_on a.map.now a.n a.t ((a.n - 1) / 64 + 1) r.at r.word p some (omega arith) c.if-from-n.true in
-    let s = c.stop_at-then-z.ensures.1 a.map.now (ending-later a.map.now a.n a.t ((a.n - 1) / 64 + 1) r.at r.word p some (omega arith) c.if-low.false v.at v.word c.pass-q.ensures c.if-z.true) in
-    (subst (λ (x : ℕ). NextRun a.map.now a.n a.t x c.stop_at-then-z.result.to) (sym c.stop_at-then-z.ensures.0) (next-run-law a.map.now a.n a.t (64 * r.at + count_trailing_zeros 64 r.word) c.stop_at-then-z.result.to f s.0), s.1)
+    let s = c.stop_at-then-z.ensures.1 a.map.now (ending_later a.map.now a.n a.t ((a.n - 1) / 64 + 1) r.at r.word p some (omega arith) c.if-low.false v.at v.word c.pass-q.ensures c.if-z.true) in
+    (subst (λ (x : ℕ). NextRun a.map.now a.n a.t x c.stop_at-then-z.result.to) (sym c.stop_at-then-z.ensures.0) (next_run_law a.map.now a.n a.t (64 * r.at + count_trailing_zeros 64 r.word) c.stop_at-then-z.result.to f s.0), s.1)
 
 pub returns : goal.returns
 returns c =
@@ -90,5 +90,5 @@ returns c =
     let some = c.if-y-eq0.false in
     let v = c.pass-q.result in
     let f = first_on a.map.now a.n a.t ((a.n - 1) / 64 + 1) r.at r.word p some (omega arith) c.if-from-n.true in
-    let g = ending-none a.map.now a.n a.t ((a.n - 1) / 64 + 1) r.at r.word p some (omega arith) c.if-low.false v.at v.word c.pass-q.ensures c.if-z.false (omega arith) c.if-from-n.true in
-    (next-run-law a.map.now a.n a.t (64 * r.at + count_trailing_zeros 64 r.word) a.n f g, rest-none a.map.now a.n a.n (le_refl a.n))
+    let g = ending_none a.map.now a.n a.t ((a.n - 1) / 64 + 1) r.at r.word p some (omega arith) c.if-low.false v.at v.word c.pass-q.ensures c.if-z.false (omega arith) c.if-from-n.true in
+    (next_run_law a.map.now a.n a.t (64 * r.at + count_trailing_zeros 64 r.word) a.n f g, rest_none a.map.now a.n a.n (le_refl a.n))

@@ -1,6 +1,6 @@
 use native.Mathlib.Omega.{arith}
-use Rattle.bitmap.proofs.Counting.{starts-law}
+use Rattle.bitmap.proofs.Counting.{starts_law}
 use Rattle.bitmap.proofs.starts.Goals as goal
 
 pub returns : goal.returns
-returns c = starts-law c.args.y c.args.x (omega arith) (omega arith)
+returns c = starts_law c.args.y c.args.x (omega arith) (omega arith)

@@ -3,7 +3,7 @@ use Prim.Native.Nat.{◌+◌, ◌*◌}
 use native.Mathlib.Omega.{arith}
 use Rattle.model.proofs.Lists.{clash}
 use Rattle.bitmap.specs.Map.{AllFree, Made}
-use Rattle.bitmap.proofs.Words.{free_more, hit-before, made_more, made_none, word-free, word-hit, word-taken}
+use Rattle.bitmap.proofs.Words.{free_more, hit_before, made_more, made_none, word_free, word_hit, word_taken}
 use borrow.Author.Rules.{rules}
 use Rattle.bitmap.proofs.take_words.Goals as goal
 
@@ -18,8 +18,8 @@ returns-then-map-i c =
       long = l.invariant.4.long;
       were = λ r. clash r refl;
       made = λ r. clash r refl;
-      hit = λ _. hit-before a.map.now l.map (64 * a.w) (64 * l.i) (64 * a.v) (omega arith) l.invariant.4
-          (word-hit l.map l.i (64 * a.v) (omega arith) (omega arith) (c.slice_known-1.given l.i).fits c.if-map-i.true);
+      hit = λ _. hit_before a.map.now l.map (64 * a.w) (64 * l.i) (64 * a.v) (omega arith) l.invariant.4
+          (word_hit l.map l.i (64 * a.v) (omega arith) (omega arith) (c.slice_known-1.given l.i).fits c.if-map-i.true);
     }
 
 pub loop-i-preserved : goal.loop-i-preserved
@@ -30,8 +30,8 @@ loop-i-preserved c =
       omega arith,
       omega arith,
       search rules,
-      subst (AllFree a.map.now (64 * a.w)) e (free_more a.map.now l.map (64 * a.w) (64 * l.i) (64 * l.i + 64) l.invariant.3 l.invariant.4 (word-free l.map l.i c.if-map-i.false)),
-      subst (Made 0 a.map.now _ (64 * a.w)) e (made_more 0 a.map.now l.map _ (64 * a.w) (64 * l.i) (64 * l.i + 64) (omega arith) (omega arith) l.invariant.4 (word-taken l.map l.i (omega arith))),
+      subst (AllFree a.map.now (64 * a.w)) e (free_more a.map.now l.map (64 * a.w) (64 * l.i) (64 * l.i + 64) l.invariant.3 l.invariant.4 (word_free l.map l.i c.if-map-i.false)),
+      subst (Made 0 a.map.now _ (64 * a.w)) e (made_more 0 a.map.now l.map _ (64 * a.w) (64 * l.i) (64 * l.i + 64) (omega arith) (omega arith) l.invariant.4 (word_taken l.map l.i (omega arith))),
     )
 
 pub returns : goal.returns

@@ -1,4 +1,4 @@
-use Rattle.call_initialise.proofs.Laws.{all-erased}
+use Rattle.call_initialise.proofs.Laws.{all_erased}
 use Rattle.dscb_write.proofs.Putting.{same_more, same_none}
 use lib.ListN.{length-set, set}
 use native.Mathlib.Omega.{arith}
@@ -16,4 +16,4 @@ loop-i-preserved c =
 
 pub returns : goal.returns
 returns c =
-    c.loop-i.invariant.2 ∙ all-erased c.args.table.now c.loop-i.i c.loop-i.invariant.0 (omega (arith, c.loop-i-test.false, c.loop-i.invariant.1))
+    c.loop-i.invariant.2 ∙ all_erased c.args.table.now c.loop-i.i c.loop-i.invariant.0 (omega (arith, c.loop-i-test.false, c.loop-i.invariant.1))

@@ -5,8 +5,8 @@ use native.Mathlib.Omega.{arith}
 use lib.ListN.{take}
 use Rattle.dscb.specs.Forms.{geometry_of}
 use Rattle.free_extents.specs.FreeList.{Entries}
-use Rattle.free_extents.proofs.Walk.{going-all, going_end, going_next, going-none}
-use Rattle.call_lspace.proofs.Laws.{below_more, summed-empty, summed-more}
+use Rattle.free_extents.proofs.Walk.{going_all, going_end, going_next, going_none}
+use Rattle.call_lspace.proofs.Laws.{below_more, summed_empty, summed_more}
 use Rattle.call_lspace.proofs.add_all.Goals as goal
 
 pub loop-left-init : goal.loop-left-init
@@ -16,14 +16,14 @@ loop-left-init c =
       omega (arith, p.0.least),
       omega arith,
       record { cylinders = omega arith; odd = omega arith; many = omega arith; long = omega arith },
-      λ f x. going-all (geometry_of a.g) a.table.now _ c.slots-left.result c.slots-left.ensures.0 f x (λ r y. y),
+      λ f x. going_all (geometry_of a.g) a.table.now _ c.slots-left.result c.slots-left.ensures.0 f x (λ r y. y),
     )
 
 pub returns-then-k-eq0 : goal.returns-then-k-eq0
 returns-then-k-eq0 c =
     let a = c.args in
     let l = c.loop-left in
-    λ f x. going-none (geometry_of a.g) a.table.now _ l.left l.k (l.invariant.3 f x) c.if-k-eq0.true l.s (summed-empty a.g.heads [] l.s refl)
+    λ f x. going_none (geometry_of a.g) a.table.now _ l.left l.k (l.invariant.3 f x) c.if-k-eq0.true l.s (summed_empty a.g.heads [] l.s refl)
 
 pub record_at-requires : goal.record_at-requires
 record_at-requires c = omega (arith, c.loop-left.invariant.0, c.requires.1)
@@ -52,7 +52,7 @@ loop-left-preserved c =
       omega (arith, l.invariant.1),
       below_more _ _ add.result (omega (arith, l.invariant.1)) (add.ensures.most _ (omega arith) l.invariant.2),
       λ f x. going_next (geometry_of a.g) a.table.now _ l.left l.k (l.invariant.3 f x) (omega (arith, c.if-k-eq0.false)) c.member_after-k.result _
-          (λ e y z r w. z r (summed-more a.g.heads 26 e l.s add.result r (add.ensures.sums (take 26 e) (subst (λ (q : List ℕ). Entries a.g.heads q (take 26 e)) (sym rec.ensures.0) y)) w))
+          (λ e y z r w. z r (summed_more a.g.heads 26 e l.s add.result r (add.ensures.sums (take 26 e) (subst (λ (q : List ℕ). Entries a.g.heads q (take 26 e)) (sym rec.ensures.0) y)) w))
           c.member_after-k.ensures.1,
     )
 
@@ -60,4 +60,4 @@ pub returns : goal.returns
 returns c =
     let a = c.args in
     let l = c.loop-left in
-    λ f x. going_end (geometry_of a.g) a.table.now _ l.left l.k (l.invariant.3 f x) (omega arith) l.s (summed-empty a.g.heads [] l.s refl)
+    λ f x. going_end (geometry_of a.g) a.table.now _ l.left l.k (l.invariant.3 f x) (omega arith) l.s (summed_empty a.g.heads [] l.s refl)

@@ -4,8 +4,8 @@ use native.Mathlib.Nat.{div-le_self, mod-le}
 use native.Mathlib.Omega.{arith}
 use lib.ListN.{drop}
 use Rattle.model.specs.Model.{run}
-use Rattle.free_extents.proofs.Chain.{entry-end, entry_next, entry-none}
-use Rattle.call_lspace.proofs.Laws.{below_more, sums-below, summed-empty, summed-next}
+use Rattle.free_extents.proofs.Chain.{entry_end, entry_next, entry_none}
+use Rattle.call_lspace.proofs.Laws.{below_more, sums_below, summed_empty, summed_next}
 use Rattle.call_lspace.proofs.add_member.Goals as goal
 
 pub loop-j-init : goal.loop-j-init
@@ -19,7 +19,7 @@ returns-then-hole-eq0 c =
     record {
       most = λ n l b. below_more _ _ c.loop-j.s (omega arith) (i.1 n l b);
       sums = λ f x. i.2 f c.loop-j.s x
-          (summed-empty a.h _ _ (entry-none x c.loop-j.j hole.result.start hole.result.count (omega arith) hole.ensures.0 c.if-hole-eq0.true));
+          (summed_empty a.h _ _ (entry_none x c.loop-j.j hole.result.start hole.result.count (omega arith) hole.ensures.0 c.if-hole-eq0.true));
     }
 
 pub overflow_add-s : goal.overflow_add-s
@@ -58,9 +58,9 @@ loop-j-preserved c =
     let eo = ap (λ (y : ℕ). s.odd + y) x.4 in
     let t = c.loop-j-test.true in (
       omega (arith, t),
-      (λ n l b. sums-below n j hole.result.count a.h s _ x.2 l ec eo refl c.larger.ensures (i.1 n l b)),
+      (λ n l b. sums_below n j hole.result.count a.h s _ x.2 l ec eo refl c.larger.ensures (i.1 n l b)),
       λ f r e y. i.2 f r e
-          (summed-next a.h (run hole.result.start hole.result.count) _ _ s _ r
+          (summed_next a.h (run hole.result.start hole.result.count) _ _ s _ r
           (entry_next e j hole.result.start hole.result.count (omega (arith, t)) x.0 c.if-hole-eq0.false) ec eo refl c.larger.ensures y),
     )
 
@@ -71,5 +71,5 @@ returns c =
     let e : c.loop-j.j ≡ 26 = omega arith in
     record {
       most = λ n l b. below_more _ _ c.loop-j.s (omega arith) (i.1 n l b);
-      sums = λ f x. i.2 f c.loop-j.s x (summed-empty a.h _ _ (ap (λ (j : ℕ). drop j f) e ∙ entry-end x));
+      sums = λ f x. i.2 f c.loop-j.s x (summed_empty a.h _ _ (ap (λ (j : ℕ). drop j f) e ∙ entry_end x));
     }

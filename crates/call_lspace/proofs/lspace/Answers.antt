@@ -1,5 +1,5 @@
 use Rattle.call_lspace.proofs.Laws.{inquired, inquires, lists}
-use Rattle.open_table.proofs.Calls.{answer-long, refused}
+use Rattle.open_table.proofs.Calls.{answer_long, refused}
 use Rattle.open_table.proofs.Numbers.{known}
 use native.Mathlib.Omega.{arith}
 use mathlib.Core.Path.{refl}
@@ -18,7 +18,7 @@ space-six-requires c =
 
 pub put_numbers-requires : goal.put_numbers-requires
 put_numbers-requires c =
-    (answer-long (inquires c.args.table.now c.args.answer.now _ refl) c.open_to_read-opened.ensures c.if-opened-ne0.false, c.space-six.ensures.1)
+    (answer_long (inquires c.args.table.now c.args.answer.now _ refl) c.open_to_read-opened.ensures c.if-opened-ne0.false, c.space-six.ensures.1)
 
 pub returns : goal.returns
 returns c =

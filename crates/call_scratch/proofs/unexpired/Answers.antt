@@ -1,4 +1,4 @@
-use Rattle.call_scratch.proofs.Call.{date-later, overridden}
+use Rattle.call_scratch.proofs.Call.{date_later, overridden}
 use Rattle.call_scratch.proofs.unexpired.Goals as goal
 
 pub returns-then-overriding-ne0 : goal.returns-then-overriding-ne0
@@ -6,4 +6,4 @@ returns-then-overriding-ne0 c = overridden c.args.overriding c.if-overriding-ne0
 
 pub returns : goal.returns
 returns c =
-    date-later c.args.overriding c.if-overriding-ne0.false _ _ c.args.today.now _ c.record_at-rec.ensures.0 c.is_later.ensures
+    date_later c.args.overriding c.if-overriding-ne0.false _ _ c.args.today.now _ c.record_at-rec.ensures.0 c.is_later.ensures

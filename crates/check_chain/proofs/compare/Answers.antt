@@ -5,20 +5,20 @@ use native.Mathlib.Omega.{arith}
 use Rattle.model.specs.Basics.{part}
 use Rattle.dscb.specs.Forms.{geometry_of}
 use Rattle.check_chain.specs.Entries.{Rows}
-use Rattle.check_chain.proofs.Entries.{front-bad, header-bad, id-bad, listed, rows_of}
+use Rattle.check_chain.proofs.Entries.{front_bad, header_bad, id_bad, listed, rows_of}
 use Rattle.dscb.proofs.Records.{length_part}
 use Rattle.check_chain.proofs.compare.Goals as goal
 
 pub returns-else-part_is : goal.returns-else-part_is
 returns-else-part_is c =
-    header-bad (geometry_of c.args.g) c.args.free_tracks.now c.args.n c.args.at c.args.rec.now (sym c.part_is.ensures ∙ c.if-part_is.false) _
+    header_bad (geometry_of c.args.g) c.args.free_tracks.now c.args.n c.args.at c.args.rec.now (sym c.part_is.ensures ∙ c.if-part_is.false) _
 
 pub returns-then-rec : goal.returns-then-rec
-returns-then-rec c = id-bad (geometry_of c.args.g) c.args.free_tracks.now c.args.n c.args.at c.args.rec.now c.requires.0 c.if-rec.true _
+returns-then-rec c = id_bad (geometry_of c.args.g) c.args.free_tracks.now c.args.n c.args.at c.args.rec.now c.requires.0 c.if-rec.true _
 
 pub returns-else-front : goal.returns-else-front
 returns-else-front c =
-    front-bad (geometry_of c.args.g) c.args.free_tracks.now c.args.n c.args.at c.args.rec.now c.entries_are-front.result.ok c.entries_are-front.result.next _ c.if-front.false
+    front_bad (geometry_of c.args.g) c.args.free_tracks.now c.args.n c.args.at c.args.rec.now c.entries_are-front.result.ok c.entries_are-front.result.next _ c.if-front.false
     (rows_of (geometry_of c.args.g) c.args.free_tracks.now c.args.n c.args.at 8 _ _ _ (length_part 4 40 c.args.rec.now (omega (arith, c.requires.0))) c.entries_are-front.ensures)
 
 pub entries_are-requires : goal.entries_are-requires

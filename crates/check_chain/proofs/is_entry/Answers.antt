@@ -1,5 +1,5 @@
-use Rattle.check_chain.proofs.Entries.{many-cylinders}
-use Rattle.dscb.proofs.Stops.{cylinder-fits}
+use Rattle.check_chain.proofs.Entries.{many_cylinders}
+use Rattle.dscb.proofs.Stops.{cylinder_fits}
 use native.Mathlib.Omega.{arith}
 use borrow.Author.Tests.{eq-eqb, ne_eqb, le-ltb, lt-ltb}
 use Rattle.check_chain.proofs.is_entry.Goals as goal
@@ -12,13 +12,13 @@ returns-then-odd-h c = rw (← c.two.ensures.0, eq-eqb _ _ c.if-two-start.false,
 
 pub returns-then-whole-c : goal.returns-then-whole-c
 returns-then-whole-c c =
-    many-cylinders c.args.c c.args.h c.args.start c.args.count c.args.x.now c.requires.2 (omega (arith, c.two-whole.ensures.0, c.if-whole-c.true))
+    many_cylinders c.args.c c.args.h c.args.start c.args.count c.args.x.now c.requires.2 (omega (arith, c.two-whole.ensures.0, c.if-whole-c.true))
 
 pub overflow_mul-result : goal.overflow_mul-result
-overflow_mul-result c = omega (arith, cylinder-fits c.args.c c.args.h c.two-whole.result c.if-whole-c.false, c.requires.1)
+overflow_mul-result c = omega (arith, cylinder_fits c.args.c c.args.h c.two-whole.result c.if-whole-c.false, c.requires.1)
 
 pub overflow_add-result : goal.overflow_add-result
-overflow_add-result c = omega (arith, cylinder-fits c.args.c c.args.h c.two-whole.result c.if-whole-c.false, c.requires.1, c.if-odd-h.false)
+overflow_add-result c = omega (arith, cylinder_fits c.args.c c.args.h c.two-whole.result c.if-whole-c.false, c.requires.1, c.if-odd-h.false)
 
 pub returns : goal.returns
 returns c =

@@ -2,7 +2,7 @@ use mathlib.Core.Path.{refl, ◌∙◌}
 use mathlib.Core.Bool.{true, false}
 use native.Mathlib.Omega.{arith}
 use Rattle.dscb.specs.Forms.{geometry_of}
-use Rattle.check_chain.proofs.Laws.{fewer, go_on, gone-bad, gone-last}
+use Rattle.check_chain.proofs.Laws.{fewer, go_on, gone_bad, gone_last}
 use Rattle.check_chain.proofs.take_chain.Goals as goal
 
 pub loop-g-init : goal.loop-g-init
@@ -16,12 +16,12 @@ take_member-m-requires c =
 pub returns-else-m : goal.returns-else-m
 returns-else-m c =
     let l = c.loop-g.invariant in
-    l.3 _ false (gone-bad (geometry_of c.args.g) c.args.table.now c.args.free_tracks.now _ c.loop-g.k l.0 c.loop-g.free_slots _ c.take_member-m.result c.take_member-m.ensures c.if-m.false)
+    l.3 _ false (gone_bad (geometry_of c.args.g) c.args.table.now c.args.free_tracks.now _ c.loop-g.k l.0 c.loop-g.free_slots _ c.take_member-m.result c.take_member-m.ensures c.if-m.false)
 
 pub returns-then-m-2 : goal.returns-then-m-2
 returns-then-m-2 c =
     let l = c.loop-g.invariant in
-    l.3 _ true (gone-last (geometry_of c.args.g) c.args.table.now c.args.free_tracks.now _ c.loop-g.k l.0 c.loop-g.free_slots _ c.take_member-m.result c.take_member-m.ensures c.if-m.true c.if-m-2.true)
+    l.3 _ true (gone_last (geometry_of c.args.g) c.args.table.now c.args.free_tracks.now _ c.loop-g.k l.0 c.loop-g.free_slots _ c.take_member-m.result c.take_member-m.ensures c.if-m.true c.if-m-2.true)
 
 pub loop-g-smaller : goal.loop-g-smaller
 loop-g-smaller c =

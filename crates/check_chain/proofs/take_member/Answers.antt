@@ -11,17 +11,17 @@ use Rattle.rows.specs.Words.{all_are}
 use Rattle.dscb.specs.Records.{slot_bytes}
 use Rattle.check_chain.specs.Entries.{link_ok}
 use Rattle.check_chain.proofs.Entries.{listed_at}
-use Rattle.check_chain.proofs.Laws.{held-bad, held-hit, held-last, held_more, none_left, some_left}
+use Rattle.check_chain.proofs.Laws.{held_bad, held_hit, held_last, held_more, none_left, some_left}
 use Rattle.check_chain.proofs.take_member.Goals as goal
 
 pub returns-else-take_range : goal.returns-else-take_range
 returns-else-take_range c =
-    held-hit (geometry_of c.args.g) c.args.table.now c.args.free_tracks.now _ c.args.k c.args.free_slots.now _ _ c.requires.2 c.take_range.result c.if-take_range.false c.take_range.ensures c.refused.ensures
+    held_hit (geometry_of c.args.g) c.args.table.now c.args.free_tracks.now _ c.args.k c.args.free_slots.now _ _ c.requires.2 c.take_range.result c.if-take_range.false c.take_range.ensures c.refused.ensures
 
 pub returns-else-listed : goal.returns-else-listed
 returns-else-listed c =
     let g = geometry_of c.args.g in
-    held-bad g c.requires.0 c.args.table.now c.args.free_tracks.now c.args.at c.args.k c.args.free_slots.now _ c.take_range.result c.if-take_range.true c.take_range.ensures
+    held_bad g c.requires.0 c.args.table.now c.args.free_tracks.now c.args.at c.args.k c.args.free_slots.now _ c.take_range.result c.if-take_range.true c.take_range.ensures
     _ c.record_at-rec.result.now c.compare-listed.result.ok c.compare-listed.result.next c.record_at-rec.ensures.0
     (listed_at g c.args.free_tracks.now c.tracks-t.result (tracks g) c.args.at _ _ _ _ c.compare-listed.result.next c.tracks-t.ensures.0 refl refl c.compare-listed.ensures) c.if-listed.false c.refused-else-listed.ensures
 
@@ -31,7 +31,7 @@ next_run-free-requires c = (c.compare-listed.ensures.up_to c.if-listed.true, ome
 pub returns-then-free-t : goal.returns-then-free-t
 returns-then-free-t c =
     let g = geometry_of c.args.g in
-    held-last g c.requires.0 c.args.table.now c.args.free_tracks.now c.args.at c.args.k c.args.free_slots.now _ c.take_range.result c.if-take_range.true c.take_range.ensures
+    held_last g c.requires.0 c.args.table.now c.args.free_tracks.now c.args.at c.args.k c.args.free_slots.now _ c.take_range.result c.if-take_range.true c.take_range.ensures
     (λ j. (c.shared_slice_known-1.given j).fits) (sym (ap length c.record_at-rec.ensures.0) ∙ c.record_at-rec.ensures.1) c.compare-listed.result.next
     (listed_at g c.args.free_tracks.now c.tracks-t.result (tracks g) c.args.at c.record_at-rec.result.now (slot_bytes c.args.table.now c.args.k) c.compare-listed.result.ok true c.compare-listed.result.next c.tracks-t.ensures.0 c.record_at-rec.ensures.0 c.if-listed.true c.compare-listed.ensures)
     _ (none_left c.args.free_tracks.now c.tracks-t.result (tracks g) c.compare-listed.result.next c.next_run-free.result.from c.next_run-free.result.to c.tracks-t.ensures.0 c.next_run-free.ensures c.if-free-t.true)

@@ -2,7 +2,7 @@ use mathlib.Core.Path.{refl, sym, ◌∙◌}
 use Prim.Native.Nat.{◌-◌}
 use native.Mathlib.Nat.{le_refl}
 use native.Mathlib.Omega.{arith}
-use Rattle.check_table.proofs.Unused.{highest-hit, highest-miss, highest-none}
+use Rattle.check_table.proofs.Unused.{highest_hit, highest_miss, highest_none}
 use Rattle.check_table.proofs.highest.Goals as goal
 
 pub loop-k-init : goal.loop-k-init
@@ -11,12 +11,12 @@ loop-k-init c = (le_refl _, refl)
 pub returns-then-rec : goal.returns-then-rec
 returns-then-rec c =
     let u = c.loop-k-test.true in
-    sym (c.loop-k.invariant.1 ∙ highest-hit _ _ c.loop-k.k (c.loop-k.k - 1) (omega arith) c.record_at-rec.ensures.0 c.if-rec.true)
+    sym (c.loop-k.invariant.1 ∙ highest_hit _ _ c.loop-k.k (c.loop-k.k - 1) (omega arith) c.record_at-rec.ensures.0 c.if-rec.true)
 
 pub loop-k-preserved : goal.loop-k-preserved
 loop-k-preserved c =
     let u = c.loop-k-test.true in
-    (omega arith, c.loop-k.invariant.1 ∙ highest-miss _ _ c.loop-k.k (c.loop-k.k - 1) (omega arith) c.record_at-rec.ensures.0 c.if-rec.false)
+    (omega arith, c.loop-k.invariant.1 ∙ highest_miss _ _ c.loop-k.k (c.loop-k.k - 1) (omega arith) c.record_at-rec.ensures.0 c.if-rec.false)
 
 pub returns : goal.returns
-returns c = sym (c.loop-k.invariant.1 ∙ highest-none _ c.loop-k.k (omega arith))
+returns c = sym (c.loop-k.invariant.1 ∙ highest_none _ c.loop-k.k (omega arith))

@@ -1,4 +1,4 @@
-use Rattle.check_table.proofs.Scan.{look-other, look-label}
+use Rattle.check_table.proofs.Scan.{look_other, look_label}
 use Rattle.names.specs.Find.{is_label}
 use Rattle.dscb.specs.Forms.{geometry_of}
 use borrow.Author.Tests.{eq-eqb, ne_eqb}
@@ -11,7 +11,7 @@ use Rattle.check_table.proofs.look.Goals as goal
 
 pub returns-then-rec : goal.returns-then-rec
 returns-then-rec c =
-    look-other (geometry_of c.args.g) c.args.table.now c.args.free_tracks.now c.args.free_slots.now c.args.k (subst (λ (x : List ℕ). is_label x ≡ false) c.record_at-rec.ensures.0 (ne_eqb _ _ c.if-rec.true))
+    look_other (geometry_of c.args.g) c.args.table.now c.args.free_tracks.now c.args.free_slots.now c.args.k (subst (λ (x : List ℕ). is_label x ≡ false) c.record_at-rec.ensures.0 (ne_eqb _ _ c.if-rec.true))
 
 pub take_label-requires : goal.take_label-requires
 take_label-requires c =
@@ -19,4 +19,4 @@ take_label-requires c =
 
 pub returns : goal.returns
 returns c =
-    look-label (geometry_of c.args.g) c.args.table.now c.args.free_tracks.now _ c.args.free_slots.now _ c.args.k c.take_label.result (subst (λ (x : List ℕ). is_label x ≡ true) c.record_at-rec.ensures.0 (eq-eqb _ _ c.if-rec.false)) c.take_label.ensures
+    look_label (geometry_of c.args.g) c.args.table.now c.args.free_tracks.now _ c.args.free_slots.now _ c.args.k c.take_label.result (subst (λ (x : List ℕ). is_label x ≡ true) c.record_at-rec.ensures.0 (eq-eqb _ _ c.if-rec.false)) c.take_label.ensures

@@ -1,5 +1,5 @@
-use Rattle.check_table.proofs.Scan.{scan-start, scan-next, scan-stop, taken-all, taken_twice, taken-wrong}
-use Rattle.names.proofs.Laws.{entering-end, entering-next, entering-start, entering-stop}
+use Rattle.check_table.proofs.Scan.{scan_start, scan_next, scan_stop, taken_all, taken_twice, taken_wrong}
+use Rattle.names.proofs.Laws.{entering_end, entering_next, entering_start, entering_stop}
 use Rattle.dscb.specs.Forms.{geometry_of}
 use Rattle.model.specs.Model.{slots}
 use native.Mathlib.Omega.{arith}
@@ -10,7 +10,7 @@ use Rattle.check_table.proofs.take_labels.Goals as goal
 
 pub loop-k-init : goal.loop-k-init
 loop-k-init c =
-    (omega arith, omega (arith, c.requires.0.least, c.slots-n.ensures.0), c.slots-n.ensures.0, refl, refl, scan-start (geometry_of c.args.g) c.args.table.now c.args.free_tracks.now c.args.free_slots.now c.requires.2, entering-start c.args.table.now _ _ (slots (geometry_of c.args.g)) c.requires.2 (omega (arith, c.requires.0.least)) refl refl)
+    (omega arith, omega (arith, c.requires.0.least, c.slots-n.ensures.0), c.slots-n.ensures.0, refl, refl, scan_start (geometry_of c.args.g) c.args.table.now c.args.free_tracks.now c.args.free_slots.now c.requires.2, entering_start c.args.table.now _ _ (slots (geometry_of c.args.g)) c.requires.2 (omega (arith, c.requires.0.least)) refl refl)
 
 pub look-requires : goal.look-requires
 look-requires c =
@@ -21,8 +21,8 @@ pub returns-else-look : goal.returns-else-look
 returns-else-look c =
     let l = c.loop-k in
     let k = c.look in
-    taken-wrong (geometry_of c.args.g) c.args.table.now c.args.free_tracks.now k.new.free_tracks c.args.free_slots.now k.new.free_slots (slots (geometry_of c.args.g))
-    (scan-stop (geometry_of c.args.g) c.args.table.now c.args.free_tracks.now l.free_tracks k.new.free_tracks c.args.free_slots.now l.free_slots k.new.free_slots l.k l.invariant.5 k.result (slots (geometry_of c.args.g)) c.if-look.false (omega arith) k.ensures)
+    taken_wrong (geometry_of c.args.g) c.args.table.now c.args.free_tracks.now k.new.free_tracks c.args.free_slots.now k.new.free_slots (slots (geometry_of c.args.g))
+    (scan_stop (geometry_of c.args.g) c.args.table.now c.args.free_tracks.now l.free_tracks k.new.free_tracks c.args.free_slots.now l.free_slots k.new.free_slots l.k l.invariant.5 k.result (slots (geometry_of c.args.g)) c.if-look.false (omega arith) k.ensures)
 
 pub enter-requires : goal.enter-requires
 enter-requires c =
@@ -40,8 +40,8 @@ loop-k-preserved c =
       l.invariant.2,
       k.ensures.long_map ∙ l.invariant.3,
       k.ensures.long_slots ∙ l.invariant.4,
-      scan-next (geometry_of c.args.g) c.args.table.now c.args.free_tracks.now l.free_tracks k.new.free_tracks c.args.free_slots.now l.free_slots k.new.free_slots l.k l.invariant.5 k.result c.if-look.true k.ensures,
-      entering-next c.args.table.now l.tags _ l.seen _ l.k (slots (geometry_of c.args.g)) l.invariant.6 (omega (arith, l.invariant.2, c.loop-k-test.true)) e.result e.ensures c.if-enter.true,
+      scan_next (geometry_of c.args.g) c.args.table.now c.args.free_tracks.now l.free_tracks k.new.free_tracks c.args.free_slots.now l.free_slots k.new.free_slots l.k l.invariant.5 k.result c.if-look.true k.ensures,
+      entering_next c.args.table.now l.tags _ l.seen _ l.k (slots (geometry_of c.args.g)) l.invariant.6 (omega (arith, l.invariant.2, c.loop-k-test.true)) e.result e.ensures c.if-enter.true,
     )
 
 pub returns-else-enter : goal.returns-else-enter
@@ -50,10 +50,10 @@ returns-else-enter c =
     let k = c.look in
     let e = c.enter in
     taken_twice (geometry_of c.args.g) c.args.table.now c.args.free_tracks.now k.new.free_tracks c.args.free_slots.now k.new.free_slots (l.k + 1) (slots (geometry_of c.args.g))
-    (scan-next (geometry_of c.args.g) c.args.table.now c.args.free_tracks.now l.free_tracks k.new.free_tracks c.args.free_slots.now l.free_slots k.new.free_slots l.k l.invariant.5 k.result c.if-look.true k.ensures)
-    (entering-stop c.args.table.now l.tags _ l.seen _ l.k (slots (geometry_of c.args.g)) l.invariant.6 (omega (arith, l.invariant.2, c.loop-k-test.true)) e.result e.ensures c.if-enter.false)
+    (scan_next (geometry_of c.args.g) c.args.table.now c.args.free_tracks.now l.free_tracks k.new.free_tracks c.args.free_slots.now l.free_slots k.new.free_slots l.k l.invariant.5 k.result c.if-look.true k.ensures)
+    (entering_stop c.args.table.now l.tags _ l.seen _ l.k (slots (geometry_of c.args.g)) l.invariant.6 (omega (arith, l.invariant.2, c.loop-k-test.true)) e.result e.ensures c.if-enter.false)
 
 pub returns : goal.returns
 returns c =
     let l = c.loop-k in
-    taken-all (geometry_of c.args.g) c.args.table.now c.args.free_tracks.now l.free_tracks c.args.free_slots.now l.free_slots l.k (slots (geometry_of c.args.g)) (omega arith) l.invariant.5 (entering-end c.args.table.now l.tags l.seen l.k (slots (geometry_of c.args.g)) l.invariant.6 (omega (arith, l.invariant.2, c.loop-k-test.false)))
+    taken_all (geometry_of c.args.g) c.args.table.now c.args.free_tracks.now l.free_tracks c.args.free_slots.now l.free_slots l.k (slots (geometry_of c.args.g)) (omega arith) l.invariant.5 (entering_end c.args.table.now l.tags l.seen l.k (slots (geometry_of c.args.g)) l.invariant.6 (omega (arith, l.invariant.2, c.loop-k-test.false)))

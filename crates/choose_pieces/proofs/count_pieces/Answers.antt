@@ -1,17 +1,17 @@
 use native.Mathlib.Omega.{arith}
 use borrow.Author.Rules.{rules}
-use Rattle.choose_pieces.proofs.Reply.{counting-none, counting-next, counted-here, counted-all}
+use Rattle.choose_pieces.proofs.Reply.{counting_none, counting_next, counted_here, counted_all}
 use Rattle.choose_pieces.proofs.count_pieces.Goals as goal
 
 pub loop-count-init : goal.loop-count-init
-loop-count-init c = (omega arith, counting-none c.args.pieces)
+loop-count-init c = (omega arith, counting_none c.args.pieces)
 
 pub returns-then-n-eq0 : goal.returns-then-n-eq0
-returns-then-n-eq0 c = counted-here c.loop-count.invariant.1 (search rules) c.loop-count-test.true _ c.wide16-n.ensures.0 c.if-n-eq0.true
+returns-then-n-eq0 c = counted_here c.loop-count.invariant.1 (search rules) c.loop-count-test.true _ c.wide16-n.ensures.0 c.if-n-eq0.true
 
 pub loop-count-preserved : goal.loop-count-preserved
 loop-count-preserved c =
-    (search rules, counting-next c.loop-count.invariant.1 (search rules) c.loop-count-test.true _ c.wide16-n.ensures.0 c.if-n-eq0.false)
+    (search rules, counting_next c.loop-count.invariant.1 (search rules) c.loop-count-test.true _ c.wide16-n.ensures.0 c.if-n-eq0.false)
 
 pub returns : goal.returns
-returns c = counted-all c.loop-count.invariant.1 (search rules) (omega arith)
+returns c = counted_all c.loop-count.invariant.1 (search rules) (omega arith)

@@ -2,12 +2,12 @@ use mathlib.Core.Path.{refl, ◌∙◌}
 use mathlib.Core.List.{[], ◌∷◌}
 use native.Mathlib.Omega.{arith}
 use lib.ListN.{length-set}
-use Rattle.choose_pieces.proofs.Entering.{goes_in, goes_by, enter-done, enter-not, enter-is}
+use Rattle.choose_pieces.proofs.Entering.{goes_in, goes_by, enter_done, enter_not, enter_is}
 use Rattle.choose_pieces.proofs.enter.Goals as goal
 use Rattle.choose_pieces.proofs.enter.Goals.{then-d-size, else-d-size}
 
 pub returns-then-size-five : goal.returns-then-size-five
-returns-then-size-five c = (c.requires, enter-not (c.args.c.start ∷ c.args.c.count ∷ []) c.args.five.now c.if-size-five.true)
+returns-then-size-five c = (c.requires, enter_not (c.args.c.start ∷ c.args.c.count ∷ []) c.args.five.now c.if-size-five.true)
 
 pub loop-k-init : goal.loop-k-init
 loop-k-init c = (omega arith, c.requires, refl)
@@ -28,6 +28,6 @@ loop-k-preserved c =
 pub returns : goal.returns
 returns c = (
   c.loop-k.invariant.1,
-  enter-is (c.args.c.start ∷ c.args.c.count ∷ []) c.args.five.now c.loop-k.five c.if-size-five.false
-      (enter-done c.args.c.count (c.args.c.start ∷ c.args.c.count ∷ []) c.args.five.now c.loop-k.held c.loop-k.five c.loop-k.k (omega arith) c.loop-k.invariant.2),
+  enter_is (c.args.c.start ∷ c.args.c.count ∷ []) c.args.five.now c.loop-k.five c.if-size-five.false
+      (enter_done c.args.c.count (c.args.c.start ∷ c.args.c.count ∷ []) c.args.five.now c.loop-k.held c.loop-k.five c.loop-k.k (omega arith) c.loop-k.invariant.2),
 )

@@ -3,9 +3,9 @@ use Prim.Native.Nat.{ℕ}
 use native.Mathlib.Omega.{arith}
 use lib.ListN.{drop}
 use Rattle.model.specs.Model.{run}
-use Rattle.free_extents.proofs.Chain.{entry-end, entry_next, entry-none}
+use Rattle.free_extents.proofs.Chain.{entry_end, entry_next, entry_none}
 use Rattle.choose_pieces.specs.Pass.{to_runs}
-use Rattle.choose_pieces.proofs.Passing.{looked-empty, looked-exact, looked-next, no-better, not-among-rows}
+use Rattle.choose_pieces.proofs.Passing.{looked_empty, looked_exact, looked_next, no_better, not_among_rows}
 use Rattle.choose_pieces.proofs.look_member.Goals as goal
 
 pub loop-j-init : goal.loop-j-init
@@ -18,7 +18,7 @@ returns-then-hole-eq0 c =
     let n = c.loop-j.now in (
       i.1,
       λ f x. i.2 f (run n.start n.count) (to_runs c.loop-j.five) x
-          (looked-empty a.u a.amount _ _ _ (entry-none x c.loop-j.j c.entry-hole.result.start c.entry-hole.result.count (omega arith) c.entry-hole.ensures.0 c.if-hole-eq0.true)),
+          (looked_empty a.u a.amount _ _ _ (entry_none x c.loop-j.j c.entry-hole.result.start c.entry-hole.result.count (omega arith) c.entry-hole.ensures.0 c.if-hole-eq0.true)),
     )
 
 pub loop-j-preserved-then-hole-least : goal.loop-j-preserved-then-hole-least
@@ -31,10 +31,10 @@ loop-j-preserved-then-hole-least c =
       omega arith,
       i.1,
       λ f best ds x y. i.2 f best ds x
-          (looked-next a.u a.amount (run e.start e.count) _ _ (run n.start n.count) best (run n.start n.count) (to_runs c.loop-j.five) ds (to_runs c.loop-j.five)
+          (looked_next a.u a.amount (run e.start e.count) _ _ (run n.start n.count) best (run n.start n.count) (to_runs c.loop-j.five) ds (to_runs c.loop-j.five)
           (entry_next x c.loop-j.j e.start e.count (omega arith) c.entry-hole.ensures.0 c.if-hole-eq0.false)
-          (no-better a.u a.amount e.start e.count p.3 p.5 (run n.start n.count) (omega (arith, i.3)))
-          (not-among-rows a.u e.start e.count p.3 c.loop-j.five (omega (arith, i.4))) y),
+          (no_better a.u a.amount e.start e.count p.3 p.5 (run n.start n.count) (omega (arith, i.3)))
+          (not_among_rows a.u e.start e.count p.3 c.loop-j.five (omega (arith, i.4))) y),
       i.3,
       i.4,
     )
@@ -48,9 +48,9 @@ returns-then-now-amount c =
     let done = c.look-now in (
       done.ensures.0,
       λ f x. i.2 f (run done.result.start done.result.count) _ x
-          (looked-next a.u a.amount (run c.entry-hole.result.start c.entry-hole.result.count) _ _ (run n.start n.count) _ _ (to_runs c.loop-j.five) _ _
+          (looked_next a.u a.amount (run c.entry-hole.result.start c.entry-hole.result.count) _ _ (run n.start n.count) _ _ (to_runs c.loop-j.five) _ _
           (entry_next x c.loop-j.j c.entry-hole.result.start c.entry-hole.result.count (omega arith) c.entry-hole.ensures.0 c.if-hole-eq0.false)
-          done.ensures.1 done.ensures.2 (looked-exact a.u a.amount _ _ _ p.5 c.if-now-amount.true)),
+          done.ensures.1 done.ensures.2 (looked_exact a.u a.amount _ _ _ p.5 c.if-now-amount.true)),
     )
 
 pub loop-j-preserved : goal.loop-j-preserved
@@ -62,7 +62,7 @@ loop-j-preserved c =
       omega arith,
       done.ensures.0,
       λ f best ds x y. i.2 f best ds x
-          (looked-next a.u a.amount (run c.entry-hole.result.start c.entry-hole.result.count) _ _ (run n.start n.count) best _ (to_runs c.loop-j.five) ds _
+          (looked_next a.u a.amount (run c.entry-hole.result.start c.entry-hole.result.count) _ _ (run n.start n.count) best _ (to_runs c.loop-j.five) ds _
           (entry_next x c.loop-j.j c.entry-hole.result.start c.entry-hole.result.count (omega arith) c.entry-hole.ensures.0 c.if-hole-eq0.false)
           done.ensures.1 done.ensures.2 y),
       c.least_of_use-least-in-loop-j.ensures.0,
@@ -75,4 +75,4 @@ returns c =
     let i = c.loop-j.invariant in
     let n = c.loop-j.now in
     let e : c.loop-j.j ≡ 26 = omega arith in
-    (i.1, λ f x. i.2 f (run n.start n.count) (to_runs c.loop-j.five) x (looked-empty a.u a.amount _ _ _ (ap (λ (j : ℕ). drop j f) e ∙ entry-end x)))
+    (i.1, λ f x. i.2 f (run n.start n.count) (to_runs c.loop-j.five) x (looked_empty a.u a.amount _ _ _ (ap (λ (j : ℕ). drop j f) e ∙ entry_end x)))

@@ -1,6 +1,6 @@
 use lib.ListN.{length}
 use mathlib.Core.Path.{◌≡◌, ◌∙◌}
-use Rattle.data_set.proofs.Stored.{no_third, some-third}
+use Rattle.data_set.proofs.Stored.{no_third, some_third}
 use borrow.Author.Rules.{rules}
 use Rattle.data_set.proofs.third_record.Goals as goal
 
@@ -12,4 +12,4 @@ returns-then-q-eq0 c =
 pub returns : goal.returns
 returns c =
     let n : length c.record_of.result ≡ 140 = search rules in
-    some-third c.args.table.now c.args.q c.record_of.result n c.if-q-eq0.false (c.record_of.ensures ∙ c.record_at.ensures.0)
+    some_third c.args.table.now c.args.q c.record_of.result n c.if-q-eq0.false (c.record_of.ensures ∙ c.record_at.ensures.0)

@@ -1,20 +1,20 @@
-use Rattle.dates.proofs.Laws.{by_sign, first-bad, fourth-bad, second-bad, third-bad}
+use Rattle.dates.proofs.Laws.{by_sign, first_bad, fourth_bad, second_bad, third_bad}
 use Rattle.dates.proofs.are_digits.Goals as goal
 
 pub returns-then-packed-gt1 : goal.returns-then-packed-gt1
-returns-then-packed-gt1 c = first-bad c.args.packed.now c.if-packed-gt1.true
+returns-then-packed-gt1 c = first_bad c.args.packed.now c.if-packed-gt1.true
 
 pub returns-else-is_two_digits : goal.returns-else-is_two_digits
 returns-else-is_two_digits c =
-    second-bad c.args.packed.now c.if-packed-gt1.false c.is_two_digits.result c.is_two_digits.ensures c.if-is_two_digits.false
+    second_bad c.args.packed.now c.if-packed-gt1.false c.is_two_digits.result c.is_two_digits.ensures c.if-is_two_digits.false
 
 pub returns-else-is_two_digits-2 : goal.returns-else-is_two_digits-2
 returns-else-is_two_digits-2 c =
-    third-bad c.args.packed.now c.if-packed-gt1.false c.is_two_digits.result c.is_two_digits.ensures c.if-is_two_digits.true c.is_two_digits-2.result c.is_two_digits-2.ensures c.if-is_two_digits-2.false
+    third_bad c.args.packed.now c.if-packed-gt1.false c.is_two_digits.result c.is_two_digits.ensures c.if-is_two_digits.true c.is_two_digits-2.result c.is_two_digits-2.ensures c.if-is_two_digits-2.false
 
 pub returns-then-packed-gt159 : goal.returns-then-packed-gt159
 returns-then-packed-gt159 c =
-    fourth-bad c.args.packed.now c.if-packed-gt1.false c.is_two_digits.result c.is_two_digits.ensures c.if-is_two_digits.true c.is_two_digits-2.result c.is_two_digits-2.ensures c.if-is_two_digits-2.true c.if-packed-gt159.true
+    fourth_bad c.args.packed.now c.if-packed-gt1.false c.is_two_digits.result c.is_two_digits.ensures c.if-is_two_digits.true c.is_two_digits-2.result c.is_two_digits-2.ensures c.if-is_two_digits-2.true c.if-packed-gt159.true
 
 pub returns : goal.returns
 returns c =

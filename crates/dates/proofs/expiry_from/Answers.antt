@@ -1,9 +1,9 @@
 use mathlib.Core.Path.{◌∙◌}
-use Rattle.dates.proofs.Laws.{expiry-none, expiry-some}
+use Rattle.dates.proofs.Laws.{expiry_none, expiry_some}
 use Rattle.dates.proofs.expiry_from.Goals as goal
 
 pub returns-then-same : goal.returns-then-same
-returns-then-same c = expiry-none c.args.packed.now c.same.result c.same.ensures c.if-same.true
+returns-then-same c = expiry_none c.args.packed.now c.same.result c.same.ensures c.if-same.true
 
 pub returns : goal.returns
-returns c = expiry-some c.args.packed.now c.same.result c.same.ensures c.if-same.false ∙ c.to_stored.ensures
+returns c = expiry_some c.args.packed.now c.same.result c.same.ensures c.if-same.false ∙ c.to_stored.ensures

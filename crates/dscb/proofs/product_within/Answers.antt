@@ -1,4 +1,4 @@
-use Rattle.dscb.proofs.Stops.{high_fits, high-past, low_fits, low-tells}
+use Rattle.dscb.proofs.Stops.{high_fits, high_past, low_fits, low_tells}
 use borrow.Author.Tests.{lt-leb}
 use native.Mathlib.Omega.{arith}
 use Rattle.dscb.proofs.product_within.Goals as goal
@@ -10,10 +10,10 @@ pub overflow_mul-high : goal.overflow_mul-high
 overflow_mul-high c = omega (arith, high_fits c.args.a c.args.b (omega arith) c.if-b-gt255.false)
 
 pub returns-then-high-most : goal.returns-then-high-most
-returns-then-high-most c = high-past c.args.a c.args.b c.args.most c.if-b-gt255.false c.if-high-most.true
+returns-then-high-most c = high_past c.args.a c.args.b c.args.most c.if-b-gt255.false c.if-high-most.true
 
 pub overflow_mul-result : goal.overflow_mul-result
 overflow_mul-result c = omega (arith, low_fits c.args.a c.args.b c.if-b-gt255.false)
 
 pub returns : goal.returns
-returns c = low-tells c.args.a c.args.b c.args.most c.if-b-gt255.false c.if-high-most.false
+returns c = low_tells c.args.a c.args.b c.args.most c.if-b-gt255.false c.if-high-most.false

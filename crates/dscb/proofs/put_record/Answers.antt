@@ -1,4 +1,4 @@
-use Rattle.dscb.proofs.Records.{copied-in}
+use Rattle.dscb.proofs.Records.{copied_in}
 use Rattle.dscb.specs.Records.{put_record}
 use lib.ListN.{length}
 use native.Mathlib.Omega.{arith}
@@ -11,4 +11,4 @@ pub returns : goal.returns
 unfolding put_record
 returns c =
     let n : length c.args.rec.now ≡ 140 = search rules in
-    rw n at (copied-in c.args.table.now c.args.rec.now c.copy.new.to (140 * c.args.k) (omega arith) c.copy.ensures.1)
+    rw n at (copied_in c.args.table.now c.args.rec.now c.copy.new.to (140 * c.args.k) (omega arith) c.copy.ensures.1)

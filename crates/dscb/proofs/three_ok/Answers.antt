@@ -1,4 +1,4 @@
-use Rattle.dscb.proofs.Sound.{refuted, three→, three-last}
+use Rattle.dscb.proofs.Sound.{refuted, three→, three_last}
 use Rattle.dscb.specs.Forms.{three_ok}
 use lib.Dec.{T}
 use mathlib.Core.Path.{sym, subst, ◌∙◌}
@@ -12,4 +12,4 @@ returns-else-part_is c =
     refuted (three_ok c.args.rec.now) (three→ c.args.rec.now) (λ x. subst T (sym c.part_is.ensures ∙ c.if-part_is.false) x.key)
 
 pub returns : goal.returns
-returns c = c.part_is-2.ensures ∙ three-last c.args.rec.now c.if-rec.false (sym c.part_is.ensures ∙ c.if-part_is.true)
+returns c = c.part_is-2.ensures ∙ three_last c.args.rec.now c.if-rec.false (sym c.part_is.ensures ∙ c.if-part_is.true)

@@ -3,7 +3,7 @@ use native.Mathlib.Nat.{div-le_self}
 use native.Mathlib.Omega.{arith}
 use Rattle.dscb.specs.Forms.{geometry_of}
 use Rattle.dscb_write.proofs.Numbers.{head_small}
-use Rattle.dscb_write.proofs.Format5.{put-made}
+use Rattle.dscb_write.proofs.Format5.{put_made}
 use Rattle.dscb_write.proofs.put_entry.Goals as goal
 
 pub bounds-rec-at-2 : goal.bounds-rec-at-2
@@ -26,4 +26,4 @@ bounds-rec-at-5 c = simp length-set (omega (arith, c.requires.0, c.requires.1))
 
 pub returns : goal.returns
 returns c =
-    put-made c.args.rec.now c.args.at (geometry_of c.args.g) c.args.start c.args.count c.split-c.result.whole c.split-c.result.odd c.split-c.ensures
+    put_made c.args.rec.now c.args.at (geometry_of c.args.g) c.args.start c.args.count c.split-c.result.whole c.split-c.result.odd c.split-c.ensures

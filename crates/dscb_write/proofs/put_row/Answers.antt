@@ -4,11 +4,11 @@ use Prim.Native.Nat.{ℕ, ◌+◌}
 use native.Mathlib.Omega.{arith}
 use lib.ListN.{get_or, length-set, set}
 use lib.Seq.{take_all}
-use Rattle.dscb_write.proofs.Putting.{row_more, row-none}
+use Rattle.dscb_write.proofs.Putting.{row_more, row_none}
 use Rattle.dscb_write.proofs.put_row.Goals as goal
 
 pub loop-i-init : goal.loop-i-init
-loop-i-init c = (c.requires.0, omega arith, row-none c.args.rec.now c.args.at c.args.s.now)
+loop-i-init c = (c.requires.0, omega arith, row_none c.args.rec.now c.args.at c.args.s.now)
 
 pub loop-i-preserved : goal.loop-i-preserved
 loop-i-preserved c =

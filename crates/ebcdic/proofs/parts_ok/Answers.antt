@@ -2,7 +2,7 @@ use mathlib.Core.Path.{sym, ◌∙◌}
 use native.Mathlib.Omega.{arith}
 use Rattle.rules.specs.Table.{good_name}
 use Rattle.rows.proofs.Rows.{from_place}
-use Rattle.ebcdic.proofs.Names.{at-end, at_other, at-period, no_more, no_start, too_long}
+use Rattle.ebcdic.proofs.Names.{at_end, at_other, at_period, no_more, no_start, too_long}
 use Rattle.ebcdic.proofs.parts_ok.Goals as goal
 
 pub returns-else-starts_part : goal.returns-else-starts_part
@@ -21,7 +21,7 @@ returns-then-e-i-gt8 c =
 pub returns-then-e-name : goal.returns-then-e-name
 unfolding good_name
 returns-then-e-name c =
-    sym (c.loop-i.invariant.1 ∙ at-end c.args.name.now c.loop-i.i c.part_end-e.result c.loop-i-test.true (sym c.starts_part.ensures ∙ c.if-starts_part.true) c.part_end-e.ensures c.if-e-i-gt8.false c.if-e-name.true)
+    sym (c.loop-i.invariant.1 ∙ at_end c.args.name.now c.loop-i.i c.part_end-e.result c.loop-i-test.true (sym c.starts_part.ensures ∙ c.if-starts_part.true) c.part_end-e.ensures c.if-e-i-gt8.false c.if-e-name.true)
 
 pub bounds-name-e : goal.bounds-name-e
 bounds-name-e c = omega (arith, c.part_end-e.ensures.high)
@@ -43,7 +43,7 @@ loop-i-smaller c = omega (arith, c.part_end-e.ensures.low, c.part_end-e.ensures.
 pub loop-i-preserved : goal.loop-i-preserved
 loop-i-preserved c = (
   omega (arith, c.part_end-e.ensures.high),
-  c.loop-i.invariant.1 ∙ at-period c.args.name.now c.loop-i.i c.part_end-e.result c.loop-i-test.true (sym c.starts_part.ensures ∙ c.if-starts_part.true) c.part_end-e.ensures c.if-e-i-gt8.false (omega (arith, c.part_end-e.ensures.high)) c.if-name-e-ne75.false,
+  c.loop-i.invariant.1 ∙ at_period c.args.name.now c.loop-i.i c.part_end-e.result c.loop-i-test.true (sym c.starts_part.ensures ∙ c.if-starts_part.true) c.part_end-e.ensures c.if-e-i-gt8.false (omega (arith, c.part_end-e.ensures.high)) c.if-name-e-ne75.false,
 )
 
 pub returns : goal.returns

@@ -1,10 +1,10 @@
 use mathlib.Core.Path.{◌∙◌}
 use native.Mathlib.Omega.{arith}
-use Rattle.ebcdic.proofs.Names.{starts-high, starts-low}
+use Rattle.ebcdic.proofs.Names.{starts_high, starts_low}
 use Rattle.ebcdic.proofs.starts_part.Goals as goal
 
 pub returns-then-c-ge192 : goal.returns-then-c-ge192
-returns-then-c-ge192 c = c.has.ensures ∙ starts-high c.args.c c.if-c-ge192.true (omega arith)
+returns-then-c-ge192 c = c.has.ensures ∙ starts_high c.args.c c.if-c-ge192.true (omega arith)
 
 pub returns : goal.returns
-returns c = c.has_low.ensures ∙ starts-low c.args.c (omega (arith, c.if-c-ge192.false))
+returns c = c.has_low.ensures ∙ starts_low c.args.c (omega (arith, c.if-c-ge192.false))

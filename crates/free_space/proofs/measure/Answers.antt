@@ -1,5 +1,5 @@
 use Rattle.dscb.specs.Forms.{geometry_of}
-use Rattle.free_space.proofs.Laws.{measured, set-of}
+use Rattle.free_space.proofs.Laws.{measured, set_of}
 use Rattle.free_space.proofs.measure.Goals as goal
 
 pub spread_of-x-requires : goal.spread_of-x-requires
@@ -9,7 +9,7 @@ spread_of-x-requires c =
     let three = c.record_at-f3 in
     let link = c.link-slot3 in
     let x = c.requires.by_index in
-    set-of (geometry_of a.g) a.table.now x.0 x.1 a.k x.2 one.result.now three.result.now _ link.result one.ensures.0 three.ensures.0 three.ensures.1 c.wide-count.ensures.0 link.ensures.0
+    set_of (geometry_of a.g) a.table.now x.0 x.1 a.k x.2 one.result.now three.result.now _ link.result one.ensures.0 three.ensures.0 three.ensures.1 c.wide-count.ensures.0 link.ensures.0
 
 pub returns : goal.returns
 returns c =

@@ -1,4 +1,4 @@
-use Rattle.free_space.proofs.Laws.{slot-inside, slot3-inside}
+use Rattle.free_space.proofs.Laws.{slot_inside, slot3_inside}
 use native.Mathlib.Omega.{arith}
 use mathlib.Core.Path.{◌∙◌}
 use Rattle.free_space.proofs.plan_scratch.Goals as goal
@@ -7,11 +7,11 @@ pub give_back-requires : goal.give_back-requires
 give_back-requires c =
     let p = c.requires.limits in
     let y = c.measure-set.ensures _ _ c.requires.at in
-    record { table_len = (p.1, slot-inside y p.5, slot3-inside _ _ _ _ _ c.requires.at _ y, p.2); set_in = y.stored.set }
+    record { table_len = (p.1, slot_inside y p.5, slot3_inside _ _ _ _ _ c.requires.at _ y, p.2); set_in = y.stored.set }
 
 pub free_slot-requires-2 : goal.free_slot-requires-2
 free_slot-requires-2 c =
-    let a = slot3-inside _ _ _ _ _ c.requires.at _ (c.measure-set.ensures _ _ c.requires.at) in
+    let a = slot3_inside _ _ _ _ _ c.requires.at _ (c.measure-set.ensures _ _ c.requires.at) in
     let e = c.requires.limits.0.most in
     (c.free_slot.ensures.long ∙ c.requires.limits.3, omega arith)
 

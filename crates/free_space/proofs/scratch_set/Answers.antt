@@ -1,5 +1,5 @@
 use Rattle.free_space.proofs.Scratch.{drops, full, gone}
-use Rattle.free_space.proofs.Laws.{set-small, slot-inside, slot3-inside}
+use Rattle.free_space.proofs.Laws.{set_small, slot_inside, slot3_inside}
 use native.Mathlib.Omega.{arith}
 use Rattle.free_space.proofs.scratch_set.Goals as goal
 
@@ -9,11 +9,11 @@ returns-else-plan c = λ d. full d (c.plan_scratch-going.ensures d) _ c.if-plan.
 pub write_drop-requires : goal.write_drop-requires
 write_drop-requires c =
     let p = c.requires.limits in
-    let x = c.plan_scratch-going.ensures c.requires.at in record { limits = (p.0, p.1, omega (arith, p.2, x.tail.long), slot-inside x.measured p.4, slot3-inside _ _ _ _ _ c.requires.at _ x.measured); drops = drops c.requires.at x c.if-plan.true }
+    let x = c.plan_scratch-going.ensures c.requires.at in record { limits = (p.0, p.1, omega (arith, p.2, x.tail.long), slot_inside x.measured p.4, slot3_inside _ _ _ _ _ c.requires.at _ x.measured); drops = drops c.requires.at x c.if-plan.true }
 
 pub put_back-requires : goal.put_back-requires
 put_back-requires c =
-    let a = set-small _ _ _ _ _ c.requires.at in
+    let a = set_small _ _ _ _ _ c.requires.at in
     let b = (c.plan_scratch-going.ensures c.requires.at).measured.spread.sum in
     (c.requires.limits.5, omega arith)
 

@@ -1,4 +1,4 @@
-use Rattle.grant_space.proofs.NewSet.{asks, declines, grant-writes, limits, lists, long, map-fits, placed, planned, secondary-fits, seeks}
+use Rattle.grant_space.proofs.NewSet.{asks, declines, grant_writes_lem, limits, lists, long, map_fits_lem, placed, planned, secondary_fits, seeks}
 use lib.ListN.{length}
 use mathlib.Core.Path.{◌≡◌, refl}
 use native.Mathlib.Omega.{arith}
@@ -17,7 +17,7 @@ returns-then-decision-ne0 c =
     declines c.requires c.fulfil-pieces.ensures _ c.seeker_of-seeker.ensures c.decide-decision.ensures c.if-decision-ne0.true
 
 pub new_label-requires : goal.new_label-requires
-new_label-requires c = (c.requires.long_name, c.requires.long_attributes, secondary-fits c.requires)
+new_label-requires c = (c.requires.long_name, c.requires.long_attributes, secondary_fits c.requires)
 
 pub write_grant-requires : goal.write_grant-requires
 write_grant-requires c =
@@ -27,7 +27,7 @@ write_grant-requires c =
     let none = c.seeker_of-seeker.ensures in
     let x = planned c.requires c.fulfil-pieces.ensures _ c.seeker_of-seeker.ensures c.decide-decision.ensures c.if-decision-ne0.false in
     let same = x.slot_same in
-    let same3 = x.slot3_same in record { limits = (limits c.requires, long c.requires, map-fits c.requires _ x.plans.took.long, omega (arith, none.0), omega (arith, none.1), omega (arith, none.2, x.extents_same), x.least, x.few, x.most, long1, long3); grant_writes = grant-writes c.requires c.fulfil-pieces.ensures _ c.seeker_of-seeker.ensures c.decide-decision.ensures c.if-decision-ne0.false _ c.unit_byte-unit.ensures _ _ c.new_label.ensures c.empty_three.ensures long1 long3 }
+    let same3 = x.slot3_same in record { limits = (limits c.requires, long c.requires, map_fits_lem c.requires _ x.plans.took.long, omega (arith, none.0), omega (arith, none.1), omega (arith, none.2, x.extents_same), x.least, x.few, x.most, long1, long3); grant_writes = grant_writes_lem c.requires c.fulfil-pieces.ensures _ c.seeker_of-seeker.ensures c.decide-decision.ensures c.if-decision-ne0.false _ c.unit_byte-unit.ensures _ _ c.new_label.ensures c.empty_three.ensures long1 long3 }
 
 pub returns : goal.returns
 returns c =

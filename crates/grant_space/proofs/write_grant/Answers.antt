@@ -1,13 +1,13 @@
 use mathlib.Core.Path.{refl}
 use native.Mathlib.Omega.{arith}
-use Rattle.grant_space.proofs.Laws.{grant-done, joins-first, pieces-in, puts}
+use Rattle.grant_space.proofs.Laws.{grant_done, joins_first, pieces_in_lem, puts}
 use Rattle.grant_space.proofs.write_grant.Goals as goal
 
 pub put_pieces-requires : goal.put_pieces-requires
 put_pieces-requires c =
     let p = c.requires.limits in
     let d = c.requires.grant_writes in
-    (d.set, joins-first d c.args.pieces _ refl p.6, p.6, p.7, omega (arith, p.8), pieces-in d.grants 65535 p.0.tracks_most)
+    (d.set, joins_first d c.args.pieces _ refl p.6, p.6, p.7, omega (arith, p.8), pieces_in_lem d.grants 65535 p.0.tracks_most)
 
 pub write_set-requires : goal.write_set-requires
 write_set-requires c =
@@ -19,4 +19,4 @@ pub returns : goal.returns
 returns c =
     λ d.
     let y = c.put_pieces.ensures.0 d.grants.label d.grants.pieces d.extents d.grants.rows_are d.records in
-    grant-done d _ c.few.ensures _ _ y _ c.write_set.ensures
+    grant_done d _ c.few.ensures _ _ y _ c.write_set.ensures

@@ -2,7 +2,7 @@ use lib.Seq.{length-take-le}
 use lib.ListN.{take, length-take}
 use native.Mathlib.Omega.{arith}
 use Rattle.listing.specs.Text.{data_text}
-use Rattle.listing.proofs.Passes.{placed-64}
+use Rattle.listing.proofs.Passes.{placed_64}
 use borrow.Author.Rules.{rules}
 use Rattle.listing.proofs.put_data.Goals as goal
 
@@ -14,4 +14,4 @@ data_line-r-requires c = (search rules, length-take-le 44 c.args.f1.now (omega (
 
 pub returns : goal.returns
 returns c =
-    placed-64 (data_text (take 44 c.args.f1.now) c.args.many c.args.n) c.args.out.now c.data_line-r.new.out c.args.at c.data_line-r.result c.requires.3 c.data_line-r.ensures
+    placed_64 (data_text (take 44 c.args.f1.now) c.args.many c.args.n) c.args.out.now c.data_line-r.new.out c.args.at c.data_line-r.result c.requires.3 c.data_line-r.ensures

@@ -1,4 +1,4 @@
-use Rattle.listing.proofs.Fields.{name-none, name-next, name_done}
+use Rattle.listing.proofs.Fields.{name_none, name_next, name_done}
 use Prim.Native.Nat.{ℕ}
 use mathlib.Core.Path.{◌≡◌, subst}
 use lib.ListN.{take}
@@ -8,10 +8,10 @@ use Rattle.listing.specs.Text.{name_text}
 use Rattle.listing.proofs.put_name.Goals as goal
 
 pub loop-i-init : goal.loop-i-init
-loop-i-init c = (omega arith, name-none c.args.out.now c.args.at)
+loop-i-init c = (omega arith, name_none c.args.out.now c.args.at)
 
 pub loop-i-preserved : goal.loop-i-preserved
-loop-i-preserved c = (omega arith, name-next c.args.name.now c.loop-i.i (omega arith) c.loop-i.invariant.1 c.put_printed-p.ensures)
+loop-i-preserved c = (omega arith, name_next c.args.name.now c.loop-i.i (omega arith) c.loop-i.invariant.1 c.put_printed-p.ensures)
 
 pub returns : goal.returns
 returns c =

@@ -1,5 +1,5 @@
 use Rattle.listing.specs.Text.{volume_text}
-use Rattle.listing.proofs.Fields.{ends, line-text}
+use Rattle.listing.proofs.Fields.{ends, line_text}
 use Rattle.rows.proofs.Text.{then}
 use Rattle.rules.specs.Listing.{decimal, line}
 use lib.Dec.{lit≤}
@@ -11,4 +11,4 @@ pub returns : goal.returns
 unfolding volume_text
 returns c =
     let fs = decimal c.args.cylinders ∷ decimal c.args.heads ∷ decimal (c.args.cylinders * c.args.heads) ∷ [] in
-    ends (line 0x56 fs) (line-text 0x56 fs) (lit≤ tt) (then c.put_byte-a.ensures (then c.put_field-b.ensures (then c.put_field-c.ensures (then c.put_field-d.ensures c.put_byte.ensures))))
+    ends (line 0x56 fs) (line_text 0x56 fs) (lit≤ tt) (then c.put_byte-a.ensures (then c.put_field-b.ensures (then c.put_field-c.ensures (then c.put_field-d.ensures c.put_byte.ensures))))

@@ -1,4 +1,4 @@
-use Rattle.names.proofs.Laws.{hit, miss, entered-done}
+use Rattle.names.proofs.Laws.{hit, miss, entered_done}
 use Rattle.names.specs.Find.{find_slot}
 use native.Mathlib.Omega.{arith}
 use native.Mathlib.Nat.{sub-zero}
@@ -16,4 +16,4 @@ pub loop-k-preserved : goal.loop-k-preserved
 loop-k-preserved c = (c.loop-k.invariant.0 ∙ miss _ _ _ _ c.loop-k-test.true cc, omega arith)
 
 pub returns : goal.returns
-returns c = sym (c.loop-k.invariant.0 ∙ entered-done _ _ _ _ c.loop-k-test.false)
+returns c = sym (c.loop-k.invariant.0 ∙ entered_done _ _ _ _ c.loop-k-test.false)

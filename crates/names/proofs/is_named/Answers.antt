@@ -1,4 +1,4 @@
-use Rattle.names.proofs.Laws.{its-name, other_name}
+use Rattle.names.proofs.Laws.{its_name, other_name}
 use lib.ListN.{length-take}
 use native.Mathlib.Omega.{arith}
 use mathlib.Core.Path.{sym, ◌∙◌}
@@ -11,4 +11,4 @@ pub returns-else-same : goal.returns-else-same
 returns-else-same c = sym (other_name c.args.rec.now c.args.name.now (sym c.same.ensures ∙ c.if-same.false))
 
 pub returns : goal.returns
-returns c = sym (its-name c.args.rec.now c.args.name.now (sym c.same.ensures ∙ c.if-same.true))
+returns c = sym (its_name c.args.rec.now c.args.name.now (sym c.same.ensures ∙ c.if-same.true))

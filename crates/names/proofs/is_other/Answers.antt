@@ -8,7 +8,7 @@ use native.Mathlib.Nat.{sub-zero}
 use mathlib.Core.List.{List}
 use borrow.Author.Rules.{rules}
 use Rattle.names.specs.Find.{find_slot, is_named, is_nothing}
-use Rattle.names.proofs.Laws.{entered-done, hit, miss, other_tag}
+use Rattle.names.proofs.Laws.{entered_done, hit, miss, other_tag}
 use Rattle.names.proofs.is_other.Goals as goal
 use Rattle.names.proofs.is_other.Goals.{then-tags-j+else-is_named, else-tags-j}
 
@@ -31,4 +31,4 @@ loop-j-preserved c =
     (l.invariant.0 ∙ miss _ _ _ _ h other, omega arith, l.invariant.2)
 
 pub returns : goal.returns
-returns c = sym (ap is_nothing (c.loop-j.invariant.0 ∙ entered-done _ _ _ _ c.loop-j-test.false))
+returns c = sym (ap is_nothing (c.loop-j.invariant.0 ∙ entered_done _ _ _ _ c.loop-j-test.false))

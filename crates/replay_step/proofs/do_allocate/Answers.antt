@@ -1,15 +1,15 @@
-use Rattle.replay_step.proofs.Laws.{does_call, lent-long, same-request}
+use Rattle.replay_step.proofs.Laws.{does_call, lent_long, same_request}
 use native.Mathlib.Omega.{arith}
 use Rattle.rules.specs.Calls.{allocate}
 use Rattle.replay_step.specs.Play.{request_of}
 use Rattle.replay_step.proofs.do_allocate.Goals as goal
 
 pub slice_bounds-vtoc_allocate-end-2 : goal.slice_bounds-vtoc_allocate-end-2
-slice_bounds-vtoc_allocate-end-2 c = lent-long _ 65536 c.args.table.now c.requires.1 (let h = c.table_lent-n.ensures.1 in omega arith)
+slice_bounds-vtoc_allocate-end-2 c = lent_long _ 65536 c.args.table.now c.requires.1 (let h = c.table_lent-n.ensures.1 in omega arith)
 
 pub slice_bounds-vtoc_allocate-end-4 : goal.slice_bounds-vtoc_allocate-end-4
-slice_bounds-vtoc_allocate-end-4 c = lent-long _ 32 c.args.answer.now c.requires.2 c.answer_lent-k.ensures.1
+slice_bounds-vtoc_allocate-end-4 c = lent_long _ 32 c.args.answer.now c.requires.2 c.answer_lent-k.ensures.1
 
 pub returns : goal.returns
 returns c =
-    does_call (allocate (request_of c.args.asked.now)) c.args.asked.now c.args.table.now c.args.answer.now _ _ (same-request c.name_of-name.ensures c.other_of-attributes.ensures c.four-kind.ensures c.four-start.ensures c.four-amount.ensures c.four-secondary.ensures c.four-option.ensures c.date_of-expiry.ensures) c.table_lent-n.ensures.0 c.answer_lent-k.ensures.0 c.vtoc_allocate.ensures
+    does_call (allocate (request_of c.args.asked.now)) c.args.asked.now c.args.table.now c.args.answer.now _ _ (same_request c.name_of-name.ensures c.other_of-attributes.ensures c.four-kind.ensures c.four-start.ensures c.four-amount.ensures c.four-secondary.ensures c.four-option.ensures c.date_of-expiry.ensures) c.table_lent-n.ensures.0 c.answer_lent-k.ensures.0 c.vtoc_allocate.ensures

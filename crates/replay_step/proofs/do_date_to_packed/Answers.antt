@@ -1,12 +1,12 @@
 use mathlib.Core.Path.{ap}
 use Rattle.rules.specs.Calls.{date_to_packed}
 use Rattle.replay_record.specs.Asked.{date_asked}
-use Rattle.replay_step.proofs.Laws.{lent-long, tells-date}
+use Rattle.replay_step.proofs.Laws.{lent_long, tells_date}
 use Rattle.replay_step.proofs.do_date_to_packed.Goals as goal
 
 pub slice_bounds-vtoc_date_to_packed-end-2 : goal.slice_bounds-vtoc_date_to_packed-end-2
-slice_bounds-vtoc_date_to_packed-end-2 c = lent-long _ 32 c.args.answer.now c.requires.1 c.answer_lent-k.ensures.1
+slice_bounds-vtoc_date_to_packed-end-2 c = lent_long _ 32 c.args.answer.now c.requires.1 c.answer_lent-k.ensures.1
 
 pub returns : goal.returns
 returns c =
-    tells-date (date_to_packed (date_asked c.args.asked.now)) c.args.asked.now c.args.answer.now _ (ap date_to_packed c.date_of.ensures) c.answer_lent-k.ensures.0 c.vtoc_date_to_packed.ensures
+    tells_date (date_to_packed (date_asked c.args.asked.now)) c.args.asked.now c.args.answer.now _ (ap date_to_packed c.date_of.ensures) c.answer_lent-k.ensures.0 c.vtoc_date_to_packed.ensures

@@ -1,27 +1,27 @@
 use Rattle.rules.specs.Entries.{lent}
-use Rattle.replay_step.proofs.Laws.{op-5, op-6, op-7, op-8, op-9, op-reading}
+use Rattle.replay_step.proofs.Laws.{op_5, op_6, op_7, op_8, op_9, op_reading}
 use Rattle.replay_step.proofs.play_later.Goals as goal
 
 pub returns-then-op-eq5 : goal.returns-then-op-eq5
 returns-then-op-eq5 c =
-    op-5 c.args.asked.now (lent c.args.table.now c.args.answer.now c.args.labels.now) _ c.if-op-eq5.true (c.do_scratch.ensures c.args.labels.now)
+    op_5 c.args.asked.now (lent c.args.table.now c.args.answer.now c.args.labels.now) _ c.if-op-eq5.true (c.do_scratch.ensures c.args.labels.now)
 
 pub returns-then-op-eq6 : goal.returns-then-op-eq6
 returns-then-op-eq6 c =
-    op-6 c.args.asked.now (lent c.args.table.now c.args.answer.now c.args.labels.now) _ c.if-op-eq6.true (c.do_rename.ensures c.args.labels.now)
+    op_6 c.args.asked.now (lent c.args.table.now c.args.answer.now c.args.labels.now) _ c.if-op-eq6.true (c.do_rename.ensures c.args.labels.now)
 
 pub returns-then-op-eq7 : goal.returns-then-op-eq7
 returns-then-op-eq7 c =
-    op-7 c.args.asked.now (lent c.args.table.now c.args.answer.now c.args.labels.now) _ c.if-op-eq7.true c.do_obtain.ensures
+    op_7 c.args.asked.now (lent c.args.table.now c.args.answer.now c.args.labels.now) _ c.if-op-eq7.true c.do_obtain.ensures
 
 pub returns-then-op-eq8 : goal.returns-then-op-eq8
 returns-then-op-eq8 c =
-    op-8 c.args.asked.now (lent c.args.table.now c.args.answer.now c.args.labels.now) _ c.if-op-eq8.true (c.do_lspace.ensures c.args.labels.now)
+    op_8 c.args.asked.now (lent c.args.table.now c.args.answer.now c.args.labels.now) _ c.if-op-eq8.true (c.do_lspace.ensures c.args.labels.now)
 
 pub returns-then-op-eq9 : goal.returns-then-op-eq9
 returns-then-op-eq9 c =
-    op-9 c.args.asked.now (lent c.args.table.now c.args.answer.now c.args.labels.now) _ c.if-op-eq9.true (c.do_put.ensures c.args.answer.now c.args.labels.now)
+    op_9 c.args.asked.now (lent c.args.table.now c.args.answer.now c.args.labels.now) _ c.if-op-eq9.true (c.do_put.ensures c.args.answer.now c.args.labels.now)
 
 pub returns : goal.returns
 returns c =
-    op-reading c.args.asked.now (lent c.args.table.now c.args.answer.now c.args.labels.now) _ c.if-op-eq5.false c.if-op-eq6.false c.if-op-eq7.false c.if-op-eq8.false c.if-op-eq9.false (c.play_reading.ensures c.args.labels.now)
+    op_reading c.args.asked.now (lent c.args.table.now c.args.answer.now c.args.labels.now) _ c.if-op-eq5.false c.if-op-eq6.false c.if-op-eq7.false c.if-op-eq8.false c.if-op-eq9.false (c.play_reading.ensures c.args.labels.now)

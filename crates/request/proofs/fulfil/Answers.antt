@@ -1,4 +1,4 @@
-use Rattle.request.proofs.Granting.{absolute-asked, absolute-reply, cylinders-asked, cylinders-reply, tracks-asked, tracks-reply}
+use Rattle.request.proofs.Granting.{absolute_asked, absolute_reply, cylinders_asked, cylinders_reply, tracks_asked, tracks_reply}
 use Rattle.dscb.specs.Forms.{geometry_of}
 use Rattle.choose_pieces.specs.Options.{to_option}
 use native.Mathlib.Omega.{arith}
@@ -7,19 +7,19 @@ use Rattle.request.proofs.fulfil.Goals as goal
 pub choose-requires : goal.choose-requires
 choose-requires c =
     let p = c.requires in
-    let k = tracks-asked (geometry_of c.args.g) c.args.amount p.2 _ c.in-Tracks.is in
+    let k = tracks_asked (geometry_of c.args.g) c.args.amount p.2 _ c.in-Tracks.is in
     record { limits = (p.0, p.3, omega arith, omega arith); le_amount = (k, p.4) }
 
 pub choose-requires-in-Cylinders : goal.choose-requires-in-Cylinders
 choose-requires-in-Cylinders c =
     let p = c.requires in
-    let k = cylinders-asked (geometry_of c.args.g) c.args.amount p.2 _ c.in-Cylinders.is in
+    let k = cylinders_asked (geometry_of c.args.g) c.args.amount p.2 _ c.in-Cylinders.is in
     record { limits = (p.0, p.3, p.0.heads, p.0.heads_most); le_amount = (k, p.4) }
 
 pub exact-requires : goal.exact-requires
 exact-requires c =
     let p = c.requires in
-    let k = absolute-asked (geometry_of c.args.g) c.args.amount p.2 _ _ c.in-Absolute.is in
+    let k = absolute_asked (geometry_of c.args.g) c.args.amount p.2 _ _ c.in-Absolute.is in
     let t = p.0.tracks_most in
     let m = p.1 in
     (k.0, omega arith, omega arith)
@@ -28,17 +28,17 @@ pub returns-in-Tracks : goal.returns-in-Tracks
 returns-in-Tracks c =
     λ ls h d.
     let a = c.args in
-    tracks-reply a.free_tracks.now (geometry_of a.g) ls h (to_option a.option) a.amount _ _ c.in-Tracks.is (c.choose.ensures _ d)
+    tracks_reply a.free_tracks.now (geometry_of a.g) ls h (to_option a.option) a.amount _ _ c.in-Tracks.is (c.choose.ensures _ d)
 
 pub returns-in-Cylinders : goal.returns-in-Cylinders
 returns-in-Cylinders c =
     λ ls h d.
     let a = c.args in
-    cylinders-reply a.free_tracks.now (geometry_of a.g) ls h (to_option a.option) a.amount _ _ c.in-Cylinders.is (c.choose-in-Cylinders.ensures _ d)
+    cylinders_reply a.free_tracks.now (geometry_of a.g) ls h (to_option a.option) a.amount _ _ c.in-Cylinders.is (c.choose-in-Cylinders.ensures _ d)
 
 pub returns-in-Absolute : goal.returns-in-Absolute
 returns-in-Absolute c =
     λ ls h d.
     let a = c.args in
     let e = c.in-Absolute.is in
-    absolute-reply a.free_tracks.now (geometry_of a.g) ls h (to_option a.option) a.amount _ _ _ e (absolute-asked (geometry_of a.g) a.amount c.requires.2 _ _ e).1 c.exact.ensures
+    absolute_reply a.free_tracks.now (geometry_of a.g) ls h (to_option a.option) a.amount _ _ _ e (absolute_asked (geometry_of a.g) a.amount c.requires.2 _ _ e).1 c.exact.ensures

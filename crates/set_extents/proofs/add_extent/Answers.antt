@@ -1,7 +1,7 @@
 use native.Mathlib.Omega.{arith}
 use Rattle.model.specs.Model.{extent, run}
 use Rattle.dscb.specs.Forms.{geometry_of}
-use Rattle.set_extents.proofs.Pieces.{three-few}
+use Rattle.set_extents.proofs.Pieces.{three_few}
 use Rattle.set_extents.proofs.add_extent.Goals as goal
 
 pub returns-then-n-lt3 : goal.returns-then-n-lt3
@@ -11,7 +11,7 @@ returns-then-n-lt3 c =
       λ l h x.
           record {
             one = done.0 l h x.one;
-            three = three-few (geometry_of a.g) l (extent a.type_byte (run a.start a.count)) a.f3.now (omega (arith, h, c.if-n-lt3.true)) x.three;
+            three = three_few (geometry_of a.g) l (extent a.type_byte (run a.start a.count)) a.f3.now (omega (arith, h, c.if-n-lt3.true)) x.three;
           },
       done.1,
       c.requires.1,

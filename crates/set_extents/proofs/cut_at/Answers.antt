@@ -5,7 +5,7 @@ use Rattle.dscb.specs.Forms.{geometry_of}
 use Rattle.dscb.proofs.Written.{read_at, read_length}
 use Rattle.rules.specs.Calls.{cut_type}
 use mathlib.Core.Path.{◌∙◌, ap, sym}
-use Rattle.set_extents.proofs.Cutting.{at_read, good-read, keeping-next, keeping_none, stays-part, stays-whole}
+use Rattle.set_extents.proofs.Cutting.{at_read, good_read, keeping_next, keeping_none, stays_part, stays_whole}
 use Rattle.set_extents.proofs.cut_at.Goals as goal
 
 pub loop-e-init : goal.loop-e-init
@@ -15,7 +15,7 @@ pub extent_at-x-requires : goal.extent_at-x-requires
 extent_at-x-requires c =
     let a = c.args in
     let p = c.requires in
-    let good = good-read (geometry_of a.g) a.f1.now a.f3.now a.n c.loop-e.e p.good c.loop-e-test.true in
+    let good = good_read (geometry_of a.g) a.f1.now a.f3.now a.n c.loop-e.e p.good c.loop-e-test.true in
     (p.long1, p.long3, omega (arith, p.most), good.full, omega (arith, good.ends, p.limits.tracks_most))
 
 pub type_if-requires : goal.type_if-requires
@@ -26,17 +26,17 @@ returns-then-left-x c =
     let a = c.args in
     let g = geometry_of a.g in
     let x = at_read g a.f1.now a.f3.now a.n c.requires.good c.loop-e.e c.extent_at-x.result.start c.extent_at-x.result.count c.loop-e-test.true c.extent_at-x.ensures in
-    stays-part g a.unit a.keep (read_extents a.g.heads a.f1.now a.f3.now a.n) c.loop-e.e c.loop-e.left c.extent_at-x.result.start c.extent_at-x.result.count x c.loop-e.invariant.1
+    stays_part g a.unit a.keep (read_extents a.g.heads a.f1.now a.f3.now a.n) c.loop-e.e c.loop-e.left c.extent_at-x.result.start c.extent_at-x.result.count x c.loop-e.invariant.1
     c.type_if.result (c.type_if.ensures a.g.heads ∙ ap (cut_type a.unit) (sym (read_at g a.f1.now a.f3.now a.n c.loop-e.e c.loop-e-test.true))) c.if-left-x.true
 
 pub loop-e-preserved : goal.loop-e-preserved
 loop-e-preserved c =
     let a = c.args in
     let x = at_read (geometry_of a.g) a.f1.now a.f3.now a.n c.requires.good c.loop-e.e c.extent_at-x.result.start c.extent_at-x.result.count c.loop-e-test.true c.extent_at-x.ensures in
-    (omega arith, keeping-next (geometry_of a.g) a.unit a.keep (read_extents a.g.heads a.f1.now a.f3.now a.n) c.loop-e.e c.loop-e.left c.extent_at-x.result.start c.extent_at-x.result.count x c.loop-e.invariant.1 c.if-left-x.false)
+    (omega arith, keeping_next (geometry_of a.g) a.unit a.keep (read_extents a.g.heads a.f1.now a.f3.now a.n) c.loop-e.e c.loop-e.left c.extent_at-x.result.start c.extent_at-x.result.count x c.loop-e.invariant.1 c.if-left-x.false)
 
 pub returns : goal.returns
 returns c =
     let a = c.args in
     let l = c.loop-e in
-    stays-whole a.unit a.keep (read_extents a.g.heads a.f1.now a.f3.now a.n) l.e l.left (tracks (geometry_of a.g)) 0x01 (let n = read_length (geometry_of a.g) a.f1.now a.f3.now a.n in omega arith) l.invariant.1 a.n (read_length (geometry_of a.g) a.f1.now a.f3.now a.n)
+    stays_whole a.unit a.keep (read_extents a.g.heads a.f1.now a.f3.now a.n) l.e l.left (tracks (geometry_of a.g)) 0x01 (let n = read_length (geometry_of a.g) a.f1.now a.f3.now a.n in omega arith) l.invariant.1 a.n (read_length (geometry_of a.g) a.f1.now a.f3.now a.n)

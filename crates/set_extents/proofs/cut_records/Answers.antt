@@ -1,7 +1,7 @@
 use native.Mathlib.Omega.{arith}
 use Rattle.dscb.specs.Forms.{geometry_of}
 use Rattle.dscb_write.specs.Labels.{first_extents}
-use Rattle.set_extents.proofs.Cutting.{first-length, with_part, without-part}
+use Rattle.set_extents.proofs.Cutting.{first_length, with_part, without_part}
 use Rattle.set_extents.proofs.cut_records.Goals as goal
 
 pub returns-then-k-eq0 : goal.returns-then-k-eq0
@@ -11,7 +11,7 @@ returns-then-k-eq0 c =
     let one = c.keep_extents1.ensures in
     let three = c.keep_third.ensures in (
       λ l h x.
-          without-part a.k.whole a.k.type_byte a.k.start a.k.count l c.if-k-eq0.true
+          without_part a.k.whole a.k.type_byte a.k.start a.k.count l c.if-k-eq0.true
           (record { one = one.0 g l h x.one; three = three.0 g l x.three }),
       one.1,
       three.1,
@@ -34,7 +34,7 @@ returns c =
     let more = c.add_extent.ensures in (
       λ l h x.
           with_part a.k.whole a.k.type_byte a.k.start a.k.count l c.if-k-eq0.false
-          (more.0 (first_extents a.k.whole l) (first-length a.k.whole l h) (record { one = one.0 g l h x.one; three = three.0 g l x.three })),
+          (more.0 (first_extents a.k.whole l) (first_length a.k.whole l h) (record { one = one.0 g l h x.one; three = three.0 g l x.three })),
       more.1,
       more.2,
     )

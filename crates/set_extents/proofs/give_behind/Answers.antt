@@ -4,19 +4,19 @@ use native.Mathlib.Omega.{arith}
 use Rattle.rules.specs.Reading.{read_extents}
 use Rattle.dscb.specs.Forms.{geometry_of}
 use Rattle.dscb.proofs.Written.{read_length}
-use Rattle.set_extents.proofs.Cutting.{at_read, gave_all, giving-next, giving-none, good-read, left-next}
+use Rattle.set_extents.proofs.Cutting.{at_read, gave_all, giving_next, giving_none, good_read, left_next}
 use Rattle.set_extents.proofs.give_behind.Goals as goal
 
 pub loop-e-init : goal.loop-e-init
 loop-e-init c =
     let es = read_extents c.args.g.heads c.args.f1.now c.args.f3.now c.args.n in
-    (omega arith, refl, sym (sub-zero c.args.keep), giving-none c.args.keep es c.args.free_tracks.now)
+    (omega arith, refl, sym (sub-zero c.args.keep), giving_none c.args.keep es c.args.free_tracks.now)
 
 pub extent_at-x-requires : goal.extent_at-x-requires
 extent_at-x-requires c =
     let a = c.args in
     let p = c.requires.0 in
-    let good = good-read (geometry_of a.g) a.f1.now a.f3.now a.n c.loop-e.e p.good c.loop-e-test.true in
+    let good = good_read (geometry_of a.g) a.f1.now a.f3.now a.n c.loop-e.e p.good c.loop-e-test.true in
     (p.long1, p.long3, omega (arith, p.most), good.full, omega (arith, good.ends, p.limits.tracks_most))
 
 pub overflow_add-from : goal.overflow_add-from
@@ -51,8 +51,8 @@ loop-e-preserved c =
     let x = at_read (geometry_of c.args.g) c.args.f1.now c.args.f3.now c.args.n c.requires.0.good c.loop-e.e c.extent_at-x.result.start c.extent_at-x.result.count c.loop-e-test.true c.extent_at-x.ensures in (
       omega arith,
       c.give_range.ensures.long ∙ c.loop-e.invariant.1,
-      left-next (geometry_of c.args.g) c.args.keep es c.loop-e.e c.loop-e.left c.extent_at-x.result.start c.extent_at-x.result.count c.lesser-stay.result x c.loop-e.invariant.2 c.lesser-stay.ensures,
-      giving-next (geometry_of c.args.g) c.args.keep es c.loop-e.e c.loop-e.left c.extent_at-x.result.start c.extent_at-x.result.count c.lesser-stay.result x c.loop-e.invariant.2 c.lesser-stay.ensures c.args.free_tracks.now c.loop-e.free_tracks _ c.give_range.ensures c.loop-e.invariant.3,
+      left_next (geometry_of c.args.g) c.args.keep es c.loop-e.e c.loop-e.left c.extent_at-x.result.start c.extent_at-x.result.count c.lesser-stay.result x c.loop-e.invariant.2 c.lesser-stay.ensures,
+      giving_next (geometry_of c.args.g) c.args.keep es c.loop-e.e c.loop-e.left c.extent_at-x.result.start c.extent_at-x.result.count c.lesser-stay.result x c.loop-e.invariant.2 c.lesser-stay.ensures c.args.free_tracks.now c.loop-e.free_tracks _ c.give_range.ensures c.loop-e.invariant.3,
     )
 
 pub returns : goal.returns

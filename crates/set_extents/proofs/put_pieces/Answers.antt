@@ -5,8 +5,8 @@ use lib.ListN.{length}
 use Rattle.model.specs.Basics.{bit}
 use Rattle.dscb.specs.Forms.{geometry_of}
 use Rattle.dscb.proofs.Written.{read_length}
-use Rattle.set_extents.proofs.Joining.{all-follow, next-in, rest-joined, told}
-use Rattle.set_extents.proofs.Pieces.{piece-in}
+use Rattle.set_extents.proofs.Joining.{all_follow, next_in, rest_joined, told}
+use Rattle.set_extents.proofs.Pieces.{piece_in}
 use native.Mathlib.Omega.{arith}
 use borrow.Author.Rules.{rules}
 use Rattle.set_extents.proofs.put_pieces.Goals as goal
@@ -16,7 +16,7 @@ lengthen_last-requires c =
     let a = c.args in
     let es = extents_in (geometry_of a.g) a.f1.now a.f3.now a.n in
     let five : length a.pieces ≡ 5 = let known = c.well_formed.1.1.1.1.1.1.0 in search rules in
-    let p = piece-in 65535 a.count a.pieces five c.requires.3 c.requires.5 0 (omega (arith, c.requires.2)) in
+    let p = piece_in 65535 a.count a.pieces five c.requires.3 c.requires.5 0 (omega (arith, c.requires.2)) in
     let s = c.piece_at-touching.ensures.0 in
     let n = c.piece_at-touching.ensures.1 in
     (c.requires.0, omega (arith, p.1), told es es _ _ _ true refl s c.requires.1 c.if-joins.true)
@@ -27,7 +27,7 @@ add_pieces-requires c =
     let five : length a.pieces ≡ 5 = let known = c.well_formed.1.1.1.1.1.1.0 in search rules in
     let l = c.lengthen_last.ensures in
     let b = ap bit c.if-joins.true in
-    (l.1, l.2, omega (arith, c.requires.3), omega (arith, c.requires.4, c.requires.2), c.requires.0.limits, next-in a.pieces five a.count c.requires.2 c.requires.3 _ c.behind_first.ensures 65535 c.requires.5)
+    (l.1, l.2, omega (arith, c.requires.3), omega (arith, c.requires.4, c.requires.2), c.requires.0.limits, next_in a.pieces five a.count c.requires.2 c.requires.3 _ c.behind_first.ensures 65535 c.requires.5)
 
 pub returns-then-joins : goal.returns-then-joins
 returns-then-joins c =
@@ -38,7 +38,7 @@ returns-then-joins c =
     let one = c.lengthen_last.ensures in
     let more = c.add_pieces.ensures in (
       λ l ps own rows x.
-          rest-joined a.pieces five a.count c.requires.2 c.requires.3 _ c.behind_first.ensures g a.type_byte a.n l
+          rest_joined a.pieces five a.count c.requires.2 c.requires.3 _ c.behind_first.ensures g a.type_byte a.n l
           (sym (ap length own) ∙ read_length g a.f1.now a.f3.now a.n) _ _ first.0 first.1 _ _ _ _
           (told _ _ _ _ _ true own first.0 c.requires.1 c.if-joins.true)
           (one.0 l own x) more.0 ps rows,
@@ -57,7 +57,7 @@ returns c =
     let g = geometry_of a.g in
     let more = c.add_pieces-2.ensures in (
       λ l ps own rows x.
-          all-follow g a.type_byte a.count a.pieces five c.requires.2 c.requires.3 l ps rows
+          all_follow g a.type_byte a.count a.pieces five c.requires.2 c.requires.3 l ps rows
           (told _ _ _ _ _ false own refl c.requires.1 c.if-joins.false) _ _
           (more.0 l ps (sym (ap length own) ∙ read_length g a.f1.now a.f3.now a.n) rows x),
       more.1,

@@ -3,7 +3,7 @@ use Rattle.model.specs.Model.{tracks}
 use Rattle.rules.specs.Reading.{read_extents}
 use Rattle.dscb.specs.Forms.{geometry_of}
 use Rattle.dscb.proofs.Written.{read_length}
-use Rattle.set_extents.proofs.Cutting.{at_read, tracks-within, good-read, spread-all, spread-next, spread_none}
+use Rattle.set_extents.proofs.Cutting.{at_read, tracks_within, good_read, spread_all, spread_next, spread_none}
 use Rattle.set_extents.proofs.spread_of.Goals as goal
 
 pub loop-e-init : goal.loop-e-init
@@ -13,7 +13,7 @@ pub extent_at-x-requires : goal.extent_at-x-requires
 extent_at-x-requires c =
     let a = c.args in
     let p = c.requires in
-    let good = good-read (geometry_of a.g) a.f1.now a.f3.now a.n c.loop-e.e p.good c.loop-e-test.true in
+    let good = good_read (geometry_of a.g) a.f1.now a.f3.now a.n c.loop-e.e p.good c.loop-e-test.true in
     (p.long1, p.long3, omega (arith, p.most), good.full, omega (arith, good.ends, p.limits.tracks_most))
 
 pub overflow_add-all : goal.overflow_add-all
@@ -22,7 +22,7 @@ overflow_add-all c =
     let l = c.loop-e in
     let x = c.extent_at-x in
     let y = at_read (geometry_of a.g) a.f1.now a.f3.now a.n c.requires.good l.e x.result.start x.result.count c.loop-e-test.true x.ensures in
-    let q = tracks-within (geometry_of a.g) _ l.e x.result.start x.result.count c.requires.limits y in
+    let q = tracks_within (geometry_of a.g) _ l.e x.result.start x.result.count c.requires.limits y in
     omega (arith, l.invariant.2, c.requires.most, c.loop-e-test.true)
 
 pub loop-e-preserved : goal.loop-e-preserved
@@ -31,9 +31,9 @@ loop-e-preserved c =
     let l = c.loop-e in
     let x = c.extent_at-x in
     let y = at_read (geometry_of a.g) a.f1.now a.f3.now a.n c.requires.good l.e x.result.start x.result.count c.loop-e-test.true x.ensures in
-    let q = tracks-within (geometry_of a.g) _ l.e x.result.start x.result.count c.requires.limits y in (
+    let q = tracks_within (geometry_of a.g) _ l.e x.result.start x.result.count c.requires.limits y in (
       omega arith,
-      spread-next (geometry_of a.g) (read_extents a.g.heads a.f1.now a.f3.now a.n) l.e x.result.start x.result.count l.all l.lowest c.lesser-lowest.result y c.lesser-lowest.ensures l.invariant.1,
+      spread_next (geometry_of a.g) (read_extents a.g.heads a.f1.now a.f3.now a.n) l.e x.result.start x.result.count l.all l.lowest c.lesser-lowest.result y c.lesser-lowest.ensures l.invariant.1,
       omega (arith, l.invariant.2),
     )
 
@@ -42,4 +42,4 @@ returns c =
     let a = c.args in
     let l = c.loop-e in
     let n = read_length (geometry_of a.g) a.f1.now a.f3.now a.n in
-    spread-all (tracks (geometry_of a.g)) (read_extents a.g.heads a.f1.now a.f3.now a.n) l.e l.all l.lowest (omega (arith, c.loop-e-test.false)) l.invariant.1
+    spread_all (tracks (geometry_of a.g)) (read_extents a.g.heads a.f1.now a.f3.now a.n) l.e l.all l.lowest (omega (arith, c.loop-e-test.false)) l.invariant.1

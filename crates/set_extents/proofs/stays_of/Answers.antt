@@ -1,5 +1,5 @@
 use native.Mathlib.Omega.{arith}
-use Rattle.model.proofs.Cylinders.{stay_all, stay-cut, stay_none}
+use Rattle.model.proofs.Cylinders.{stay_all, stay_cut, stay_none}
 use Rattle.set_extents.proofs.stays_of.Goals as goal
 use Rattle.set_extents.proofs.stays_of.Goals.{else-left-eq0-via-then-left-eq0+else-start-last, else-left-eq0-via-else-left-eq0}
 
@@ -16,7 +16,7 @@ returns-then-start-last c =
 pub returns : goal.returns
 returns c =
     let a = c.args in
-    stay-cut a.h c.requires.0 a.left a.last a.start a.count c.in_cylinder.result (omega (arith, c.if-count-left.false))
+    stay_cut a.h c.requires.0 a.left a.last a.start a.count c.in_cylinder.result (omega (arith, c.if-count-left.false))
     (elim c.else-left-eq0.branch [
       | else-left-eq0-via-then-left-eq0+else-start-last w ↦ λ _. w.if-start-last.false
       | else-left-eq0-via-else-left-eq0 w ↦ λ z. absurd (w.if-left-eq0.false z)

@@ -2,20 +2,20 @@ use native.Mathlib.Omega.{arith}
 use Rattle.rules.specs.Reading.{read_extents}
 use Rattle.dscb.specs.Forms.{geometry_of}
 use Rattle.dscb.proofs.Written.{read_length}
-use Rattle.set_extents.proofs.Cutting.{at_read, good-read, tracks-within}
-use Rattle.set_extents.proofs.Keeping.{along-all, along-next, along-none, along-stop}
+use Rattle.set_extents.proofs.Cutting.{at_read, good_read, tracks_within}
+use Rattle.set_extents.proofs.Keeping.{along_all, along_next, along_none, along_stop}
 use Rattle.set_extents.proofs.to_cylinder_end.Goals as goal
 
 pub loop-e-init : goal.loop-e-init
 loop-e-init c =
     let a = c.args in
-    (omega arith, along-none a.g.heads a.keep (read_extents a.g.heads a.f1.now a.f3.now a.n))
+    (omega arith, along_none a.g.heads a.keep (read_extents a.g.heads a.f1.now a.f3.now a.n))
 
 pub extent_at-x-requires : goal.extent_at-x-requires
 extent_at-x-requires c =
     let a = c.args in
     let p = c.requires in
-    let good = good-read (geometry_of a.g) a.f1.now a.f3.now a.n c.loop-e.e p.good c.loop-e-test.true in
+    let good = good_read (geometry_of a.g) a.f1.now a.f3.now a.n c.loop-e.e p.good c.loop-e-test.true in
     (p.long1, p.long3, omega (arith, p.most), good.full, omega (arith, good.ends, p.limits.tracks_most))
 
 pub stays_of-stay-requires : goal.stays_of-stay-requires
@@ -29,14 +29,14 @@ overflow_add-kept c =
     let a = c.args in
     let l = c.loop-e in
     let x = at_read (geometry_of a.g) a.f1.now a.f3.now a.n c.requires.good l.e c.extent_at-x.result.start c.extent_at-x.result.count c.loop-e-test.true c.extent_at-x.ensures in
-    omega (arith, l.invariant.1.few, c.stays_of-stay.ensures.most, tracks-within (geometry_of a.g) (read_extents a.g.heads a.f1.now a.f3.now a.n) l.e _ _ c.requires.limits x, c.requires.most)
+    omega (arith, l.invariant.1.few, c.stays_of-stay.ensures.most, tracks_within (geometry_of a.g) (read_extents a.g.heads a.f1.now a.f3.now a.n) l.e _ _ c.requires.limits x, c.requires.most)
 
 pub returns-then-stay-x : goal.returns-then-stay-x
 returns-then-stay-x c =
     let a = c.args in
     let l = c.loop-e in
     let x = at_read (geometry_of a.g) a.f1.now a.f3.now a.n c.requires.good l.e c.extent_at-x.result.start c.extent_at-x.result.count c.loop-e-test.true c.extent_at-x.ensures in
-    along-stop (geometry_of a.g) a.g.heads a.keep (read_extents a.g.heads a.f1.now a.f3.now a.n) l.e l.kept l.left l.last c.extent_at-x.result.start c.extent_at-x.result.count c.stays_of-stay.result x l.invariant.1 c.stays_of-stay.ensures c.if-stay-x.true
+    along_stop (geometry_of a.g) a.g.heads a.keep (read_extents a.g.heads a.f1.now a.f3.now a.n) l.e l.kept l.left l.last c.extent_at-x.result.start c.extent_at-x.result.count c.stays_of-stay.result x l.invariant.1 c.stays_of-stay.ensures c.if-stay-x.true
 
 pub overflow_add-last : goal.overflow_add-last
 overflow_add-last c =
@@ -59,11 +59,11 @@ loop-e-preserved c =
     let es = read_extents a.g.heads a.f1.now a.f3.now a.n in
     let x = at_read (geometry_of a.g) a.f1.now a.f3.now a.n c.requires.good l.e c.extent_at-x.result.start c.extent_at-x.result.count c.loop-e-test.true c.extent_at-x.ensures in
     let stays = c.stays_of-stay in
-    (omega arith, along-next (geometry_of a.g) a.g.heads a.keep es l.e l.kept l.left l.last c.extent_at-x.result.start c.extent_at-x.result.count stays.result x l.invariant.1 stays.ensures (omega (arith, c.if-stay-x.false)) (tracks-within (geometry_of a.g) es l.e _ _ c.requires.limits x) (omega (arith, x.ends, c.requires.limits.tracks_most)) _ (omega (arith, c.lesser-left.ensures)))
+    (omega arith, along_next (geometry_of a.g) a.g.heads a.keep es l.e l.kept l.left l.last c.extent_at-x.result.start c.extent_at-x.result.count stays.result x l.invariant.1 stays.ensures (omega (arith, c.if-stay-x.false)) (tracks_within (geometry_of a.g) es l.e _ _ c.requires.limits x) (omega (arith, x.ends, c.requires.limits.tracks_most)) _ (omega (arith, c.lesser-left.ensures)))
 
 pub returns : goal.returns
 returns c =
     let a = c.args in
     let l = c.loop-e in
     let n = read_length (geometry_of a.g) a.f1.now a.f3.now a.n in
-    along-all a.g.heads a.keep (read_extents a.g.heads a.f1.now a.f3.now a.n) l.e l.kept l.left l.last (omega arith) l.invariant.1
+    along_all a.g.heads a.keep (read_extents a.g.heads a.f1.now a.f3.now a.n) l.e l.kept l.left l.last (omega arith) l.invariant.1

@@ -1,6 +1,6 @@
 use native.Mathlib.Omega.{arith}
 use Rattle.bitmap.proofs.Walk.{goes_on}
-use Rattle.check_table.proofs.Unused.{run-total}
+use Rattle.check_table.proofs.Unused.{run_total}
 use Rattle.settle_slots.proofs.Slots.{counted}
 use Rattle.settle_slots.proofs.count_free.Goals as goal
 
@@ -16,7 +16,7 @@ loop-at-preserved c =
     let f = r.from in
     let l = r.low in
     let h = r.high in
-    let e = run-total r in
+    let e = run_total r in
     (h, omega arith, omega (arith, c.loop-at.invariant.2))
 
 pub returns : goal.returns

@@ -4,8 +4,8 @@ use native.Mathlib.Omega.{arith}
 use lib.ListN.{length-set, length}
 use Rattle.model.specs.Model.{slots}
 use Rattle.dscb.specs.Forms.{geometry_of}
-use Rattle.free_extents.proofs.Chain.{next-named}
-use Rattle.settle_slots.proofs.Chains.{chain-room, chain-read, inside-next, read-end, read-full, read_next, read_none}
+use Rattle.free_extents.proofs.Chain.{next_named}
+use Rattle.settle_slots.proofs.Chains.{chain_room, chain_read, inside_next, read_end, read_full, read_next, read_none}
 use Rattle.settle_slots.proofs.read_chain.Goals as goal
 
 pub loop-i-init : goal.loop-i-init
@@ -17,8 +17,8 @@ returns-then-k-eq0 c =
     let a = c.args in
     let p = c.requires in
     let l = c.loop-i in
-    chain-read (geometry_of a.g) a.table.now a.chain.now l.chain l.i l.invariant.3 p.2 (omega (arith, l.invariant.0, l.invariant.2)) l.invariant.4
-    (λ v e x. read-end (geometry_of a.g) a.table.now l.chain l.i l.k v.chain (l.invariant.5 v e x) c.if-k-eq0.true)
+    chain_read (geometry_of a.g) a.table.now a.chain.now l.chain l.i l.invariant.3 p.2 (omega (arith, l.invariant.0, l.invariant.2)) l.invariant.4
+    (λ v e x. read_end (geometry_of a.g) a.table.now l.chain l.i l.k v.chain (l.invariant.5 v e x) c.if-k-eq0.true)
 
 pub loop-i-preserved : goal.loop-i-preserved
 loop-i-preserved c =
@@ -27,12 +27,12 @@ loop-i-preserved c =
     let l = c.loop-i in
     let i = l.invariant in
     let u : l.i < length l.chain = omega (arith, c.loop-i-test.true, i.2, i.3, c.requires.2) in
-    let e = next-named g t c.record_at-rec.result.now l.k c.link-k.result c.record_at-rec.ensures.0 c.link-k.ensures.0 in (
+    let e = next_named g t c.record_at-rec.result.now l.k c.link-k.result c.record_at-rec.ensures.0 c.link-k.ensures.0 in (
       omega (arith, c.loop-i-test.true),
       c.link-k.ensures.1,
       i.2,
       length-set l.chain l.i _ ∙ i.3,
-      inside-next (slots g) l.chain l.i l.k u i.1 i.4,
+      inside_next (slots g) l.chain l.i l.k u i.1 i.4,
       λ v same x. read_next g t l.chain l.i l.k v.chain (i.5 v same x) c.requires.0 c.if-k-eq0.false u c.link-k.result e,
     )
 
@@ -41,7 +41,7 @@ returns c =
     let a = c.args in
     let p = c.requires in
     let l = c.loop-i in
-    chain-read (geometry_of a.g) a.table.now a.chain.now l.chain l.i l.invariant.3 p.2 (omega (arith, l.invariant.0, l.invariant.2)) l.invariant.4
+    chain_read (geometry_of a.g) a.table.now a.chain.now l.chain l.i l.invariant.3 p.2 (omega (arith, l.invariant.0, l.invariant.2)) l.invariant.4
     (λ v e x.
-    read-full (geometry_of a.g) a.table.now l.chain l.i l.k v.chain (l.invariant.5 v e x)
-    (omega (arith, chain-room (geometry_of a.g) a.table.now v e x, c.loop-i-test.false, l.invariant.2)) (omega (arith, l.invariant.0, l.invariant.2, l.invariant.3, p.2)))
+    read_full (geometry_of a.g) a.table.now l.chain l.i l.k v.chain (l.invariant.5 v e x)
+    (omega (arith, chain_room (geometry_of a.g) a.table.now v e x, c.loop-i-test.false, l.invariant.2)) (omega (arith, l.invariant.0, l.invariant.2, l.invariant.3, p.2)))

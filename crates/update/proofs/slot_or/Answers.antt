@@ -1,8 +1,8 @@
-use Rattle.update.proofs.Small.{or-given, or-own}
+use Rattle.update.proofs.Small.{or_given, or_own}
 use Rattle.update.proofs.slot_or.Goals as goal
 
 pub returns-then-k-eq0 : goal.returns-then-k-eq0
-returns-then-k-eq0 c = or-given c.args.k c.args.given c.if-k-eq0.true
+returns-then-k-eq0 c = or_given c.args.k c.args.given c.if-k-eq0.true
 
 pub returns : goal.returns
-returns c = or-own c.args.k c.args.given c.if-k-eq0.false
+returns c = or_own c.args.k c.args.given c.if-k-eq0.false

@@ -1,8 +1,8 @@
 use native.Mathlib.Omega.{arith}
 use Rattle.rules.specs.Listing.{printable}
-use Rattle.ebcdic.proofs.Entries.{entry-printed, table, table-right}
+use Rattle.ebcdic.proofs.Entries.{entry_printed, table, table_right}
 use Rattle.ebcdic.proofs.listing.printable.Goals as goal
 
 pub returns : goal.returns
 unfolding table printable
-returns c = entry-printed table table-right c.args.b (omega arith)
+returns c = entry_printed table table_right c.args.b (omega arith)
