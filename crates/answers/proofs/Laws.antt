@@ -1,20 +1,36 @@
 -- The answer bytes grow from the front, zeros after them. Assumes nothing.
 use mathlib.Core.Path.{◌≡◌, refl, sym, ap, ap₂, ◌∙◌}
 use mathlib.Core.List.{List, [], ◌∷◌, ◌++◌, append_assoc, append-nil, map}
-use Prim.Native.Nat.{ℕ, zero, suc, ◌+◌, ◌*◌, ◌/◌, ◌%◌, ◌≤◌, ◌<◌}
+use Prim.Native.Nat.{ℕ, zero, suc, ◌+◌, ◌-◌, ◌*◌, ◌/◌, ◌%◌, ◌≤◌, ◌<◌}
 use native.Mathlib.Nat.{mul-suc, mul-zero}
 use native.Mathlib.Numerals.{add-one}
 use native.Mathlib.Omega.{arith}
-use lib.ListN.{drop, get_or, length, length-append, length-take, take}
+use borrow.Rule.Slice.PartMut.{put_mid}
+use lib.ListN.{drop, get_or, length, length-append, length-take, set, take}
 use lib.Seq.{take-suc}
 use Rattle.model.specs.Basics.{be2, fill, flat, zeros}
 use Rattle.model.specs.Model.{Run, total}
-use Rattle.model.proofs.Lists.{copied}
-use Rattle.rules.specs.Calls.{answer, date_bytes, given_back, granted, numbers}
+use Rattle.rules.specs.Calls.{answer, given_back, granted, numbers}
 use Rattle.choose_pieces.specs.Grant.{row}
 use Rattle.dscb_write.specs.Put.{put_at}
 use Rattle.dscb_write.proofs.Filling.{put_fill}
 use Rattle.answers.specs.Bytes24.{piece_bytes}
+
+-- ---- a number of two bytes
+
+two_set : (r : List ℕ) (at a b : ℕ) → at + 2 ≤ length r → set (set r at a) (suc at) b ≡ take at r ++ (a ∷ b ∷ drop 2 (drop at r))
+two_set [] at a b h = absurd (omega arith)
+two_set (x ∷ []) at a b h = absurd (omega arith)
+two_set (x ∷ y ∷ r) zero a b h = refl
+two_set (x ∷ y ∷ r) (suc at) a b h = ap (λ (l : List ℕ). x ∷ l) (two_set (y ∷ r) at a b (omega arith))
+
+-- copied over the two bytes from place `at` on
+pub two_put : (r : List ℕ) (at v : ℕ) → v < 65536 → at + 2 ≤ length r → put_mid at (at + 2 - at) r (v / 256 % 256 ∷ v % 256 ∷ []) ≡ put_at r at (be2 v)
+unfolding put_at
+two_put r at v u h =
+    let e : v / 256 % 256 ≡ v / 256 = omega arith in
+    let k : at + 2 - at ≡ 2 = omega arith in
+    rw (e, k, add-one at) (sym (two_set r at (v / 256) (v % 256) h))
 
 -- ---- one after the other
 
@@ -88,20 +104,3 @@ pieces_all t k gs i u w ps l e h =
     let q : i ≡ k = omega arith in
     let r : flat piece_bytes (take i gs) ≡ flat (λ p. be2 p.start ++ be2 p.count) ps = ap (λ (x : ℕ). flat piece_bytes (take x gs)) q ∙ ap (flat piece_bytes) h ∙ flat_rows ps in
     rw (r, ← e, ← l)
-
--- ---- some bytes first
-
-zeros_fill : (n : ℕ) → zeros n ≡ fill n []
-zeros_fill zero = refl
-zeros_fill (suc n) = ap (λ (l : List ℕ). 0 ∷ l) (zeros_fill n)
-
-over_zeros : (n : ℕ) (bs : List ℕ) → length bs ≤ n → take (length bs) bs ++ drop (length bs) (zeros n) ≡ fill n bs
-over_zeros n [] h = zeros_fill n
-over_zeros zero (b ∷ bs) h = absurd (omega arith)
-over_zeros (suc n) (b ∷ bs) h = ap (λ (l : List ℕ). b ∷ l) (over_zeros n bs (omega arith))
-
--- o is 24 zeros first, and then has these bytes on them
-pub first_is : (bs o o' o'' : List ℕ) → length bs ≤ 24 → length o ≡ 24 → o' ≡ take 24 (zeros 24) ++ drop 24 o
-    → o'' ≡ take (length bs) bs ++ drop (length bs) o' → o'' ≡ answer (date_bytes bs)
-first_is bs o o' o'' h l e q =
-    q ∙ ap (λ (x : List ℕ). take (length bs) bs ++ drop (length bs) x) (e ∙ copied (zeros 24) o l) ∙ over_zeros 24 bs h

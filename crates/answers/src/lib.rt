@@ -11,23 +11,20 @@ ghost use Rattle.dscb_write.specs.Put.{put_at};
 ghost use Rattle.answers.specs.Bytes24.{piece_bytes};
 
 // Puts a number of two bytes.
-fn put_two(all: [u8; 24], at: usize, v: u32) -> [u8; 24]
-    requires { (at + 1 < 24) × (v < 65536) }
-    ensures { result ≡ put_at all at (be2 v) }
+fn put_two(all: &mut [u8; 24], at: usize, v: u16)
+    requires { at + 1 < 24 }
+    ensures { all.new ≡ put_at all.old at (be2 v) }
 {
-    let mut r = all;
-    r[at] = (v / 256) as u8;
-    r[at + 1] = (v % 256) as u8;
-    r
+    all[at..at + 2].copy_from_slice(&v.to_be_bytes());
 }
 
 // Puts a piece: its start and its count.
-fn put_piece(all: [u8; 24], at: usize, p: [u16; 2]) -> [u8; 24]
+fn put_piece(all: &mut [u8; 24], at: usize, p: [u16; 2])
     requires { at + 3 < 24 }
-    ensures { result ≡ put_at all at (piece_bytes p) }
+    ensures { all.new ≡ put_at all.old at (piece_bytes p) }
 {
-    let begun = put_two(all, at, rows::wide16(p[0]));
-    put_two(begun, at + 2, rows::wide16(p[1]))
+    put_two(all, at, p[0]);
+    put_two(all, at + 2, p[1]);
 }
 
 // The answer of a call that reports no number.
@@ -35,8 +32,7 @@ pub fn put_nothing(out: &mut [u8])
     requires { length out.old ≡ 24 }
     ensures { out.new ≡ zeros 24 }
 {
-    let all = [0u8; 24];
-    rows::copy(&all, out);
+    out.fill(0);
 }
 
 // The answer of a conversion: these bytes first.
@@ -44,8 +40,7 @@ pub fn put_first(out: &mut [u8], bs: &[u8])
     requires { (length out.old ≡ 24) × (length bs.now ≤ 24) }
     ensures { out.new ≡ answer (date_bytes bs.now) }
 {
-    let nothing = [0u8; 24];
-    rows::copy(&nothing, out);
+    out.fill(0);
     rows::copy(bs, out);
 }
 
@@ -54,9 +49,9 @@ pub fn put_back(out: &mut [u8], n: u32)
     requires { (length out.old ≡ 24) × (n < 65536) }
     ensures { out.new ≡ answer (given_back n) }
 {
-    let zeros = [0u8; 24];
-    let all = put_two(zeros, 0, n);
-    rows::copy(&all, out);
+    let mut all = [0u8; 24];
+    put_two(&mut all, 0, n as u16);
+    out.copy_from_slice(&all);
 }
 
 // The answer of the space inquiry.
@@ -65,13 +60,10 @@ pub fn put_numbers(out: &mut [u8], six: [u32; 6])
     ensures { out.new ≡ answer (numbers six) }
 {
     let mut all = [0u8; 24];
-    let mut i = 0;
-    while i < 6 {
-        let more = put_two(all, 2 * i, six[i]);
-        all = more;
-        i += 1;
+    for (i, n) in six.iter().enumerate() {
+        put_two(&mut all, 2 * i, *n as u16);
     }
-    rows::copy(&all, out);
+    out.copy_from_slice(&all);
 }
 
 // The answer of a call that was granted the first `count` of these pieces, which have so many tracks.
@@ -79,14 +71,11 @@ pub fn put_granted(out: &mut [u8], pieces: [[u16; 2]; 5], count: usize, tracks: 
     requires { (length out.old ≡ 24) × (count ≤ 5) × (tracks < 65536) }
     ensures { (ps : List Run) → length ps ≡ count → total ps ≡ tracks → take count pieces ≡ map row ps → out.new ≡ answer (granted ps) }
 {
-    let zeros = [0u8; 24];
-    let mut all = put_two(zeros, 0, tracks);
+    let mut all = [0u8; 24];
+    put_two(&mut all, 0, tracks as u16);
     all[2] = count as u8;
-    let mut i = 0;
-    while i < count {
-        let more = put_piece(all, 3 + 4 * i, pieces[i]);
-        all = more;
-        i += 1;
+    for (i, p) in pieces[..count].iter().enumerate() {
+        put_piece(&mut all, 3 + 4 * i, *p);
     }
-    rows::copy(&all, out);
+    out.copy_from_slice(&all);
 }

@@ -4,15 +4,15 @@ use mathlib.Core.Bool.{true, false}
 use mathlib.Core.Logic.{⊎_elim}
 use mathlib.Core.List.{List}
 use Prim.Native.Nat.{ℕ, ◌+◌, ◌-◌, ◌*◌, ◌/◌, ◌%◌, ◌^◌, ◌≤◌, ◌<◌}
-use native.Mathlib.Decide.{ℕ_discrete}
 use native.Mathlib.Nat.{le_refl}
 use native.Mathlib.Omega.{arith}
 use lib.Bits.{bit_and, bit_or}
 use lib.Count.{count_trailing_zeros}
+use lib.ListN.{get_or}
 use Rattle.bitmap.specs.Map.{NextRun, bit_at, free_bit}
-use Rattle.bitmap.specs.Steps.{Ending, First, RestOfWord, FirstUnlike, Word}
+use Rattle.bitmap.specs.Steps.{Ending, First, RestOfWord, FirstUnlike, NoneFree, Word, WordsAlike}
 use Rattle.bitmap.proofs.Bits.{all_ones, and_bit, le_or_lt, one_less, trailing_one, trailing_small, trailing_zero, zero_bit}
-use Rattle.bitmap.proofs.Near.{filled_high, upto_start}
+use Rattle.bitmap.proofs.Near.{filled_high, rest_none, upto_start}
 use Rattle.bitmap.proofs.Walk.{next_run_law}
 use Rattle.bitmap.proofs.Words.{in_word}
 
@@ -23,57 +23,57 @@ word_own m n t e x l s r =
     record {
       part = record { clear = λ j h. r.clear j (omega arith); shown = r.shown };
       before = λ i u v w. absurd (omega arith);
-      none = λ z. absurd (s z);
-      some = λ _. l;
+      to = l;
+      some = s;
     }
 
--- or those behind it, passed over up to word v, which is y
-module _ (m : List ℕ) (n t e v y x : ℕ) (p : FirstUnlike m 0 (t / 64 + 1) e v y) (z : x ≡ 0) (r : RestOfWord m n t x) where
-  zeros : (i : ℕ) → t ≤ i → i < n → i < 64 * v → free_bit m i ≡ 0
-  zeros i u l h =
+-- or one behind it
+module _ (m : List ℕ) (n t e x : ℕ) (z : x ≡ 0) (r : RestOfWord m n t x) where
+  zeros : (v : ℕ) → WordsAlike m 0 (t / 64 + 1) v → (i : ℕ) → t ≤ i → i < n → i < 64 * v → free_bit m i ≡ 0
+  zeros v p i u l h =
       ⊎_elim
-      (λ g. sym (in_word m (i / 64) i refl) ∙ ap (λ (y : ℕ). bit_at y (i % 64)) (p.before (i / 64) g (omega arith)) ∙ zero_bit (i % 64))
+      (λ g. sym (in_word m (i / 64) i refl) ∙ ap (λ (y : ℕ). bit_at y (i % 64)) (p (i / 64) g (omega arith)) ∙ zero_bit (i % 64))
       (λ g. sym (r.shown i u l (omega arith)) ∙ ap (λ (y : ℕ). bit_at y (i % 64)) z ∙ zero_bit (i % 64))
       (le_or_lt (t / 64 + 1) (i / 64))
 
-  pub word_later : n ≤ 64 * e → Word m n t e v y
-  word_later k =
+  pub word_later : (v : ℕ) → FirstUnlike m 0 (t / 64 + 1) e v → Word m n t e v (get_or m v 0)
+  word_later v p =
       let f = p.from in
       record {
-        part = record {
-          clear = λ j g. absurd (omega arith);
-          shown = λ i u l g.
-              elim (ℕ_discrete y 0) [
-                | yes q ↦ (let w = p.none q in absurd (omega arith))
-                | no q ↦ ap (λ (x : ℕ). bit_at x (i % 64)) (p.found q).1 ∙ in_word m v i g
-              ];
-        };
-        before = zeros;
-        none = λ q. let w = p.none q in omega arith;
-        some = λ q. (p.found q).0;
+        part = record { clear = λ j g. absurd (omega arith); shown = λ i u l g. in_word m v i g };
+        before = zeros v p.before;
+        to = p.to;
+        some = p.unlike;
       }
+
+  pub word_none : n ≤ 64 * e → WordsAlike m 0 (t / 64 + 1) e → NoneFree m t n
+  word_none k p i u l = zeros e p i u l (omega arith)
 
 -- ---- the first free track
 
-pub no_run : (m : List ℕ) (n t : ℕ) → First m true t n n → NextRun m n t n n
-no_run m n t f =
-    next_run_law m n t n n f
-    (record { from = le_refl n; to = le_refl n; before = λ i u v. absurd (omega arith); here = λ h. absurd (omega arith) })
+pub no_run : (m : List ℕ) (n t : ℕ) → First m true t n n → NextRun m n t n n × RestOfWord m n n 0
+no_run m n t f = (
+  next_run_law m n t n n f
+      (record { from = le_refl n; to = le_refl n; before = λ i u v. absurd (omega arith); here = λ h. absurd (omega arith) }),
+  rest_none m n n (le_refl n),
+)
+
+-- the run is from track `from` up to `to`
+pub run_is : (m : List ℕ) (n t a from to x : ℕ) → First m true t n a → from ≡ a → First m false a n to × RestOfWord m n to x → NextRun m n t from to × RestOfWord m n to x
+run_is m n t a from to x f e s = (rw e (next_run_law m n t a to f s.0), s.1)
 
 pub first_end : (m : List ℕ) (n t : ℕ) → n ≤ t → t ≤ n → First m true t n n
 first_end m n t h l = record { from = l; to = le_refl n; before = λ i u v. absurd (omega arith); here = λ g. absurd (omega arith) }
 
-pub first_none : (m : List ℕ) (n t e w y : ℕ) → Word m n t e w y → y ≡ 0 → t ≤ n → First m true t n n
-first_none m n t e w y p z l =
-    let k = p.none z in
-    record { from = l; to = le_refl n; before = λ i u v. p.before i u v (omega arith); here = λ g. absurd (omega arith) }
+pub first_none : (m : List ℕ) (n t : ℕ) → NoneFree m t n → t ≤ n → First m true t n n
+first_none m n t p l = record { from = l; to = le_refl n; before = p; here = λ g. absurd (omega arith) }
 
-module _ (m : List ℕ) (n t e w y : ℕ) (p : Word m n t e w y) (some : y ≡ 0 → ⊥) (fits : y < 2 ^ 64) where
+module _ (m : List ℕ) (n t e w y : ℕ) (p : Word m n t e w y) (fits : y < 2 ^ 64) where
   abbrev start : ℕ
   start = count_trailing_zeros 64 y
 
   start_lt : start < 64
-  start_lt = trailing_small 64 y fits some
+  start_lt = trailing_small 64 y fits p.some
 
   from_t : t ≤ 64 * w + start
   from_t =
@@ -109,38 +109,36 @@ module _ (m : List ℕ) (n t e w y : ℕ) (p : Word m n t e w y) (some : y ≡ 0
       record {
         before = λ i u v h. absurd (omega arith);
         shown = λ i u v h. p.part.shown i (omega arith) v h;
-        same = λ j h. filled_high y some fits j (omega arith);
-        filled = λ j h. upto_start y some fits j (omega arith);
+        same = λ j h. filled_high y p.some fits j (omega arith);
+        filled = λ j h. upto_start y p.some fits j (omega arith);
       }
 
   -- or in a later one: all tracks of the words between are free
 
-  module _ (full : bit_or y (y - 1) ≡ 0xffff_ffff_ffff_ffff) (v z : ℕ) (q : FirstUnlike m 0xffff_ffff_ffff_ffff (w + 1) e v z) where
-    ones : (i : ℕ) → 64 * w + start ≤ i → i < n → i < 64 * v → free_bit m i ≡ 1
-    ones i u l h =
+  module _ (full : bit_or y (y - 1) ≡ 0xffff_ffff_ffff_ffff) where
+    ones : (v : ℕ) → WordsAlike m 0xffff_ffff_ffff_ffff (w + 1) v → (i : ℕ) → 64 * w + start ≤ i → i < n → i < 64 * v → free_bit m i ≡ 1
+    ones v q i u l h =
         let f = from_t in
         ⊎_elim
-        (λ g. sym (in_word m (i / 64) i refl) ∙ ap (λ (x : ℕ). bit_at x (i % 64)) (q.before (i / 64) g (omega arith)) ∙ all_ones (i % 64) (omega arith))
+        (λ g. sym (in_word m (i / 64) i refl) ∙ ap (λ (x : ℕ). bit_at x (i % 64)) (q (i / 64) g (omega arith)) ∙ all_ones (i % 64) (omega arith))
         (λ g.
-        sym (p.part.shown i (omega arith) l (omega arith)) ∙ sym (filled_high y some fits (i % 64) (omega arith))
+        sym (p.part.shown i (omega arith) l (omega arith)) ∙ sym (filled_high y p.some fits (i % 64) (omega arith))
         ∙ ap (λ (x : ℕ). bit_at x (i % 64)) full ∙ all_ones (i % 64) (omega arith))
         (le_or_lt (w + 1) (i / 64))
 
-    pub ending_later : (z ≡ 0xffff_ffff_ffff_ffff → ⊥) → Ending m n (64 * w + start) v z z
-    ending_later o =
+    pub ending_later : (v : ℕ) → FirstUnlike m 0xffff_ffff_ffff_ffff (w + 1) e v → Ending m n (64 * w + start) v (get_or m v 0) (get_or m v 0)
+    ending_later v q =
         let s = start_lt in
         let f = q.from in
         record {
-          before = ones;
-          shown = λ i u l h. ap (λ (x : ℕ). bit_at x (i % 64)) (q.found o).1 ∙ in_word m v i h;
+          before = ones v q.before;
+          shown = λ i u l h. in_word m v i h;
           same = λ j h. refl;
           filled = λ j h. absurd (omega arith);
         }
 
-    pub ending_none : z ≡ 0xffff_ffff_ffff_ffff → n ≤ 64 * e → 64 * w + start < n → First m false (64 * w + start) n n
-    ending_none o k l =
-        let h = q.none o in
-        record { from = omega arith; to = le_refl n; before = λ i u g. ones i u g (omega arith); here = λ g. absurd (omega arith) }
+    pub ending_none : WordsAlike m 0xffff_ffff_ffff_ffff (w + 1) e → n ≤ 64 * e → 64 * w + start < n → First m false (64 * w + start) n n
+    ending_none q k l = record { from = omega arith; to = le_refl n; before = λ i u g. ones e q i u g (omega arith); here = λ g. absurd (omega arith) }
 
 -- ---- the first track that is not free, by one more
 

@@ -2,19 +2,22 @@
 use mathlib.Core.Path.{◌≡◌, refl, sym, ap, ◌∙◌, subst}
 use mathlib.Core.Bool.{Bool, true, false}
 use mathlib.Core.Logic.{⊎_elim}
-use mathlib.Core.List.{List}
+use mathlib.Core.List.{List, ◌++◌}
 use Prim.Native.Nat.{ℕ, ◌+◌, ◌-◌, ◌*◌, ◌/◌, ◌%◌, ◌^◌, ◌≤◌, ◌<◌}
 use native.Mathlib.Decide.{ℕ_discrete}
 use native.Mathlib.Omega.{arith}
-use borrow.Author.Tests.{lt-ltb}
-use lib.Dec.{ltb}
+use borrow.Author.Rules.{rules}
+use borrow.Rule.Slice.PartMut.{put_mid}
+use Rattle.std.proofs.lemmas.List.{places}
+use Rattle.std.specs.Option.{MatchOption}
+use Rattle.std.proofs.Common.{Option, Some, None}
 use lib.Bits.{and_le_l, bit_and, bit_or, bit_xor, xor_self}
-use lib.ListN.{length, get_or, set, length-set}
-use lib.Seq.{get_or-set_same, get_or-set_other}
+use lib.ListN.{length, get_or, set, take, drop, replicate, length-append, length-drop, length-replicate, length-set, length-take, get_or-append, get_or-replicate}
+use lib.Seq.{get_or-drop, get_or-set_same, get_or-set_other, get_or-take}
 use Rattle.model.specs.Basics.{bit}
 use Rattle.model.proofs.Lists.{clash}
-use Rattle.bitmap.specs.Map.{AllFree, Hit, Made, Taken, bit_at, free_bit}
-use Rattle.bitmap.specs.Steps.{WordsAlike, FirstUnlike, WordAt, block, flipped}
+use Rattle.bitmap.specs.Map.{AllFree, FreedBelow, Hit, Made, Taken, bit_at, free_bit}
+use Rattle.bitmap.specs.Steps.{WordsAlike, FirstUnlike, block, flipped}
 use Rattle.bitmap.proofs.Bits.{all_ones, and_bit, block_high, block_in, block_low, block_lt, lacks, le_or_lt, not_bit, or_bit, or_none_lem, xor_bit, xor_none, zero_bit}
 
 -- the mask of the n tracks from t on, in t's word
@@ -111,26 +114,7 @@ module _ (m : List ℕ) (t n : ℕ) (h : t / 64 < length m) (k : t % 64 + n ≤ 
       let x = get_or m (t / 64) 0 in
       made_chunk 1 m t n (bit_or x (mask t n)) h k (λ p o. omega (arith, or_bit x (mask t n) p)) (λ p o. omega (arith, or_bit x (mask t n) p))
 
-pub free_more : (m m' : List ℕ) (s t e : ℕ) → AllFree m s t → Made 0 m m' s t → AllFree m' t e → AllFree m s e
-free_more m m' s t e p c q j a b = ⊎_elim (λ g. sym (c.after j g) ∙ q j g b) (λ g. p j a g) (le_or_lt t j)
-
-pub hit_before : (m m' : List ℕ) (s t e : ℕ) → s ≤ t → Made 0 m m' s t → Hit m' t e → Hit m s e
-hit_before m m' s t e a c h =
-    let f = h.from in
-    record { at = h.at; from = omega arith; below = h.below; off = sym (c.after h.at f) ∙ h.off }
-
 -- ---- a word, whole
-
-pub word_free : (m : List ℕ) (i : ℕ) → get_or m i 0 ≡ 0xffff_ffff_ffff_ffff → AllFree m (64 * i) (64 * i + 64)
-word_free m i e j u v = sym (in_word m i j (omega arith)) ∙ ap (λ (x : ℕ). bit_at x (j % 64)) e ∙ all_ones (j % 64) (omega arith)
-
-pub word_taken : (m : List ℕ) (i : ℕ) → i < length m → Made 0 m (set m i 0) (64 * i) (64 * i + 64)
-word_taken m i h = record {
-  long = length-set m i 0;
-  before = λ j u. store_off m i 0 j (λ e. absurd (omega arith));
-  inside = λ j u v. store_in m i 0 j h (omega arith) ∙ zero_bit (j % 64);
-  after = λ j u. store_off m i 0 j (λ e. absurd (omega arith));
-}
 
 full_block : block 0 64 ≡ 0xffff_ffff_ffff_ffff
 unfolding block
@@ -145,6 +129,85 @@ word_hit m i e h l f n =
     (λ z.
     let y : bit_and (get_or m i 0) 0xffff_ffff_ffff_ffff ≡ 0xffff_ffff_ffff_ffff = ap (λ (x : ℕ). bit_and (get_or m x 0) 0xffff_ffff_ffff_ffff) (sym w) ∙ ap (bit_and (get_or m (64 * i / 64) 0)) (sym b) ∙ z ∙ b in
     n (omega (arith, and_le_l (get_or m i 0) 0xffff_ffff_ffff_ffff)))
+
+-- ---- words lent
+
+-- `&map[w..w + n]` is lent
+pub lent_word : (m : List ℕ) (w n i : ℕ) → i < n → get_or (take n (drop w m)) i 0 ≡ get_or m (w + i) 0
+lent_word m w n i h = get_or-take n (drop w m) i 0 h ∙ get_or-drop w m i 0
+
+pub lent_long : (m : List ℕ) (w n : ℕ) → w + n ≤ length m → length (take n (drop w m)) ≡ n
+lent_long m w n h = length-take n (drop w m) ∙ omega (arith, length-drop w m)
+
+-- ---- the words from w up to v, lent to be written: what stands in the map when they are given back
+
+module _ (m ys : List ℕ) (w v : ℕ) (h : w ≤ v) (l : v ≤ length m) (q : length ys ≡ v - w) where
+  abbrev written : List ℕ
+  written = put_mid w (v - w) m ys
+
+  long_written : length written ≡ length m
+  long_written =
+      length-append (take w m) (ys ++ drop (v - w) (drop w m))
+      ∙ omega (arith, length-take w m, length-append ys (drop (v - w) (drop w m)), length-drop (v - w) (drop w m), length-drop w m)
+
+  written_in : (i : ℕ) → w ≤ i → i < v → get_or written i 0 ≡ get_or ys (i - w) 0
+  written_in i a b = search (rules, places)
+
+  written_off : (i : ℕ) → (w ≤ i → i < v → ⊥) → get_or written i 0 ≡ get_or m i 0
+  written_off i n = ⊎_elim (λ a. ⊎_elim (λ b. search (rules, places)) (λ b. absurd (n a b)) (le_or_lt v i)) (λ a. search (rules, places)) (le_or_lt w i)
+
+  written_bit : (j : ℕ) → (w ≤ j / 64 → j / 64 < v → ⊥) → free_bit written j ≡ free_bit m j
+  written_bit j n =
+      sym (in_word written (j / 64) j refl) ∙ ap (λ (x : ℕ). bit_at x (j % 64)) (written_off (j / 64) n) ∙ in_word m (j / 64) j refl
+
+-- taken one after the other: xs lent, the first i are done
+pub record Swept (xs ys : List ℕ) (i : ℕ) : Type 0 where
+  pub full : (k : ℕ) → k < i → get_or xs k 0 ≡ 0xffff_ffff_ffff_ffff
+  pub clear : (k : ℕ) → k < i → get_or ys k 0 ≡ 0
+  pub rest : (k : ℕ) → i ≤ k → get_or ys k 0 ≡ get_or xs k 0
+
+pub swept_none : (xs : List ℕ) → Swept xs xs 0
+swept_none xs = record { full = λ k u. absurd (omega arith); clear = λ k u. absurd (omega arith); rest = λ k u. refl }
+
+pub swept_more : (xs ys : List ℕ) (i : ℕ) → i < length ys → get_or ys i 0 ≡ 0xffff_ffff_ffff_ffff → Swept xs ys i → Swept xs (set ys i 0) (i + 1)
+swept_more xs ys i h e s = record {
+  full = λ k u. elim (ℕ_discrete k i) [ yes q ↦ rw q (sym (s.rest i (omega arith)) ∙ e) | no q ↦ s.full k (omega arith) ];
+  clear = λ k u. elim (ℕ_discrete k i) [ yes q ↦ rw q (get_or-set_same ys i 0 0 h) | no q ↦ get_or-set_other ys i k 0 0 q ∙ s.clear k (omega arith) ];
+  rest = λ k u. get_or-set_other ys i k 0 0 (λ q. absurd (omega arith)) ∙ s.rest k (omega arith);
+}
+
+module _ (m ys : List ℕ) (w v i : ℕ) (h : w ≤ v) (l : v ≤ length m) (q : length ys ≡ v - w) (s : Swept (take (v - w) (drop w m)) ys i) where
+  swept_free : v - w ≤ i → AllFree m (64 * w) (64 * v)
+  swept_free k j a b =
+      let e : w + (j / 64 - w) ≡ j / 64 = omega arith in
+      let f : get_or m (j / 64) 0 ≡ 0xffff_ffff_ffff_ffff = rw (← e, ← lent_word m w (v - w) (j / 64 - w) (omega arith)) (s.full (j / 64 - w) (omega arith)) in
+      sym (in_word m (j / 64) j refl) ∙ rw f (all_ones (j % 64) (omega arith))
+
+  swept_made : v - w ≤ i → Made 0 m (written m ys w v h l q) (64 * w) (64 * v)
+  swept_made k = record {
+    long = long_written m ys w v h l q;
+    before = λ j a. written_bit m ys w v h l q j (λ b c. absurd (omega arith));
+    inside = λ j a b.
+        let f : get_or (written m ys w v h l q) (j / 64) 0 ≡ 0 = written_in m ys w v h l q (j / 64) (omega arith) (omega arith) ∙ s.clear (j / 64 - w) (omega arith) in
+        sym (in_word (written m ys w v h l q) (j / 64) j refl) ∙ ap (λ (x : ℕ). bit_at x (j % 64)) f ∙ zero_bit (j % 64);
+    after = λ j a. written_bit m ys w v h l q j (λ b c. absurd (omega arith));
+  }
+
+  pub swept_all : v - w ≤ i → Taken m (put_mid w (v - w) m ys) (64 * w) (64 * v) true
+  swept_all k = record { long = long_written m ys w v h l q; were = λ _. swept_free k; made = λ _. swept_made k; hit = λ r. clash refl r }
+
+  -- one is not free
+  pub swept_hit : (x : ℕ) → i < v - w → get_or ys i 0 < 2 ^ 64 → (get_or ys i 0 ≡ 0xffff_ffff_ffff_ffff → ⊥) → Taken m (put_mid w (v - w) m (set ys i x)) (64 * w) (64 * v) false
+  swept_hit x k f n =
+      let e : get_or ys i 0 ≡ get_or m (w + i) 0 = s.rest i (omega arith) ∙ lent_word m w (v - w) i k in
+      let t = word_hit m (w + i) (64 * v) (omega arith) (omega arith) (rw (← e) f) (λ z. n (e ∙ z)) in
+      let a = t.from in
+      record {
+        long = long_written m (set ys i x) w v h l (length-set ys i x ∙ q);
+        were = λ r. clash r refl;
+        made = λ r. clash r refl;
+        hit = λ _. record { at = t.at; from = omega arith; below = t.below; off = t.off };
+      }
 
 -- ---- the first tracks and the last, then those between
 
@@ -276,17 +339,15 @@ plain_tracks m b p w v q h j u z = rw (h (j / 64) (omega arith) (omega arith), q
 -- ---- words alike
 
 module _ (m : List ℕ) (p w : ℕ) where
-  pub alike_none : WordsAlike m p w w
-  alike_none i u v = absurd (omega arith)
-
   pub alike_more : (r : ℕ) → WordsAlike m p w r → get_or m r 0 ≡ p → WordsAlike m p w (r + 1)
   alike_more r h e i u v = elim (ℕ_discrete i r) [ yes q ↦ rw q e | no q ↦ h i u (omega arith) ]
 
-  -- they differ from p in no bit
-  pub alike_turn : (i x : ℕ) → (x ≡ 0 → WordsAlike m p w (w + i)) → bit_or x (bit_xor (get_or m (w + i) 0) p) ≡ 0 → WordsAlike m p w (w + (i + 1))
-  alike_turn i x h z j u v =
-      let b = or_none_lem x (bit_xor (get_or m (w + i) 0) p) z in
-      alike_more (w + i) (h b.0) (xor_none (get_or m (w + i) 0) p b.1) j u (omega arith)
+  -- those lent from word w on differ from p in no bit
+  pub alike_turn : (n i x : ℕ) → i < n → (x ≡ 0 → WordsAlike m p w (w + i)) → bit_or x (bit_xor (get_or (take n (drop w m)) i 0) p) ≡ 0 → WordsAlike m p w (w + (i + 1))
+  alike_turn n i x l h z j u v =
+      let b = or_none_lem x (bit_xor (get_or (take n (drop w m)) i 0) p) z in
+      let e : get_or m (w + i) 0 ≡ p = sym (lent_word m w n i l) ∙ xor_none (get_or (take n (drop w m)) i 0) p b.1 in
+      alike_more (w + i) (h b.0) e j u (omega arith)
 
   pub alike_four : (r : ℕ) → WordsAlike m p w r
       → bit_or (bit_or (bit_xor (get_or m r 0) p) (bit_xor (get_or m (r + 1) 0) p)) (bit_or (bit_xor (get_or m (r + 2) 0) p) (bit_xor (get_or m (r + 3) 0) p)) ≡ 0
@@ -300,44 +361,31 @@ module _ (m : List ℕ) (p w : ℕ) where
       let three : WordsAlike m p w (r + 3) = λ i u v. alike_more (r + 2) two (xor_none _ p high.0) i u (omega arith) in
       λ i u v. alike_more (r + 3) three (xor_none _ p high.1) i u (omega arith)
 
-  -- the first that is not
-  pub unlike_here : (e r x : ℕ) → w ≤ r → r < e → WordsAlike m p w r → x ≡ get_or m r 0 → (x ≡ p → ⊥) → FirstUnlike m p w e r x
-  unlike_here e r x f l h q n = record { from = f; before = h; found = λ _. (l, q); none = λ z. absurd (n z) }
+  alike_on : (e v : ℕ) → WordsAlike m p w v → WordsAlike m p v e → WordsAlike m p w e
+  alike_on e v h q i u z = ⊎_elim (λ k. q i k z) (λ k. h i u k) (le_or_lt v i)
 
-  pub unlike_none : (e : ℕ) → w ≤ e → WordsAlike m p w e → FirstUnlike m p w e e p
-  unlike_none e f h = record { from = f; before = h; found = λ n. absurd (n refl); none = λ _. refl }
-
-  pub unlike_on : (e v r x : ℕ) → w ≤ v → WordsAlike m p w v → FirstUnlike m p v e r x → FirstUnlike m p w e r x
-  unlike_on e v r x f h q =
+  pub unlike_on : (e v : ℕ) (o : Option ℕ) → w ≤ v → WordsAlike m p w v → MatchOption o (WordsAlike m p v e) (FirstUnlike m p v e)
+      → MatchOption o (WordsAlike m p w e) (FirstUnlike m p w e)
+  unlike_on e v None f h q = alike_on e v h q
+  unlike_on e v (Some r) f h q =
       let g = q.from in
-      record {
-        from = omega arith;
-        before = λ i u z. ⊎_elim (λ k. q.before i k z) (λ k. h i u k) (le_or_lt v i);
-        found = q.found;
-        none = q.none;
-      }
+      record { from = omega arith; to = q.to; before = alike_on r v h q.before; unlike = q.unlike }
 
 -- ---- the map at the beginning
 
-pub word_all : (a n : ℕ) → a + 64 ≤ n → WordAt a n 0xffff_ffff_ffff_ffff
-word_all a n h j u = all_ones j (omega arith) ∙ sym (ap bit (lt-ltb (a + j) n (omega arith)))
-
--- the first w words say that the tracks below n are free
-abbrev pub Upto : List ℕ → ℕ → ℕ → Type 0
-Upto m w n = (t : ℕ) → t < 64 * w → free_bit m t ≡ bit (ltb t n)
-
-pub upto_more : (m : List ℕ) (w n r : ℕ) → w < length m → Upto m w n → WordAt (w * 64) n r → Upto (set m w r) (w + 1) n
-upto_more m w n r h p q t u =
-    ⊎_elim
-    (λ g.
-    let e : w * 64 + t % 64 ≡ t = omega arith in
-    store_in m w r t h (omega arith) ∙ q (t % 64) (omega arith) ∙ ap (λ (x : ℕ). bit (ltb x n)) e)
-    (λ g. store_off m w r t (λ z. absurd (omega arith)) ∙ p t g)
-    (le_or_lt (64 * w) t)
-
--- w words of ones cover n tracks
-pub upto_ones : (m : List ℕ) (w l n : ℕ) → w ≤ l → n ≤ 64 * w → Upto m w (64 * l) → (t : ℕ) → t < n → free_bit m t ≡ 1
-upto_ones m w l n h k p t u = p t (omega arith) ∙ ap bit (lt-ltb t (64 * l) (omega arith))
+-- k words of ones cover n tracks
+pub freed : (m s : List ℕ) (k n : ℕ) → k ≤ length m → n ≤ 64 * k → s ≡ replicate (length (take k m)) 0xffff_ffff_ffff_ffff → FreedBelow m (s ++ drop k m) n
+freed m s k n h l e =
+    let long : length s ≡ k = ap length e ∙ length-replicate (length (take k m)) 0xffff_ffff_ffff_ffff ∙ length-take k m ∙ omega arith in
+    record {
+      long = length-append s (drop k m) ∙ omega (arith, length-drop k m);
+      below = λ t u.
+          let w : t / 64 < length s = omega arith in
+          let v : t / 64 < length (take k m) = omega (arith, length-take k m) in
+          let q : get_or (s ++ drop k m) (t / 64) 0 ≡ 0xffff_ffff_ffff_ffff =
+          get_or-append s (drop k m) 0 (t / 64) w ∙ rw e (get_or-replicate (length (take k m)) (t / 64) 0xffff_ffff_ffff_ffff 0 v) in
+          sym (in_word (s ++ drop k m) (t / 64) t refl) ∙ rw q (all_ones (t % 64) (omega arith));
+    }
 
 -- ---- tracks that lie in one word
 

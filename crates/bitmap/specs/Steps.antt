@@ -34,24 +34,28 @@ pub record RestOfWord (m : List ℕ) (n t x : ℕ) : Type 0 where
 abbrev pub WordsAlike : List ℕ → ℕ → ℕ → ℕ → Type 0
 WordsAlike m p w r = (i : ℕ) → w ≤ i → i < r → get_or m i 0 ≡ p
 
--- of the words from w on and below e the one at r, x, is the first that is not p; where there is none, r is e and x is p
-pub record FirstUnlike (m : List ℕ) (p w e r x : ℕ) : Type 0 where
+-- of the words from w on and below e the one at r is the first that is not p
+pub record FirstUnlike (m : List ℕ) (p w e r : ℕ) : Type 0 where
   pub from : w ≤ r
+  pub to : r < e
   pub before : WordsAlike m p w r
-  pub found : (x ≡ p → ⊥) → (r < e) × (x ≡ get_or m r 0)
-  pub none : x ≡ p → r ≡ e
+  pub unlike : get_or m r 0 ≡ p → ⊥
 
 -- y shows the tracks from t on and below n that lie in word w, at their places in it; no bits before t
 pub record Part (m : List ℕ) (n t w y : ℕ) : Type 0 where
   pub clear : (j : ℕ) → 64 * w + j < t → bit_at y j ≡ 0
   pub shown : (i : ℕ) → t ≤ i → i < n → i / 64 ≡ w → bit_at y (i % 64) ≡ free_bit m i
 
--- word w, below word e, is the first with a free track from t on and below n, and y shows these; y is 0 where there is none
+-- no track from t on and below n is free
+abbrev pub NoneFree : List ℕ → ℕ → ℕ → Type 0
+NoneFree m t n = (i : ℕ) → t ≤ i → i < n → free_bit m i ≡ 0
+
+-- word w, below word e, is the first that may have a free track from t on and below n, and y, which is not 0, shows those of it
 pub record Word (m : List ℕ) (n t e w y : ℕ) : Type 0 where
   pub part : Part m n t w y
   pub before : (i : ℕ) → t ≤ i → i < n → i < 64 * w → free_bit m i ≡ 0
-  pub none : y ≡ 0 → n ≤ 64 * w
-  pub some : (y ≡ 0 → ⊥) → w < e
+  pub to : w < e
+  pub some : y ≡ 0 → ⊥
 
 -- the tracks from a on are free up to word w, whose tracks y shows; `low` is y from track a on, and all ones before
 pub record Ending (m : List ℕ) (n a w y low : ℕ) : Type 0 where

@@ -3,9 +3,9 @@
 // index of a word is made of one where the map is read.
 #![tactic(auto)]
 
-ghost use Rattle.std.specs.Prelude.{◌≡◌, false, true, List, ℕ, ◌+◌, ◌-◌, ◌*◌, ◌/◌, ◌%◌, ◌≤◌, ◌<◌, min, length};
+ghost use Rattle.std.specs.Prelude.{◌≡◌, false, true, List, ℕ, ◌+◌, ◌-◌, ◌*◌, ◌/◌, ◌%◌, ◌≤◌, ◌<◌, min, length, MatchOption};
 ghost use Rattle.bitmap.specs.Map.{bit_at, free_from, is_free, FreedBelow, Taken, Given, NextRun};
-ghost use Rattle.bitmap.specs.Steps.{WordsAlike, Counts, Ending, First, RestOfWord, Starts, FirstUnlike, Word, bit_before, block, flipped, runs_below};
+ghost use Rattle.bitmap.specs.Steps.{WordsAlike, Counts, Ending, First, RestOfWord, Starts, FirstUnlike, NoneFree, Word, bit_before, block, flipped, runs_below};
 
 const ALL: u64 = 0xffff_ffff_ffff_ffff;
 
@@ -22,8 +22,7 @@ fn chunk(t: u16, e: u16) -> u16
     requires { t < e }
     ensures { result ≡ min (64 - t % 64) (e - t) }
 {
-    let room = 64 - t % 64;
-    if room < e - t { room } else { e - t }
+    (64 - t % 64).min(e - t)
 }
 
 // Makes the tracks below n free, by whole words: those from n on are not looked at. A small volume costs a few words.
@@ -31,11 +30,7 @@ pub fn free_below(map: &mut [u64], n: u16)
     requires { (length map.old ≤ 1024) × (n ≤ 64 * length map.old) }
     ensures { FreedBelow map.old map.new n }
 {
-    let mut w: usize = 0;
-    while w * 64 < n as usize {
-        map[w] = ALL;
-        w += 1;
-    }
+    map[..usize::from(n).div_ceil(64)].fill(ALL);
 }
 
 // Takes the tracks from s up to e, which lie in one word: true if all of them were free.
@@ -43,7 +38,7 @@ fn take_near(map: &mut [u64], s: u16, e: u16) -> bool
     requires { (s < e) × (s % 64 + (e - s) ≤ 64) × (s / 64 < length map.old) }
     ensures { Taken map.old map.new s e result }
 {
-    let w = (s / 64) as usize;
+    let w = usize::from(s / 64);
     let m = mask(s % 64, e - s);
     let x = map[w];
     if x & m != m {
@@ -58,13 +53,11 @@ fn take_words(map: &mut [u64], w: usize, v: usize) -> bool
     requires { (w ≤ v) × (v ≤ length map.old) }
     ensures { Taken map.old map.new (64 * w) (64 * v) result }
 {
-    let mut i = w;
-    while i < v {
-        if map[i] != ALL {
+    for word in &mut map[w..v] {
+        if *word != ALL {
             return false;
         }
-        map[i] = 0;
-        i += 1;
+        *word = 0;
     }
     true
 }
@@ -75,8 +68,8 @@ fn take_far(map: &mut [u64], s: u16, e: u16) -> bool
     requires { (s < e) × (s / 64 < (e - 1) / 64) × (e ≤ 64 * length map.old) }
     ensures { Taken map.old map.new s e result }
 {
-    let w = (s / 64) as usize;
-    let v = ((e - 1) / 64) as usize;
+    let w = usize::from(s / 64);
+    let v = usize::from((e - 1) / 64);
     let a = mask(s % 64, 64 - s % 64);
     let b = mask(0, (e - 1) % 64 + 1);
     let x = map[w];
@@ -105,11 +98,10 @@ fn give_near(map: &mut [u64], s: u16, e: u16)
     requires { (s < e) × (s % 64 + (e - s) ≤ 64) × (s / 64 < length map.old) }
     ensures { Given map.old map.new s e }
 {
-    let w = (s / 64) as usize;
-    map[w] = map[w] | mask(s % 64, e - s);
+    map[usize::from(s / 64)] |= mask(s % 64, e - s);
 }
 
-// The same for any number of tracks, word by word.
+// The same for any number of tracks, word by word. The tracks of a turn differ in number, so no range counts them.
 fn give_far(map: &mut [u64], s: u16, e: u16)
     requires { (s ≤ e) × (e ≤ 64 * length map.old) }
     ensures { Given map.old map.new s e }
@@ -117,8 +109,7 @@ fn give_far(map: &mut [u64], s: u16, e: u16)
     let mut t = s;
     while t < e {
         let n = chunk(t, e);
-        let w = (t / 64) as usize;
-        map[w] = map[w] | mask(t % 64, n);
+        map[usize::from(t / 64)] |= mask(t % 64, n);
         t += n;
     }
 }
@@ -128,13 +119,11 @@ pub fn give_range(map: &mut [u64], s: u16, e: u16)
     requires { (s ≤ e) × (e ≤ 64 * length map.old) }
     ensures { Given map.old map.new s e }
 {
-    if s < e {
-        if s / 64 == (e - 1) / 64 {
-            give_near(map, s, e);
-            return;
-        }
+    if s < e && s / 64 == (e - 1) / 64 {
+        give_near(map, s, e);
+    } else {
+        give_far(map, s, e);
     }
-    give_far(map, s, e);
 }
 
 // A word, or its complement.
@@ -145,7 +134,7 @@ fn flip(x: u64, free: bool) -> u64
 }
 
 // Tracks from the first up to the one behind the last.
-#[derive(Clone, Copy)]
+#[derive(Clone, Copy, Debug, PartialEq, Eq)]
 pub struct Span {
     pub from: u16,
     pub to: u16,
@@ -157,14 +146,13 @@ pub fn rest_of(map: &[u64], t: u16, n: u16) -> u64
     ensures { RestOfWord map.now n t result }
 {
     if t < n {
-        let w = (t / 64) as usize;
-        return map[w] & (ALL << (t % 64));
+        return map[usize::from(t / 64)] & (ALL << (t % 64));
     }
     0
 }
 
 // A run of free tracks, and the tracks behind it that lie in the word of its end.
-#[derive(Clone, Copy)]
+#[derive(Clone, Copy, Debug, PartialEq, Eq)]
 pub struct Ahead {
     pub from: u16,
     pub to: u16,
@@ -172,7 +160,7 @@ pub struct Ahead {
 }
 
 // A word of the map, by its number, and tracks of it.
-#[derive(Clone, Copy)]
+#[derive(Clone, Copy, Debug, PartialEq, Eq)]
 struct Place {
     at: usize,
     word: u64,
@@ -184,59 +172,49 @@ fn pass_fours(map: &[u64], w: usize, e: usize, plain: u64) -> usize
     requires { (w ≤ e) × (e ≤ length map.now) }
     ensures { (w ≤ result) × (result ≤ e) × WordsAlike map.now plain w result }
 {
-    let mut r = w;
-    while 4 <= e - r {
+    let fours = (e - w) / 4;
+    for k in 0..fours {
+        let r = w + 4 * k;
         let a = (map[r] ^ plain) | (map[r + 1] ^ plain);
         let b = (map[r + 2] ^ plain) | (map[r + 3] ^ plain);
         if a | b != 0 {
             return r;
         }
-        r += 4;
     }
-    r
+    w + 4 * fours
 }
 
-// The first word from word w on and below word e that is not `plain`; where there is none, e and `plain`. One by one.
-fn pass_ones(map: &[u64], w: usize, e: usize, plain: u64) -> Place
-    requires { (w ≤ e) × (e ≤ length map.now) }
-    ensures { FirstUnlike map.now plain w e result.at result.word }
+// The first word from word w on and below word e that is not `plain`. One by one.
+fn pass_ones(map: &[u64], w: usize, e: usize, plain: u64) -> Option<usize>
+    requires { e ≤ length map.now }
+    ensures { MatchOption result (WordsAlike map.now plain w e) (FirstUnlike map.now plain w e) }
 {
-    let mut r = w;
-    while r < e {
-        let x = map[r];
-        if x != plain {
-            return Place { at: r, word: x };
-        }
-        r += 1;
-    }
-    Place { at: e, word: plain }
+    (w..e).find(|&i| map[i] != plain)
 }
 
 // The same: most often it is the first word, and else a long way.
-fn pass(map: &[u64], w: usize, e: usize, plain: u64) -> Place
+fn pass(map: &[u64], w: usize, e: usize, plain: u64) -> Option<usize>
     requires { (w ≤ e) × (e ≤ length map.now) }
-    ensures { FirstUnlike map.now plain w e result.at result.word }
+    ensures { MatchOption result (WordsAlike map.now plain w e) (FirstUnlike map.now plain w e) }
 {
-    if w < e {
-        let x = map[w];
-        if x != plain {
-            return Place { at: w, word: x };
-        }
+    if w < e && map[w] != plain {
+        return Some(w);
     }
     let r = pass_fours(map, w, e, plain);
     pass_ones(map, r, e, plain)
 }
 
 // The first word from t's on and below word e in which a track from t on is free, and these tracks; x are those of t's own.
-fn word_ahead(map: &[u64], t: u16, e: usize, x: u64) -> Place
+fn word_ahead(map: &[u64], t: u16, e: usize, x: u64) -> Option<Place>
     requires { (t / 64 < e) × (e ≤ length map.now) }
-    ensures { (n : ℕ) → n ≤ 64 * e → RestOfWord map.now n t x → Word map.now n t e result.at result.word }
+    ensures { (n : ℕ) → n ≤ 64 * e → RestOfWord map.now n t x → MatchOption result (NoneFree map.now t n) (λ p. Word map.now n t e p.at p.word) }
 {
-    let w = (t / 64) as usize;
+    let w = usize::from(t / 64);
     if x != 0 {
-        return Place { at: w, word: x };
+        return Some(Place { at: w, word: x });
     }
-    pass(map, w + 1, e, 0)
+    let at = pass(map, w + 1, e, 0)?;
+    Some(Place { at, word: map[at] })
 }
 
 // The run from track `from` up to the first track of word w that is not free, the lowest bit that is not in `low`; y has the
@@ -246,7 +224,7 @@ fn stop_at(n: u16, from: u16, w: usize, y: u64, low: u64) -> Ahead
     ensures { (result.from ≡ from) × ((m : List ℕ) → Ending m n from w y low → First m false from n result.to × RestOfWord m n result.to result.rest) }
 {
     let z = low + 1;
-    let to = 64 * (w as u16) + u64::trailing_zeros(z) as u16;
+    let to = 64 * (w as u16) + z.trailing_zeros() as u16;
     if to < n {
         return Ahead {
             from,
@@ -266,45 +244,33 @@ fn run_far(map: &[u64], t: u16, n: u16, x: u64) -> Ahead
     requires { (t ≤ n) × (n ≤ 64 * length map.now) × RestOfWord map.now n t x }
     ensures { NextRun map.now n t result.from result.to × RestOfWord map.now n result.to result.rest }
 {
-    if t < n {} else {
-        return Ahead {
-            from: n,
-            to: n,
-            rest: 0,
-        };
-    }
-    let e = ((n - 1) / 64) as usize + 1;
-    let p = word_ahead(map, t, e, x);
-    let w = p.at;
-    let y = p.word;
-    if y == 0 {
-        return Ahead {
-            from: n,
-            to: n,
-            rest: 0,
-        };
-    }
-    let from = 64 * (w as u16) + u64::trailing_zeros(y) as u16;
-    if from < n {} else {
-        return Ahead {
-            from: n,
-            to: n,
-            rest: 0,
-        };
-    }
-    let low = y | (y - 1);
-    if low != ALL {
-        return stop_at(n, from, w, y, low);
-    }
-    let q = pass(map, w + 1, e, ALL);
-    let z = q.word;
-    if z != ALL {
-        return stop_at(n, from, q.at, z, z);
-    }
-    Ahead {
-        from,
+    let none = Ahead {
+        from: n,
         to: n,
         rest: 0,
+    };
+    if t >= n {
+        return none;
+    }
+    let e = usize::from((n - 1) / 64) + 1;
+    let Some(p) = word_ahead(map, t, e, x) else {
+        return none;
+    };
+    let from = 64 * (p.at as u16) + p.word.trailing_zeros() as u16;
+    if from >= n {
+        return none;
+    }
+    let low = p.word | (p.word - 1);
+    if low != ALL {
+        return stop_at(n, from, p.at, p.word, low);
+    }
+    match pass(map, p.at + 1, e, ALL) {
+        Some(w) => stop_at(n, from, w, map[w], map[w]),
+        None => Ahead {
+            from,
+            to: n,
+            rest: 0,
+        },
     }
 }
 
@@ -334,10 +300,10 @@ pub fn run_ahead(map: &[u64], t: u16, n: u16, x: u64) -> Ahead
         if y != ALL {
             let z = y + 1;
             let base = t - t % 64;
-            let to = base + u64::trailing_zeros(z) as u16;
+            let to = base + z.trailing_zeros() as u16;
             if to < n {
                 return Ahead {
-                    from: base + u64::trailing_zeros(x) as u16,
+                    from: base + x.trailing_zeros() as u16,
                     to,
                     rest: x & z,
                 };
@@ -360,11 +326,9 @@ fn eight_plain(map: &[u64], w: usize, plain: u64) -> bool
     requires { w + 8 ≤ length map.now }
     ensures { result ≡ true → WordsAlike map.now plain w (w + 8) }
 {
-    let mut unlike: u64 = 0;
-    let mut i: usize = 0;
-    while i < 8 {
-        unlike = unlike | (map[w + i] ^ plain);
-        i += 1;
+    let mut unlike = 0;
+    for word in &map[w..w + 8] {
+        unlike |= word ^ plain;
     }
     unlike == 0
 }
@@ -374,17 +338,15 @@ fn starts_in_eight(map: &[u64], w: usize, y: u64) -> usize
     requires { (w + 8 ≤ length map.now) × (bit_at y 63 ≡ bit_before map.now (64 * w)) }
     ensures { runs_below map.now (64 * w + 512) ≡ runs_below map.now (64 * w) + result }
 {
-    let mut count = u64::count_ones(starts(y, map[w])) as usize;
-    let mut i: usize = 1;
-    while i < 8 {
-        count += u64::count_ones(starts(map[w + i - 1], map[w + i])) as usize;
-        i += 1;
+    let mut count = starts(y, map[w]).count_ones() as usize;
+    for i in 1..8 {
+        count += starts(map[w + i - 1], map[w + i]).count_ones() as usize;
     }
     count
 }
 
 // How many runs start before a word, and the word before that.
-#[derive(Clone, Copy)]
+#[derive(Clone, Copy, Debug, PartialEq, Eq)]
 struct Counted {
     runs: usize,
     last: u64,
@@ -412,10 +374,8 @@ fn count_eights(map: &[u64], e: usize) -> Counted
     ensures { Counts map.now (64 * (e / 8 * 8)) result.runs result.last }
 {
     let mut c = Counted { runs: 0, last: 0 };
-    let mut w: usize = 0;
-    while 8 <= e - w {
-        c = count_eight(map, w, c);
-        w += 8;
+    for k in 0..e / 8 {
+        c = count_eight(map, 8 * k, c);
     }
     c
 }
@@ -427,11 +387,9 @@ fn count_rest(map: &[u64], w: usize, e: usize, from: Counted) -> Counted
 {
     let mut runs = from.runs;
     let mut last = from.last;
-    let mut i = w;
-    while i < e {
-        runs += u64::count_ones(starts(last, map[i])) as usize;
-        last = map[i];
-        i += 1;
+    for &word in &map[w..e] {
+        runs += starts(last, word).count_ones() as usize;
+        last = word;
     }
     Counted { runs, last }
 }
@@ -441,14 +399,14 @@ pub fn count_runs(map: &[u64], n: u16) -> usize
     requires { n ≤ 64 * length map.now }
     ensures { (result ≡ length (free_from map.now n 0)) × (result ≤ n) }
 {
-    let e = (n / 64) as usize;
+    let e = usize::from(n / 64);
     let c = count_rest(map, e / 8 * 8, e, count_eights(map, e));
     let k = n % 64;
     if k == 0 {
         return c.runs;
     }
     let s = starts(c.last, map[e]) << (64 - k);
-    c.runs + u64::count_ones(s) as usize
+    c.runs + s.count_ones() as usize
 }
 
 // Whether track t is free.
@@ -456,7 +414,5 @@ pub fn is_free(map: &[u64], t: u16) -> bool
     requires { t < 64 * length map.now }
     ensures { result ≡ is_free map.now t }
 {
-    let w = (t / 64) as usize;
-    let x = map[w];
-    (x >> (t % 64)) % 2 == 1
+    (map[usize::from(t / 64)] >> (t % 64)) % 2 == 1
 }

@@ -6,24 +6,29 @@ use mathlib.Core.List.{List, []}
 use Prim.Native.Nat.{ℕ}
 use lib.Dec.{T, eqb, eqb→eq}
 use lib.ListN.{length}
-use Rattle.open_table.specs.declared.Opening.{Opening}
+use Rattle.check_table.specs.declared.Verdict.{Verdict}
 use Rattle.model.specs.Basics.{map_option}
-use Rattle.model.specs.Choice.{SpaceOption}
 use Rattle.model.specs.Model.{Geometry, Volume}
 use Rattle.model.proofs.Lists.{and_l, and_r, true_is}
-use Rattle.rules.specs.Calls.{Amount, Call, Outcome, Request, allocate, allocate_stored, amount_of, dated, given, in_range, on_copy, option_for, preview, request, rule, with_attributes}
+use Rattle.rules.specs.Calls.{Call, Outcome, Request, allocate, allocate_stored, dated, given, in_range, on_copy, preview, request, rule, with_attributes}
 use Rattle.rules.specs.Dates.{expiry_from, with_expiry}
 use Rattle.rules.specs.Entries.{Lent, lent, perform, result_of, written}
 use Rattle.rules.specs.Reading.{read}
 use Rattle.rules.specs.Table.{good_name}
 use Rattle.rules.proofs.Dates.{expiry_long}
 use Rattle.dscb.specs.Forms.{geometry_of}
-use Rattle.open_table.specs.Opening.{Known, KnownMaps, Opened}
+use Rattle.open_table.specs.Opening.{Known, KnownMaps, OpenedAs}
 use Rattle.open_table.proofs.Calls.{AsksTable, answer_long, arguments_long, passed, preview_table}
 use Rattle.open_table.proofs.Numbers.{known}
 use Rattle.grant_space.specs.Asking.{Asking, Chooses, Foresees, choice}
-use Rattle.call_allocate.specs.Vetting.{Vets}
-use Rattle.call_allocate.proofs.Vetted.{choice_is, in_range_lem}
+use Rattle.choose_pieces.specs.Options.{to_option}
+use Rattle.request.specs.declared.Request.{Request as Asked}
+use Rattle.request.specs.Request.{to_amount}
+use Rattle.refusals.specs.Numbers.{number}
+use Rattle.refusals.specs.declared.Refusal.{Refusal}
+use Rattle.std.specs.Prelude.{Result, Err}
+use Rattle.call_allocate.specs.Vetting.{VettedAs, Vets}
+use Rattle.call_allocate.proofs.Vetted.{choice_is}
 
 module _ (t name at : List ℕ) (kind start amount sec option : ℕ) (expiry a : List ℕ) (ok : Bool)
     (lengths : ok ≡ (eqb (length a) 24 && (eqb (length name) 44 && eqb (length at) 52 && eqb (length expiry) 4))) where
@@ -46,15 +51,15 @@ module _ (t name at : List ℕ) (kind start amount sec option : ℕ) (expiry a :
   pub previews : AsksTable b (preview call) ok (good_name name) (λ v. on_copy v (own v))
   previews = preview_table allocates
 
-  module _ {o : Opening} (x : Opened t ok (good_name name) o) (z : o.refusal ≡ 0) where
+  module _ {o : Verdict} (x : OpenedAs t ok (good_name name) o) where
     abbrev g : Geometry
     g = geometry_of o.geometry
 
     w : Known t ok (good_name name) o
-    w = known x z
+    w = known x
 
     arguments : T (eqb (length name) 44 && eqb (length at) 52 && eqb (length expiry) 4)
-    arguments = arguments_long allocates x z
+    arguments = arguments_long allocates x
 
     pub attributes_fit : length at ≡ 52
     attributes_fit = let y = arguments in eqb→eq (length at) 52 (search (and_l, and_r) depth 4)
@@ -69,10 +74,10 @@ module _ (t name at : List ℕ) (kind start amount sec option : ℕ) (expiry a :
       on_date = ap (λ (u : Option (List ℕ)). given (map_option (λ s. with_attributes asked (with_expiry s at)) u) 14 (allocate_stored (read t))) date
 
       by_date : (n : ℕ) (b' : Lent) → result_of n b' ≡ written b (behind (read t)) → result_of n b' ≡ perform b call
-      by_date n b' e = passed allocates x z n b' (e ∙ sym (ap (written b) on_date))
+      by_date n b' e = passed allocates x n b' (e ∙ sym (ap (written b) on_date))
 
       preview_by_date : (n : ℕ) (b' : Lent) → result_of n b' ≡ written b (on_copy (read t) (behind (read t))) → result_of n b' ≡ perform b (preview call)
-      preview_by_date n b' e = passed previews x z n b' (e ∙ sym (ap (λ (u : Outcome). written b (on_copy (read t) u)) on_date))
+      preview_by_date n b' e = passed previews x n b' (e ∙ sym (ap (λ (u : Outcome). written b (on_copy (read t) u)) on_date))
 
     pub no_date_lem : expiry_from expiry ≡ none → result_of 14 b ≡ perform b call
     no_date_lem date = by_date none date 14 b refl
@@ -84,39 +89,39 @@ module _ (t name at : List ℕ) (kind start amount sec option : ℕ) (expiry a :
       abbrev at' : List ℕ
       at' = with_expiry s at
 
-      module _ {r : ℕ} (y : Vets t name kind start amount sec option r) where
-        pub refused_so : (r ≡ 0 → ⊥) → result_of r b ≡ perform b call
-        refused_so nz = by_date (some s) date r b (sym (ap (written b) (y.refused nz at' expiry)))
+      module _ {r : Result Asked Refusal} (y : Vets t name kind start amount sec option r) where
+        pub refused_so : (e : Refusal) → r ≡ Err e → result_of (number e) b ≡ perform b call
+        refused_so e p = by_date (some s) date (number e) b (sym (ap (written b) (y.refused e p at' expiry)))
 
-        pub preview_refused : (r ≡ 0 → ⊥) → result_of r b ≡ perform b (preview call)
-        preview_refused nz = preview_by_date (some s) date r b (sym (ap (λ (u : Outcome). written b (on_copy (read t) u)) (y.refused nz at' expiry)))
+        pub preview_refused : (e : Refusal) → r ≡ Err e → result_of (number e) b ≡ perform b (preview call)
+        preview_refused e p = preview_by_date (some s) date (number e) b (sym (ap (λ (u : Outcome). written b (on_copy (read t) u)) (y.refused e p at' expiry)))
 
-        module _ (none : r ≡ 0) (q : Amount) (told : some q ≡ amount_of kind start amount) (by : SpaceOption) (by-told : some by ≡ option_for q option) (sec' : ℕ) (same : sec' ≡ sec) where
-          -- of the request with its date among the attributes, wherever these stand
-          pub asking : {m n : List ℕ} → KnownMaps t m n g → (ds : List ℕ) → ds ≡ at' → Asking t m n name ds a g by q sec'
-          asking u ds eds =
-              let y' = arguments in
-              record {
-                is_taken = w.is_taken;
-                geometry_is = w.geometry_is;
-                shown = u.shown;
-                map_fits = u.map_fits;
-                long_slots = u.long_slots;
-                long_answer = answer_long allocates x z;
-                long_name = eqb→eq (length name) 44 (search (and_l, and_r) depth 4);
-                long_attributes = ap length eds ∙ expiry_long expiry s at date attributes_fit;
-                name_good = true_is w.names_good;
-                name_new = y.new none;
-                ranges = true_is (ap (λ (i : Geometry). in_range i sec' q) w.geometry_is ∙ in_range_lem t name kind start amount sec option y none q told by by-told sec' same);
-              }
+      module _ {q : Asked} (y : VettedAs t name kind start amount sec option q) where
+        -- of the request with its date among the attributes, wherever these stand
+        pub asking : {m n : List ℕ} → KnownMaps t m n g → (ds : List ℕ) → ds ≡ at' → Asking t m n name ds a g (to_option q.option) (to_amount q.amount) q.secondary
+        asking u ds eds =
+            let y' = arguments in
+            record {
+              is_taken = w.is_taken;
+              geometry_is = w.geometry_is;
+              shown = u.shown;
+              map_fits = u.map_fits;
+              long_slots = u.long_slots;
+              long_answer = answer_long allocates x;
+              long_name = eqb→eq (length name) 44 (search (and_l, and_r) depth 4);
+              long_attributes = ap length eds ∙ expiry_long expiry s at date attributes_fit;
+              name_good = true_is w.names_good;
+              name_new = y.new;
+              ranges = true_is (ap (λ (i : Geometry). in_range i q.secondary (to_amount q.amount)) w.geometry_is ∙ y.ranges);
+            }
 
-          chosen : choice t name at' by q sec' ≡ allocate_stored (read t) (with_attributes asked at')
-          chosen = sym (choice_is t name kind start amount sec option y none q told by by-told sec' same at' expiry)
+        chosen : choice t name at' (to_option q.option) (to_amount q.amount) q.secondary ≡ allocate_stored (read t) (with_attributes asked at')
+        chosen = sym (choice_is t name kind start amount sec option y at' expiry)
 
-          pub placed : (ds : List ℕ) → ds ≡ at' → (n : ℕ) (t' a' : List ℕ) → Chooses t name ds a by q sec' n t' a' → result_of n (lent t' a' []) ≡ perform b call
-          placed ds eds n t' a' u =
-              by_date (some s) date n (lent t' a' []) (u ∙ ap (λ (d : List ℕ). written b (choice t name d by q sec')) eds ∙ ap (written b) chosen)
+        pub placed : (ds : List ℕ) → ds ≡ at' → (n : ℕ) (t' a' : List ℕ) → Chooses t name ds a (to_option q.option) (to_amount q.amount) q.secondary n t' a' → result_of n (lent t' a' []) ≡ perform b call
+        placed ds eds n t' a' u =
+            by_date (some s) date n (lent t' a' []) (u ∙ ap (λ (d : List ℕ). written b (choice t name d (to_option q.option) (to_amount q.amount) q.secondary)) eds ∙ ap (written b) chosen)
 
-          pub foreseen : (n : ℕ) (a' : List ℕ) → Foresees t name at' a by q sec' n a' → result_of n (lent t a' []) ≡ perform b (preview call)
-          foreseen n a' u =
-              preview_by_date (some s) date n (lent t a' []) (u ∙ ap (λ (o : Outcome). written b (on_copy (read t) o)) chosen)
+        pub foreseen : (n : ℕ) (a' : List ℕ) → Foresees t name at' a (to_option q.option) (to_amount q.amount) q.secondary n a' → result_of n (lent t a' []) ≡ perform b (preview call)
+        foreseen n a' u =
+            preview_by_date (some s) date n (lent t a' []) (u ∙ ap (λ (o : Outcome). written b (on_copy (read t) o)) chosen)

@@ -5,26 +5,25 @@ ghost use Rattle.std.specs.Prelude.{◌≡◌, ◌&&◌, ◌*◌, T, eqb, length
 ghost use Rattle.model.specs.Model.{slots};
 ghost use Rattle.rules.specs.Reading.{read};
 ghost use Rattle.rules.specs.Table.{taken};
-ghost use Rattle.rules.specs.Predicates.{Limits};
 ghost use Rattle.dscb.specs.Forms.{geometry_of};
 ghost use Rattle.rules.specs.Promises.{Allocates, PreviewsAllocate};
+ghost use Rattle.refusals.specs.Numbers.{number_of};
 ghost use Rattle.check_table.specs.Check.{Roomy};
 ghost use Rattle.call_allocate.specs.Vetting.{Vets};
 
 use dscb::Geometry;
-use refusals::*;
+use refusals::Refusal;
+use request::Request;
 
 // Whether the buffers but the table have the lengths that they must have.
 fn right_lengths(answer: usize, name: usize, attributes: usize, expiry: usize) -> bool
     ensures { result ≡ (eqb answer 24 && (eqb name 44 && eqb attributes 52 && eqb expiry 4)) }
 {
-    if open_table::and_another(answer, name, attributes, 52) {} else {
-        return false;
-    }
-    expiry == 4
+    answer == 24 && name == 44 && attributes == 52 && expiry == 4
 }
 
-// Refuses a request for an unknown kind or option, a number out of its range or a name that is on the volume: 7, 7, 6, or 0.
+// The request that the numbers make, for a name that is new: refused with 7 for an unknown kind or option, with 7 for a number out of
+// its range, or with 6 for a name that is on the volume.
 fn vet(
     table: &[u8],
     g: Geometry,
@@ -34,21 +33,20 @@ fn vet(
     amount: u32,
     secondary: u32,
     option: u32,
-) -> u32
-    requires { Limits (geometry_of g) × (length table.now ≡ 140 * slots (geometry_of g)) × T (taken table.now) × (geometry_of g ≡ (read table.now).geometry) }
+) -> Result<Request, Refusal>
+    requires { (length table.now ≡ 140 * slots (geometry_of g)) × T (taken table.now) × (geometry_of g ≡ (read table.now).geometry) }
     ensures { Vets table.now name.now kind start amount secondary option result }
 {
-    if request::is_known(kind, option) {} else {
-        return E_AMOUNT;
-    }
-    let request = request::read_request(kind, start, amount, secondary, option);
-    if request::in_range(request, g) {} else {
-        return E_AMOUNT;
+    let Some(request) = Request::from_numbers(kind, start, amount, secondary, option) else {
+        return Err(Refusal::Amount);
+    };
+    if !request.in_range(g) {
+        return Err(Refusal::Amount);
     }
     if open_table::on_volume(table, g, name) {
-        return E_DUPLICATE;
+        return Err(Refusal::Duplicate);
     }
-    0
+    Ok(request)
 }
 
 // The call with a map to work in.
@@ -64,27 +62,17 @@ fn allocate_in(
     expiry: &[u8],
     answer: &mut [u8],
     free_tracks: &mut [u64],
-) -> u32
+) -> Result<(), Refusal>
     requires { Roomy table.old free_tracks.old }
-    ensures { Allocates table.old name.now attributes.now kind start amount secondary option expiry.now answer.old result table.new answer.new }
+    ensures { Allocates table.old name.now attributes.now kind start amount secondary option expiry.now answer.old (number_of result) table.new answer.new }
 {
     let mut free_slots = [0u64; 8];
     let lengths = right_lengths(answer.len(), name.len(), attributes.len(), expiry.len());
-    let opened = open_table::open_named(table, name, lengths, free_tracks, &mut free_slots);
-    if opened.refusal != 0 {
-        return opened.refusal;
-    }
-    let date = dates::expiry_from(expiry);
-    if date.ok {} else {
-        return E_DATE;
-    }
-    let g = opened.geometry;
-    let refusal = vet(table, g, name, kind, start, amount, secondary, option);
-    if refusal != 0 {
-        return refusal;
-    }
-    let request = request::read_request(kind, start, amount, secondary, option);
-    let stored = date.bytes;
+    let g = open_table::open_named(table, name, lengths, free_tracks, &mut free_slots)?.geometry;
+    let Some(stored) = dates::expiry_from(expiry) else {
+        return Err(Refusal::Date);
+    };
+    let request = vet(table, g, name, kind, start, amount, secondary, option)?;
     let dated = dates::with_expiry(&stored, attributes);
     grant_space::place(
         table,
@@ -110,8 +98,8 @@ pub fn allocate(
     option: u32,
     expiry: &[u8],
     answer: &mut [u8],
-) -> u32
-    ensures { Allocates table.old name.now attributes.now kind start amount secondary option expiry.now answer.old result table.new answer.new }
+) -> Result<(), Refusal>
+    ensures { Allocates table.old name.now attributes.now kind start amount secondary option expiry.now answer.old (number_of result) table.new answer.new }
 {
     if open_table::is_small(table) {
         let mut free_tracks = [u64::MAX; 64];
@@ -160,26 +148,17 @@ fn preview_in(
     expiry: &[u8],
     answer: &mut [u8],
     free_tracks: &mut [u64],
-) -> u32
+) -> Result<(), Refusal>
     requires { Roomy table.now free_tracks.old }
-    ensures { PreviewsAllocate table.now name.now attributes.now kind start amount secondary option expiry.now answer.old result answer.new }
+    ensures { PreviewsAllocate table.now name.now attributes.now kind start amount secondary option expiry.now answer.old (number_of result) answer.new }
 {
     let mut free_slots = [0u64; 8];
     let lengths = right_lengths(answer.len(), name.len(), attributes.len(), expiry.len());
-    let opened = open_table::open_named(table, name, lengths, free_tracks, &mut free_slots);
-    if opened.refusal != 0 {
-        return opened.refusal;
-    }
-    let date = dates::expiry_from(expiry);
-    if date.ok {} else {
-        return E_DATE;
-    }
-    let g = opened.geometry;
-    let refusal = vet(table, g, name, kind, start, amount, secondary, option);
-    if refusal != 0 {
-        return refusal;
-    }
-    let request = request::read_request(kind, start, amount, secondary, option);
+    let g = open_table::open_named(table, name, lengths, free_tracks, &mut free_slots)?.geometry;
+    let Some(_) = dates::expiry_from(expiry) else {
+        return Err(Refusal::Date);
+    };
+    let request = vet(table, g, name, kind, start, amount, secondary, option)?;
     grant_space::preview_place(table, g, free_tracks, &mut free_slots, request, answer)
 }
 
@@ -195,8 +174,8 @@ pub fn preview(
     option: u32,
     expiry: &[u8],
     answer: &mut [u8],
-) -> u32
-    ensures { PreviewsAllocate table.now name.now attributes.now kind start amount secondary option expiry.now answer.old result answer.new }
+) -> Result<(), Refusal>
+    ensures { PreviewsAllocate table.now name.now attributes.now kind start amount secondary option expiry.now answer.old (number_of result) answer.new }
 {
     if open_table::is_small(table) {
         let mut free_tracks = [u64::MAX; 64];

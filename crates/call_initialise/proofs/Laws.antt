@@ -24,17 +24,9 @@ use Rattle.dscb.proofs.Cutting.{zeros_part}
 use Rattle.dscb_write.specs.Blank.{blank}
 use Rattle.dscb_write.specs.Put.{put_at}
 use Rattle.dscb_write.proofs.Format5.{five_long, five_more, five_none}
-use Rattle.dscb_write.proofs.Putting.{fields_put}
 use Rattle.update.specs.Pending.{Pending, record_of}
 use Rattle.update.proofs.Pending.{put_slot, zeros_of}
 use Rattle.call_initialise.specs.More.{More}
-
--- ---- zeros everywhere
-
-pub all_erased : (t : List ℕ) (i : ℕ) → i ≤ length t → length t ≤ i → put_at t 0 (zeros (i - 0)) ≡ zeros (length t)
-all_erased t i u w =
-    let e : i - 0 ≡ length t = omega arith in
-    ap (λ (k : ℕ). put_at t 0 (zeros k)) e ∙ fields_put t (zeros (length t)) (sym (length-replicate (length t) 0))
 
 -- ---- the number of format 0s
 

@@ -9,18 +9,19 @@ use native.Mathlib.Omega.{arith}
 use lib.Dec.{eqb}
 use lib.ListN.{drop, length, length-append, take, take-append-drop}
 use Rattle.call_lspace.specs.declared.Sums.{Sums}
-use Rattle.open_table.specs.declared.Opening.{Opening}
+use Rattle.check_table.specs.declared.Verdict.{Verdict}
 use Rattle.model.specs.Basics.{sum_of}
-use Rattle.model.specs.Model.{Geometry, Run, Separate, format0s, free}
+use Rattle.model.specs.Model.{Geometry, Run, Separate, format0s, free, tracks}
 use Rattle.model.specs.Predicates.{All}
 use Rattle.rules.specs.Calls.{answer, inquire, longest, lspace, numbers, rule, space_numbers}
 use Rattle.rules.specs.Entries.{lent, perform, result_of}
+use Rattle.rules.specs.Predicates.{Limits}
 use Rattle.rules.specs.Reading.{read}
 use Rattle.bitmap.proofs.Bits.{le_or_lt}
 use Rattle.dscb.specs.Forms.{geometry_of}
 use Rattle.free_extents.specs.FreeList.{Listed}
 use Rattle.free_extents.proofs.Chain.{runs_listed}
-use Rattle.open_table.specs.Opening.{Opened}
+use Rattle.open_table.specs.Opening.{OpenedAs}
 use Rattle.open_table.proofs.Calls.{AsksTable, passed}
 use Rattle.open_table.proofs.Numbers.{known}
 use Rattle.call_lspace.specs.Totals.{Below, Summed, none}
@@ -153,6 +154,10 @@ module _ (h : ℕ) (f : List Run) (s : Sums) (x : Summed h f none s) where
         long = let y = x.long in omega arith;
       }
 
+-- and so do those of what a table lists
+pub sums_small : (g : Geometry) (t : List ℕ) → Limits g → ((f : List Run) × Listed g t f) → (s : Sums) → ((f : List Run) → Listed g t f → Summed g.heads f none s) → Below 65535 s
+sums_small g t limit w s h = six_small g.heads w.0 s (h w.0 w.1) (tracks g) w.1.apart limit.tracks_most
+
 pub all_small : (h e : ℕ) (s : Sums) → Below 65535 s → e < 65536 → All (λ x. x < 65536) (s.cylinders ∷ s.odd ∷ s.many ∷ s.long / h ∷ s.long % h ∷ e ∷ [])
 all_small h e s x w =
     let a = x.cylinders in
@@ -174,17 +179,17 @@ module _ (t a : List ℕ) (ok : Bool) (long : ok ≡ eqb (length a) 24) where
   unfolding rule
   inquires = record { lengths = long ∙ and_true (eqb (length a) 24); rules = λ v. refl }
 
-  module _ {o : Opening} (x : Opened t ok true o) (z : o.refusal ≡ 0) where
+  module _ {o : Verdict} (x : OpenedAs t ok true o) where
     pub lists : Listed (geometry_of o.geometry) t (free (read t).geometry (read t).labels)
     lists =
-        let w = known x z in
+        let w = known x in
         subst (λ (y : Geometry). Listed y t (free (read t).geometry (read t).labels)) (sym w.geometry_is) (runs_listed t (read t) w.ready.sound)
 
     pub inquired : (six a' : List ℕ) → ((f : List Run) → Listed (geometry_of o.geometry) t f → six ≡ space_numbers (geometry_of o.geometry).heads f o.format0s) → a' ≡ answer (numbers six)
         → result_of 0 (lent t a' []) ≡ perform (lent t a []) lspace
     inquired six a' es ea =
-        let w = known x z in
+        let w = known x in
         let f = free (read t).geometry (read t).labels in
         let q : six ≡ space_numbers (read t).geometry.heads f (length (format0s (read t)))
         = es f lists ∙ ap₂ (λ (y : Geometry) (n : ℕ). space_numbers y.heads f n) w.geometry_is w.count_is in
-        passed inquires x z 0 (lent t a' []) (ap₂ (λ (y : List ℕ) (ns : List ℕ). result_of 0 (lent y ns [])) w.ready.bytes (ea ∙ ap (λ (ns : List ℕ). answer (numbers ns)) q))
+        passed inquires x 0 (lent t a' []) (ap₂ (λ (y : List ℕ) (ns : List ℕ). result_of 0 (lent y ns [])) w.ready.bytes (ea ∙ ap (λ (ns : List ℕ). answer (numbers ns)) q))

@@ -8,7 +8,7 @@ use borrow.Author.Tests.{eq-eqb, ne_eqb}
 use lib.Dec.{eqb, eqb→eq}
 use lib.ListN.{drop, drop_of_length-le, length, length-append, length-drop}
 use lib.Seq.{take_at}
-use Rattle.open_table.specs.declared.Opening.{Opening}
+use Rattle.check_table.specs.declared.Verdict.{Verdict}
 use Rattle.model.specs.Basics.{zeros}
 use Rattle.model.specs.Model.{Geometry, Label, slots}
 use Rattle.model.proofs.Lists.{and_r}
@@ -21,7 +21,7 @@ use Rattle.rules.specs.Predicates.{Limits}
 use Rattle.dscb.specs.Records.{put_record, slot_bytes}
 use Rattle.names.specs.Find.{find_slot, in_slot}
 use Rattle.dscb.specs.Forms.{geometry_of, linked_slot}
-use Rattle.open_table.specs.Opening.{LabelIn, Opened}
+use Rattle.open_table.specs.Opening.{LabelIn, OpenedAs}
 use Rattle.open_table.proofs.Calls.{AsksSet, arguments_long, asks, done, found_at}
 use Rattle.open_table.proofs.Laws.{third_is}
 use Rattle.open_table.proofs.Numbers.{known}
@@ -70,17 +70,17 @@ module _ (t name l a : List ℕ) (ok : Bool) (long : ok ≡ (eqb (length a) 24 &
   unfolding rule
   obtains = record { lengths = long; rules = λ v. refl }
 
-  module _ {o : Opening} (x : Opened t ok (good_name name) o) (z : o.refusal ≡ 0) where
+  module _ {o : Verdict} (x : OpenedAs t ok (good_name name) o) where
     pub labels_long : length l ≡ 280
-    labels_long = eqb→eq (length l) 280 (and_r (eqb (length name) 44) _ (arguments_long (asks obtains) x z))
+    labels_long = eqb→eq (length l) 280 (and_r (eqb (length name) 44) _ (arguments_long (asks obtains) x))
 
     pub obtained : (k : ℕ) → in_slot k ≡ find_slot t name (slots (geometry_of o.geometry)) → (l' a' : List ℕ)
         → l' ≡ slot_bytes t k ++ or_zeros t (linked_slot (geometry_of o.geometry) (slot_bytes t k)) → a' ≡ zeros 24
         → result_of 0 (lent t a' l') ≡ perform (lent t a l) (obtain name)
     obtained k e l' a' el ea =
-        let w = known x z in
-        let f = found_at obtains x z k e in
+        let w = known x in
+        let f = found_at obtains x k e in
         let m = f.label in
         let q : l' ≡ format1 (read t).geometry m ++ cond (eqb m.slot3 0) (zeros 140) (format3 (read t).geometry m)
         = el ∙ ap₂ (λ (i : ℕ) (u : Geometry). slot_bytes t i ++ or_zeros t (linked_slot u (slot_bytes t i))) (sym f.slot) w.geometry_is ∙ label_bytes t (read t).geometry name m w.ready.limits f.records in
-        done obtains x z f 0 (lent t a' l') (λ i. result_of 0 (lent (w.ready.bytes i) (ea i) (q i)))
+        done obtains x f 0 (lent t a' l') (λ i. result_of 0 (lent (w.ready.bytes i) (ea i) (q i)))

@@ -5,7 +5,7 @@ use mathlib.Core.List.{List, []}
 use Prim.Native.Nat.{ℕ}
 use lib.Dec.{T, eqb, eqb→eq}
 use lib.ListN.{length}
-use Rattle.open_table.specs.declared.Opening.{Opening}
+use Rattle.check_table.specs.declared.Verdict.{Verdict}
 use Rattle.model.specs.Basics.{any, zeros}
 use Rattle.model.specs.Model.{Geometry, Label, slots}
 use Rattle.model.proofs.Lists.{and_r, true_is}
@@ -22,7 +22,7 @@ use Rattle.names.specs.Find.{find_slot, in_slot, is_nothing}
 use Rattle.dscb.specs.Forms.{geometry_of}
 use Rattle.dscb_write.specs.Labels.{Format1}
 use Rattle.dscb_write.proofs.Following.{good_is}
-use Rattle.open_table.specs.Opening.{FoundAt, Opened}
+use Rattle.open_table.specs.Opening.{FoundAt, OpenedAs}
 use Rattle.open_table.proofs.Calls.{AsksSet, arguments_long, asks, done, found_at}
 use Rattle.open_table.proofs.Lookup.{on_volume_is}
 use Rattle.open_table.proofs.Numbers.{known}
@@ -33,17 +33,17 @@ module _ (t old new a : List ℕ) (ok : Bool) (long : ok ≡ (eqb (length a) 24 
   unfolding rule
   renames = record { lengths = long; rules = λ v. refl }
 
-  module _ {o : Opening} (x : Opened t ok (good_name old && good_name new) o) (z : o.refusal ≡ 0) where
+  module _ {o : Verdict} (x : OpenedAs t ok (good_name old && good_name new) o) where
     pub new_long : length new ≡ 44
-    new_long = eqb→eq (length new) 44 (and_r (eqb (length old) 44) _ (arguments_long (asks renames) x z))
+    new_long = eqb→eq (length new) 44 (and_r (eqb (length old) 44) _ (arguments_long (asks renames) x))
 
     module _ (k : ℕ) (e : in_slot k ≡ find_slot t old (slots (geometry_of o.geometry))) where
       it : FoundAt t (read t) old k
-      it = found_at renames x z k e
+      it = found_at renames x k e
 
       module _ (there : Bool) (d : there ≡ not (is_nothing (find_slot t new (slots (geometry_of o.geometry))))) where
         any_so : any (named new) (read t).labels ≡ there
-        any_so = let w = known x z in on_volume_is t w.is_taken _ w.geometry_is new there d
+        any_so = let w = known x in on_volume_is t w.is_taken _ w.geometry_is new there d
 
         rule_6 : there ≡ true → rename_set (read t) old new it.label ≡ refuse 6
         rule_6 p = rw (any_so, p)
@@ -52,7 +52,7 @@ module _ (t old new a : List ℕ) (ok : Bool) (long : ok ≡ (eqb (length a) 24 
         rule_0 p = rw (any_so, p)
 
         pub duplicate : there ≡ true → result_of 6 (lent t a []) ≡ perform (lent t a []) (rename old new)
-        duplicate p = done renames x z it 6 (lent t a []) (sym (ap (written (lent t a [])) (rule_6 p)))
+        duplicate p = done renames x it 6 (lent t a []) (sym (ap (written (lent t a [])) (rule_6 p)))
 
         pub name_put : there ≡ false → (t' a' : List ℕ) → ((g : Geometry) (l : Label) → Format1 g l (slot_bytes t k) → t' ≡ put_record t k (format1 g (with_name new l))) → a' ≡ zeros 24
             → result_of 0 (lent t' a' []) ≡ perform (lent t a []) (rename old new)
@@ -60,10 +60,10 @@ module _ (t old new a : List ℕ) (ok : Bool) (long : ok ≡ (eqb (length a) 24 
             let v = read t in
             let G = v.geometry in
             let l = it.label in
-            let w = known x z in
+            let w = known x in
             let f : Format1 G l (slot_bytes t k) = good_is G l (slot_bytes t k) it.records.good (sym it.records.one ∙ ap (slot_bytes t) it.slot) in
             let u : Unlike new v.labels = unlike_any new v.labels (any_so ∙ p) in
             let n : T (good_name new) = and_r (good_name old) _ (true_is w.names_good) in
             let q = renamed v w.ready.valid old l it.same new new_long n u it.records.inside in
             let y = put G l f ∙ ap₂ (λ (b : List ℕ) (i : ℕ). put_record b i (format1 G (with_name new l))) w.ready.bytes (sym it.slot) ∙ q in
-            done renames x z it 0 (lent t' a' []) (ap₂ (λ (b c : List ℕ). result_of 0 (lent b c [])) y ea ∙ sym (ap (written (lent t a [])) (rule_0 p)))
+            done renames x it 0 (lent t' a' []) (ap₂ (λ (b c : List ℕ). result_of 0 (lent b c [])) y ea ∙ sym (ap (written (lent t a [])) (rule_0 p)))

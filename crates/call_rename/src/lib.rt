@@ -6,11 +6,11 @@ ghost use Rattle.model.specs.Model.{Geometry, Label};
 ghost use Rattle.rules.specs.Promises.{Renames};
 ghost use Rattle.rules.specs.Layout.{format1};
 ghost use Rattle.rules.specs.Slots.{with_name};
+ghost use Rattle.refusals.specs.Numbers.{number_of};
 ghost use Rattle.dscb.specs.Records.{put_record, slot_bytes};
 ghost use Rattle.dscb_write.specs.Labels.{Format1};
 
-use names::Found;
-use refusals::*;
+use refusals::Refusal;
 
 // Puts a name into the format 1 in slot k.
 fn put_name(table: &mut [u8], k: usize, name: &[u8])
@@ -22,24 +22,21 @@ fn put_name(table: &mut [u8], k: usize, name: &[u8])
     dscb::put_record(table, k, &named);
 }
 
-// The call: refusals 2, 3, 4 for either name, 5 and 6 in this order, and nothing is written where it is refused.
-pub fn rename(table: &mut [u8], old: &[u8], new: &[u8], answer: &mut [u8]) -> u32
-    ensures { Renames table.old old.now new.now answer.old result table.new answer.new }
+// The call: refused with 2, 3, 4 for either name, 5 or 6 in this order, and nothing is written where it is refused.
+pub fn rename(table: &mut [u8], old: &[u8], new: &[u8], answer: &mut [u8]) -> Result<(), Refusal>
+    ensures { Renames table.old old.now new.now answer.old (number_of result) table.new answer.new }
 {
     let lengths = open_table::and_another(answer.len(), old.len(), new.len(), 44);
-    let named = open_table::and_named(open_table::open_to_read(table, lengths), old);
-    let opened = open_table::and_named(named, new);
-    if opened.refusal != 0 {
-        return opened.refusal;
-    }
-    let g = opened.geometry;
-    let Found::Slot(k) = open_table::look_up(table, g, old) else {
-        return E_NOT_FOUND;
+    let geometry = open_table::open_to_read(table, lengths)?.geometry;
+    open_table::check_name(old)?;
+    open_table::check_name(new)?;
+    let Some(slot) = open_table::look_up(table, geometry, old) else {
+        return Err(Refusal::NotFound);
     };
-    if open_table::on_volume(table, g, new) {
-        return E_DUPLICATE;
+    if open_table::on_volume(table, geometry, new) {
+        return Err(Refusal::Duplicate);
     }
-    put_name(table, k, new);
+    put_name(table, slot, new);
     answers::put_nothing(answer);
-    0
+    Ok(())
 }

@@ -6,39 +6,25 @@ ghost use Rattle.model.specs.Basics.{part};
 ghost use Rattle.rules.specs.Promises.{PreviewsScratch, Scratches};
 ghost use Rattle.rules.specs.Dates.{later};
 ghost use Rattle.dscb.specs.Records.{slot_bytes};
+ghost use Rattle.refusals.specs.Numbers.{number_of};
 ghost use Rattle.check_table.specs.Check.{Roomy};
 ghost use Rattle.call_scratch.specs.Expired.{OpensExpired};
 
 use dscb::places::*;
-use names::Found;
 use open_table::SetOpening;
-use refusals::*;
+use refusals::Refusal;
 
 // Whether the data set in slot k expires later than today, and no override was given.
 fn unexpired(table: &[u8], k: usize, today: &[u8], overriding: u32) -> bool
     requires { (140 * k + 140 ≤ length table.now) × (length today.now ≡ 3) }
     ensures { result ≡ (later (part 56 3 (slot_bytes table.now k)) today.now && eqb overriding 0) }
 {
-    if overriding != 0 {
-        return false;
-    }
     let rec = dscb::record_at(table, k);
-    dates::is_later(&rec[DS1EXPDT..DS1EXPDT + 3], today)
+    overriding == 0 && dates::is_later(&rec[DS1EXPDT..DS1EXPDT + 3], today)
 }
 
-// A scratch that is refused.
-fn refused(refusal: u32) -> SetOpening
-    ensures { result.refusal ≡ refusal }
-{
-    SetOpening {
-        refusal,
-        geometry: dscb::nowhere(),
-        slot: 0,
-    }
-}
-
-// 0, 2, 3, 4, 14, 5 or 13: the table opened under the name, today's date read, the data set looked up and its own date compared. A preview
-// ends here but for its answer.
+// The table opened under the name, today's date read, the data set looked up and its own date compared: refused with 2, 3, 4, 14, 5 or
+// 13. A preview ends here but for its answer.
 fn open_expired(
     table: &[u8],
     name: &[u8],
@@ -47,31 +33,21 @@ fn open_expired(
     lengths: bool,
     free_tracks: &mut [u64],
     free_slots: &mut [u64],
-) -> SetOpening
+) -> Result<SetOpening, Refusal>
     requires { Roomy table.now free_tracks.old × (length free_slots.old ≡ 8) }
     ensures { OpensExpired table.now name.now today.now overriding lengths free_tracks.new free_slots.new result }
 {
-    let opening = open_table::open_named(table, name, lengths, free_tracks, free_slots);
-    if opening.refusal != 0 {
-        return refused(opening.refusal);
-    }
-    let date = dates::to_stored(today);
-    if date.ok {} else {
-        return refused(E_DATE);
-    }
-    let geometry = opening.geometry;
-    let Found::Slot(slot) = open_table::look_up(table, geometry, name) else {
-        return refused(E_NOT_FOUND);
+    let geometry = open_table::open_named(table, name, lengths, free_tracks, free_slots)?.geometry;
+    let Some(stored) = dates::to_stored(today) else {
+        return Err(Refusal::Date);
     };
-    let stored = date.bytes;
+    let Some(slot) = open_table::look_up(table, geometry, name) else {
+        return Err(Refusal::NotFound);
+    };
     if unexpired(table, slot, &stored, overriding) {
-        return refused(E_UNEXPIRED);
+        return Err(Refusal::Unexpired);
     }
-    SetOpening {
-        refusal: 0,
-        geometry,
-        slot,
-    }
+    Ok(SetOpening { geometry, slot })
 }
 
 // The call with a map to work in.
@@ -82,9 +58,9 @@ fn scratch_in(
     overriding: u32,
     answer: &mut [u8],
     free_tracks: &mut [u64],
-) -> u32
+) -> Result<(), Refusal>
     requires { Roomy table.old free_tracks.old }
-    ensures { Scratches table.old name.now today.now overriding answer.old result table.new answer.new }
+    ensures { Scratches table.old name.now today.now overriding answer.old (number_of result) table.new answer.new }
 {
     let mut free_slots = [0u64; 8];
     let lengths = open_table::and_another(answer.len(), name.len(), today.len(), 4);
@@ -96,13 +72,15 @@ fn scratch_in(
         lengths,
         free_tracks,
         &mut free_slots,
-    );
-    if opened.refusal != 0 {
-        return opened.refusal;
-    }
-    let g = opened.geometry;
-    let k = opened.slot;
-    free_space::scratch_set(table, g, free_tracks, &mut free_slots, k, answer)
+    )?;
+    free_space::scratch_set(
+        table,
+        opened.geometry,
+        free_tracks,
+        &mut free_slots,
+        opened.slot,
+        answer,
+    )
 }
 
 // The call. A small volume has a small map: to fill the large one would be much of the call's time.
@@ -112,8 +90,8 @@ pub fn scratch(
     today: &[u8],
     overriding: u32,
     answer: &mut [u8],
-) -> u32
-    ensures { Scratches table.old name.now today.now overriding answer.old result table.new answer.new }
+) -> Result<(), Refusal>
+    ensures { Scratches table.old name.now today.now overriding answer.old (number_of result) table.new answer.new }
 {
     if open_table::is_small(table) {
         let mut free_tracks = [u64::MAX; 64];
@@ -133,9 +111,9 @@ fn preview_in(
     overriding: u32,
     answer: &mut [u8],
     free_tracks: &mut [u64],
-) -> u32
+) -> Result<(), Refusal>
     requires { Roomy table.now free_tracks.old }
-    ensures { PreviewsScratch table.now name.now today.now overriding answer.old result answer.new }
+    ensures { PreviewsScratch table.now name.now today.now overriding answer.old (number_of result) answer.new }
 {
     let mut free_slots = [0u64; 8];
     let lengths = open_table::and_another(answer.len(), name.len(), today.len(), 4);
@@ -147,18 +125,20 @@ fn preview_in(
         lengths,
         free_tracks,
         &mut free_slots,
-    );
-    if opened.refusal != 0 {
-        return opened.refusal;
-    }
-    let g = opened.geometry;
-    let k = opened.slot;
-    free_space::preview_scratch(table, g, k, answer)
+    )?;
+    free_space::preview_scratch(table, opened.geometry, opened.slot, answer);
+    Ok(())
 }
 
 // The preview.
-pub fn preview(table: &[u8], name: &[u8], today: &[u8], overriding: u32, answer: &mut [u8]) -> u32
-    ensures { PreviewsScratch table.now name.now today.now overriding answer.old result answer.new }
+pub fn preview(
+    table: &[u8],
+    name: &[u8],
+    today: &[u8],
+    overriding: u32,
+    answer: &mut [u8],
+) -> Result<(), Refusal>
+    ensures { PreviewsScratch table.now name.now today.now overriding answer.old (number_of result) answer.new }
 {
     if open_table::is_small(table) {
         let mut free_tracks = [u64::MAX; 64];

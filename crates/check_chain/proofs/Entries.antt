@@ -6,6 +6,8 @@ use Prim.Native.Nat.{ℕ, zero, suc, ◌+◌, ◌-◌, ◌*◌, ◌/◌, ◌%◌
 use native.Mathlib.Nat.{div-add-mod', le_refl, mod-lt, sub-zero}
 use native.Mathlib.Omega.{arith}
 use borrow.Author.Tests.{eq-eqb, eqb-true, lt-ltb, ltb-false, ltb-true, ne_eqb}
+use Rattle.std.specs.Prelude.{None, Option, Some}
+use Rattle.std.specs.Bool.{then_some}
 use lib.Dec.{eqb, ltb}
 use lib.ListN.{drop, get_or, length, length-drop, replicate, take, take-append-drop}
 use lib.Seq.{drop-cons, drop-drop, drop-nil, take-nil, take-take}
@@ -24,7 +26,7 @@ use Rattle.rows.proofs.Rows.{and_false, are→, →are}
 use Rattle.dscb.proofs.Stops.{cylinder_past}
 use Rattle.dscb.proofs.Records.{length_part}
 use Rattle.dscb.proofs.Cutting.{whole_cut}
-use Rattle.check_chain.specs.Entries.{HoldsRuns, Rows, entries_of, entry_ok}
+use Rattle.check_chain.specs.Entries.{HoldsRuns, Rows, RowsOf, entries_of, entry_ok}
 
 -- ---- one entry
 
@@ -120,38 +122,36 @@ module _ (g : Geometry) (m : List ℕ) (n at w : ℕ) (x : List ℕ) where
     going_bad d e = d (ap (take 5) (sym split ∙ o.back e))
 
   -- no run is left: zeros to the end
-  pub going_ends : (j t a b : ℕ) (ok : Bool) → j ≤ w → length x ≡ 5 * w → EntriesGoing g m n at w x j t → NextRun m n t a b → n ≤ a → ok ≡ all_are 0 (drop (5 * j) x) → Rows g m n at w x ok n
-  going_ends j t a b ok h l o r u q =
-      let none : drop j (free_from m n at) ≡ [] = sym o.left ∙ r.done u in
-      let e : E j t ≡ zeros (5 * (w - j)) = ap (λ (f : List Run). fill (5 * (w - j)) (flat (entry g) f)) (ap (take (w - j)) (r.done u) ∙ take-nil (w - j)) ∙ fill_none (5 * (w - j)) in
-      let k : j + (w - j) ≡ w = omega arith in
-      record {
-        up_to = λ z. le_refl n;
-        rest = λ z. free_from_end m n ∙ sym (sym (ap (λ (i : ℕ). drop i (free_from m n at)) k) ∙ sym (drop-drop (w - j) j (free_from m n at)) ∙ ap (drop (w - j)) none ∙ drop-nil (w - j));
-        yes = λ z.
-            let c : length (drop (5 * j) x) ≡ 5 * (w - j) = omega (arith, length-drop (5 * j) x) in
-            o.into (e ∙ sym (are→ 0 (drop (5 * j) x) (true_is (sym q ∙ z)) ∙ ap zeros c));
-        no = λ z i. clash (ap (all_are 0) (sym (sym e ∙ o.back i)) ∙ is_true (→are 0 (5 * (w - j)))) (sym q ∙ z);
-      }
+  pub going_ends : (j t a b : ℕ) (ok : Bool) → j ≤ w → length x ≡ 5 * w → EntriesGoing g m n at w x j t → NextRun m n t a b → n ≤ a → ok ≡ all_are 0 (drop (5 * j) x)
+      → Rows g m n at w x (then_some ok n)
+  going_ends j t a b ok h l o r u q = told ok q
+    where
+      none : drop j (free_from m n at) ≡ []
+      none = sym o.left ∙ r.done u
 
-  pub going_done : (j t : ℕ) → w ≤ j → j ≤ w → length x ≡ 5 * w → EntriesGoing g m n at w x j t → Rows g m n at w x true t
+      e : E j t ≡ zeros (5 * (w - j))
+      e = ap (λ (f : List Run). fill (5 * (w - j)) (flat (entry g) f)) (ap (take (w - j)) (r.done u) ∙ take-nil (w - j)) ∙ fill_none (5 * (w - j))
+
+      told : (ok : Bool) → ok ≡ all_are 0 (drop (5 * j) x) → Rows g m n at w x (then_some ok n)
+      told true q =
+          let k : j + (w - j) ≡ w = omega arith in
+          let c : length (drop (5 * j) x) ≡ 5 * (w - j) = omega (arith, length-drop (5 * j) x) in
+          record {
+            up_to = le_refl n;
+            rest = free_from_end m n ∙ sym (sym (ap (λ (i : ℕ). drop i (free_from m n at)) k) ∙ sym (drop-drop (w - j) j (free_from m n at)) ∙ ap (drop (w - j)) none ∙ drop-nil (w - j));
+            bytes = o.into (e ∙ sym (are→ 0 (drop (5 * j) x) (true_is (sym q)) ∙ ap zeros c));
+          }
+      told false q = λ i. clash (ap (all_are 0) (sym (sym e ∙ o.back i)) ∙ is_true (→are 0 (5 * (w - j)))) (sym q)
+
+  pub going_done : (j t : ℕ) → w ≤ j → j ≤ w → length x ≡ 5 * w → EntriesGoing g m n at w x j t → RowsOf g m n at w x t
   going_done j t h k l o =
       let e : j ≡ w = omega arith in
       let z : w - j ≡ 0 = omega arith in
       record {
-        up_to = λ q. o.up_to;
-        rest = λ q. o.left ∙ ap (λ (i : ℕ). drop i (free_from m n at)) e;
-        yes = λ q. o.into (ap (λ (i : ℕ). entries_of g i (free_from m n t)) z ∙ sym (lib.ListN.drop_of_length-le x {i = 5 * j} (omega arith)));
-        no = λ q. clash {b = true} refl q;
+        up_to = o.up_to;
+        rest = o.left ∙ ap (λ (i : ℕ). drop i (free_from m n at)) e;
+        bytes = o.into (ap (λ (i : ℕ). entries_of g i (free_from m n t)) z ∙ sym (lib.ListN.drop_of_length-le x {i = 5 * j} (omega arith)));
       }
-
--- x has w entries
-pub rows_of : (g : Geometry) (m : List ℕ) (n at w : ℕ) (x : List ℕ) (ok : Bool) (next : ℕ) → length x ≡ 5 * w → Rows g m n at (length x / 5) x ok next → Rows g m n at w x ok next
-rows_of g m n at w x ok next l r = let e : length x / 5 ≡ w = omega arith in subst (λ (k : ℕ). Rows g m n at k x ok next) e r
-
-pub rows_bad : (g : Geometry) (m : List ℕ) (n at w : ℕ) (x : List ℕ) (t : ℕ) → (entries_of g w (free_from m n at) ≡ x → ⊥) → Rows g m n at w x false t
-rows_bad g m n at w x t f =
-    record { up_to = λ q. clash {b = false} q refl; rest = λ q. clash {b = false} q refl; yes = λ q. clash {b = false} q refl; no = λ q. f }
 
 -- ---- the record
 
@@ -162,9 +162,9 @@ module _ (g : Geometry) (m : List ℕ) (n at : ℕ) (r : List ℕ) where
   abbrev F : List Run
   F = free_from m n at
 
-  listed_bad : (next : ℕ) → ((k : ℕ) → format5 g (take 26 F) k ≡ r → ⊥) → HoldsRuns g m n at r false next
-  listed_bad next f =
-      record { up_to = λ q. clash {b = false} q refl; rest = λ q. clash {b = false} q refl; yes = λ q. clash {b = false} q refl; no = λ q. f }
+  -- x has w entries
+  rows_of : (w : ℕ) (x : List ℕ) (at : ℕ) → length x ≡ 5 * w → (o : Option ℕ) → Rows g m n at (length x / 5) x o → Rows g m n at w x o
+  rows_of w x at l o y = let e : length x / 5 ≡ w = omega arith in subst (λ (k : ℕ). Rows g m n at k x o) e y
 
   -- what a format 5 has at its places
   at_field : (i : ℕ) → i < 5 → (k : ℕ) → format5 g (take 26 F) k ≡ r → part (Rattle.rules.proofs.Fields.start_of i lengths5) (get_or lengths5 i 0) r ≡ Rattle.rules.proofs.Fields.field i (fields5 g (take 26 F) k)
@@ -177,41 +177,44 @@ module _ (g : Geometry) (m : List ℕ) (n at : ℕ) (r : List ℕ) where
   rear_is : entries_of g 18 (drop 8 F) ≡ fill 90 (flat (entry g) (drop 8 (take 26 F)))
   rear_is = ap (λ (l : List Run). fill 90 (flat (entry g) l)) (sym (drop_take 8 26 F))
 
-  pub header_bad : all_are 0x05 (part 0 4 r) ≡ false → (next : ℕ) → HoldsRuns g m n at r false next
-  header_bad e next = listed_bad next (λ k q. clash (ap (all_are 0x05) (at_field 0 (omega arith) k q) ∙ is_true (→are 0x05 4)) e)
+  pub header_bad : all_are 0x05 (part 0 4 r) ≡ false → (k : ℕ) → format5 g (take 26 F) k ≡ r → ⊥
+  header_bad e k q = clash (ap (all_are 0x05) (at_field 0 (omega arith) k q) ∙ is_true (→are 0x05 4)) e
 
-  pub id_bad : length r ≡ 140 → (get_or r 44 0 ≡ 0xF5 → ⊥) → (next : ℕ) → HoldsRuns g m n at r false next
-  id_bad l e next = listed_bad next (λ k q. e (ap (λ (x : List ℕ). get_or x 0 0) (sym (byte_part r 44 (omega arith)) ∙ at_field 2 (omega arith) k q)))
+  pub id_bad : length r ≡ 140 → (get_or r 44 0 ≡ 0xF5 → ⊥) → (k : ℕ) → format5 g (take 26 F) k ≡ r → ⊥
+  id_bad l e k q = e (ap (λ (x : List ℕ). get_or x 0 0) (sym (byte_part r 44 (omega arith)) ∙ at_field 2 (omega arith) k q))
 
-  pub front_bad : (ok : Bool) (t next : ℕ) → ok ≡ false → Rows g m n at 8 (part 4 40 r) ok t → HoldsRuns g m n at r false next
-  front_bad ok t next e x = listed_bad next (λ k q. x.no e (front_is ∙ sym (at_field 1 (omega arith) k q)))
+  pub front_bad : length r ≡ 140 → Rows g m n at (length (part 4 40 r) / 5) (part 4 40 r) None → (k : ℕ) → format5 g (take 26 F) k ≡ r → ⊥
+  front_bad l x k q = rows_of 8 (part 4 40 r) at (length_part 4 40 r (omega arith)) None x (front_is ∙ sym (at_field 1 (omega arith) k q))
 
-  module _ (l : length r ≡ 140) (a : all_are 0x05 (part 0 4 r) ≡ true) (i : get_or r 44 0 ≡ 0xF5) (t : ℕ) (x : Rows g m n at 8 (part 4 40 r) true t)
-      (ok : Bool) (next : ℕ) (y : Rows g m n t 18 (part 45 90 r) ok next) where
-    rear : entries_of g 18 (free_from m n t) ≡ fill 90 (flat (entry g) (drop 8 (take 26 F)))
-    rear = ap (entries_of g 18) (x.rest refl) ∙ rear_is
+  pub listed : length r ≡ 140 → all_are 0x05 (part 0 4 r) ≡ true → get_or r 44 0 ≡ 0xF5 → (t : ℕ) → Rows g m n at (length (part 4 40 r) / 5) (part 4 40 r) (Some t)
+      → (o : Option ℕ) → Rows g m n t (length (part 45 90 r) / 5) (part 45 90 r) o → HoldsRuns g m n at r o
+  unfolding format5
+  listed l a i t x' o y' = told o (rows_of 18 (part 45 90 r) t (length_part 45 90 r (omega arith)) o y')
+    where
+      x : RowsOf g m n at 8 (part 4 40 r) t
+      x = rows_of 8 (part 4 40 r) at (length_part 4 40 r (omega arith)) (Some t) x'
 
-    pub listed : HoldsRuns g m n at r ok next
-    unfolding format5
-    listed =
-        record {
-          up_to = y.up_to;
-          rest = λ q. y.rest q ∙ ap (drop 18) (x.rest refl) ∙ drop-drop 18 8 F;
-          yes = λ q k e.
-              let p0 : part 0 4 r ≡ replicate 4 0x05 = are→ 0x05 (part 0 4 r) (true_is a) ∙ ap (λ (j : ℕ). replicate j 0x05) (length_part 0 4 r (omega arith)) in
-              let p1 : part 4 40 r ≡ fill 40 (flat (entry g) (take 8 (take 26 F))) = sym (x.yes refl) ∙ front_is in
-              let p2 : part 44 1 r ≡ 0xF5 ∷ [] = byte_part r 44 (omega arith) ∙ ap (λ (b : ℕ). b ∷ []) i in
-              let p3 : part 45 90 r ≡ fill 90 (flat (entry g) (drop 8 (take 26 F))) = sym (y.yes q) ∙ rear in
-              let w : whole (part 0 4 r ∷ part 4 40 r ∷ part 44 1 r ∷ part 45 90 r ∷ part 135 5 r ∷ []) ≡ r = whole_cut lengths5 0 r l in
-              sym
-              (sym w
-              ∙ ap₂ (λ (b c : List ℕ). whole (b ∷ c ∷ part 44 1 r ∷ part 45 90 r ∷ part 135 5 r ∷ [])) p0 p1
-              ∙ ap₂ (λ (b c : List ℕ). whole (replicate 4 0x05 ∷ fill 40 (flat (entry g) (take 8 (take 26 F))) ∷ b ∷ c ∷ part 135 5 r ∷ [])) p2 p3
-              ∙ ap (λ (b : List ℕ). whole (replicate 4 0x05 ∷ fill 40 (flat (entry g) (take 8 (take 26 F))) ∷ (0xF5 ∷ []) ∷ fill 90 (flat (entry g) (drop 8 (take 26 F))) ∷ b ∷ [])) (sym e));
-          no = λ q k e. y.no q (rear ∙ sym (at_field 3 (omega arith) k e));
-        }
+      rear : entries_of g 18 (free_from m n t) ≡ fill 90 (flat (entry g) (drop 8 (take 26 F)))
+      rear = ap (entries_of g 18) x.rest ∙ rear_is
 
-pub listed_at : (g : Geometry) (m : List ℕ) (n n' at : ℕ) (r r' : List ℕ) (ok ok' : Bool) (next : ℕ) → n ≡ n' → r ≡ r' → ok ≡ ok' → HoldsRuns g m n at r ok next → HoldsRuns g m n' at r' ok' next
-listed_at g m n n' at r r' ok ok' next w e o x =
-    subst (λ (z : ℕ). HoldsRuns g m z at r' ok' next) w
-    (subst (λ (y : List ℕ). HoldsRuns g m n at y ok' next) e (subst (λ (b : Bool). HoldsRuns g m n at r b next) o x))
+      told : (o : Option ℕ) → Rows g m n t 18 (part 45 90 r) o → HoldsRuns g m n at r o
+      told None y = λ k e. y (rear ∙ sym (at_field 3 (omega arith) k e))
+      told (Some next) y =
+          record {
+            up_to = y.up_to;
+            rest = y.rest ∙ ap (drop 18) x.rest ∙ drop-drop 18 8 F;
+            bytes = λ k e.
+                let p0 : part 0 4 r ≡ replicate 4 0x05 = are→ 0x05 (part 0 4 r) (true_is a) ∙ ap (λ (j : ℕ). replicate j 0x05) (length_part 0 4 r (omega arith)) in
+                let p1 : part 4 40 r ≡ fill 40 (flat (entry g) (take 8 (take 26 F))) = sym x.bytes ∙ front_is in
+                let p2 : part 44 1 r ≡ 0xF5 ∷ [] = byte_part r 44 (omega arith) ∙ ap (λ (b : ℕ). b ∷ []) i in
+                let p3 : part 45 90 r ≡ fill 90 (flat (entry g) (drop 8 (take 26 F))) = sym y.bytes ∙ rear in
+                let w : whole (part 0 4 r ∷ part 4 40 r ∷ part 44 1 r ∷ part 45 90 r ∷ part 135 5 r ∷ []) ≡ r = whole_cut lengths5 0 r l in
+                sym
+                (sym w
+                ∙ ap₂ (λ (b c : List ℕ). whole (b ∷ c ∷ part 44 1 r ∷ part 45 90 r ∷ part 135 5 r ∷ [])) p0 p1
+                ∙ ap₂ (λ (b c : List ℕ). whole (replicate 4 0x05 ∷ fill 40 (flat (entry g) (take 8 (take 26 F))) ∷ b ∷ c ∷ part 135 5 r ∷ [])) p2 p3
+                ∙ ap (λ (b : List ℕ). whole (replicate 4 0x05 ∷ fill 40 (flat (entry g) (take 8 (take 26 F))) ∷ (0xF5 ∷ []) ∷ fill 90 (flat (entry g) (drop 8 (take 26 F))) ∷ b ∷ [])) (sym e));
+          }
+
+pub listed_at : (g : Geometry) (m : List ℕ) (n n' at : ℕ) (r r' : List ℕ) (o : Option ℕ) → n ≡ n' → r ≡ r' → HoldsRuns g m n at r o → HoldsRuns g m n' at r' o
+listed_at g m n n' at r r' o w e x = subst (λ (z : ℕ). HoldsRuns g m z at r' o) w (subst (λ (y : List ℕ). HoldsRuns g m n at y o) e x)

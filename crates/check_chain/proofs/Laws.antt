@@ -27,10 +27,13 @@ use Rattle.dscb.specs.Forms.{linked_slot}
 use Rattle.dscb.proofs.Cutting.{bytes_part}
 use Rattle.dscb.proofs.Linked.{linked_below}
 use Rattle.check_label.specs.Marks.{units}
-use Rattle.check_label.proofs.Taking.{took_no, took_yes}
+use Rattle.check_label.proofs.Taking.{took_yes}
+use Rattle.std.specs.Prelude.{MatchOption, None, Some}
+use Rattle.std.specs.Bool.{then_some}
 use Rattle.check_chain.specs.declared.Member.{Member}
-use Rattle.check_chain.specs.Chain.{ChainGone, Held, chain_from, is_none, next_of}
-use Rattle.check_chain.specs.Entries.{HoldsRuns, link_ok}
+use Rattle.check_chain.specs.declared.Member.TheVariants.{Last, Next}
+use Rattle.check_chain.specs.Chain.{ChainGone, GoesOn, Held, Holds, HoldsNone, chain_from, is_none, next_of}
+use Rattle.check_chain.specs.Entries.{HoldsRuns, RunsOf, link_ok}
 
 -- ---- the slots of a chain
 
@@ -91,7 +94,7 @@ chain_length g t f k = follow_length (fives_for (length f)) k
 
 -- ---- one member, and what comes of it
 
-module _ (g : Geometry) (t m : List ℕ) (f : List Run) (k : ℕ) (u : k < slots g) (s s' : List ℕ) (r : Member) (h : Held g t m f k s s' r) where
+module _ (g : Geometry) (t m : List ℕ) (f : List Run) (k : ℕ) (u : k < slots g) (s s' : List ℕ) where
   abbrev N : ℕ
   N = slots g
 
@@ -102,23 +105,18 @@ module _ (g : Geometry) (t m : List ℕ) (f : List Run) (k : ℕ) (u : k < slots
   rec = slot_bytes t k
 
   -- the member, with a chain ks behind it
-  five_ok : (ks : List ℕ) → head_or0 ks ≡ next_of g (drop 26 f) rec → r.ok ≡ true → format5 g (take 26 f) (head_or0 ks) ≡ record_at rs k
-  five_ok ks e o = ap (format5 g (take 26 f)) e ∙ h.here o ∙ sym (chop_slot N t k u)
+  five_ok : (r : Member) → Holds g t m f k s s' r → (ks : List ℕ) → head_or0 ks ≡ next_of g (drop 26 f) rec → format5 g (take 26 f) (head_or0 ks) ≡ record_at rs k
+  five_ok r h ks e = ap (format5 g (take 26 f)) e ∙ h.here ∙ sym (chop_slot N t k u)
 
-  five_no : (ks : List ℕ) → head_or0 ks ≡ next_of g (drop 26 f) rec → r.ok ≡ false → head_or0 ks < N → (us : List Run) → Shows s N us → Once N (run k 1 ∷ us)
-      → format5 g (take 26 f) (head_or0 ks) ≡ record_at rs k → ⊥
-  five_no ks e o i us w c x =
-      h.no o us w c (subst (λ (j : ℕ). j < N) e i) (ap (format5 g (take 26 f)) (sym e) ∙ x ∙ chop_slot N t k u)
-
-  pub gone_last : r.ok ≡ true → r.last ≡ true → ChainGone g t f k s s' true
-  gone_last o e =
-      let d : is_none (drop 26 f) ≡ true = sym (h.last o) ∙ e in
+  pub gone_last : Held g t m f k s s' (Some Last) → ChainGone g t f k s s' true
+  gone_last h =
+      let d = h.told.behind in
       let q = chain_last g t f k d in
       record {
         long = h.long;
-        good = λ x. rw q (five_ok [] (sym (next_none g (drop 26 f) rec d)) o, tt);
+        good = λ x. rw q (five_ok Last h.told [] (sym (next_none g (drop 26 f) rec d)), tt);
         inside = λ x. rw q (u, tt);
-        empty = λ x us w. rw q (h.took o us w);
+        empty = λ x us w. rw q (h.told.took us w);
         no = λ x. clash {b = true} refl x;
       }
 
@@ -136,8 +134,8 @@ module _ (g : Geometry) (t m : List ℕ) (f : List Run) (k : ℕ) (u : k < slots
       let b = sum_append F (units ks) (run k 1 ∷ us) in
       omega arith
 
-  pub gone_bad : r.ok ≡ false → ChainGone g t f k s s' false
-  gone_bad o =
+  pub gone_bad : Held g t m f k s s' None → ChainGone g t f k s s' false
+  gone_bad h =
       record {
         long = h.long;
         good = λ x. clash {b = false} x refl;
@@ -149,10 +147,14 @@ module _ (g : Geometry) (t m : List ℕ) (f : List Run) (k : ℕ) (u : k < slots
       zero_in : 0 < slots g
       zero_in = omega (arith, u)
 
+      five_no : (ks : List ℕ) → head_or0 ks ≡ next_of g (drop 26 f) rec → head_or0 ks < N → (us : List Run) → Shows s N us → Once N (run k 1 ∷ us)
+          → format5 g (take 26 f) (head_or0 ks) ≡ record_at rs k → ⊥
+      five_no ks e i us w c x = h.told us w c (subst (λ (j : ℕ). j < N) e i) (ap (format5 g (take 26 f)) (sym e) ∙ x ∙ chop_slot N t k u)
+
       ends : is_none (drop 26 f) ≡ true → (us : List Run) → Shows s N us → All (FiveOk g rs) (fives (chain_from g t f k) f) → Once N (units (chain_from g t f k) ++ us) → ⊥
       ends d us w a c =
           let q = chain_last g t f k d in
-          five_no [] (sym (next_none g (drop 26 f) rec d)) o zero_in us w (rw q at c) (rw q at a).0
+          five_no [] (sym (next_none g (drop 26 f) rec d)) zero_in us w (rw q at c) (rw q at a).0
 
       goes : is_none (drop 26 f) ≡ false → (us : List Run) → Shows s N us → All (FiveOk g rs) (fives (chain_from g t f k) f) → All (λ j. j < N) (chain_from g t f k) → Once N (units (chain_from g t f k) ++ us) → ⊥
       goes d us w a i c =
@@ -161,67 +163,48 @@ module _ (g : Geometry) (t m : List ℕ) (f : List Run) (k : ℕ) (u : k < slots
           let ks : List ℕ = chain_from g t (drop 26 f) j in
           let hd : head_or0 ks ≡ j = chain_head g t (drop 26 f) j in
           let i2 : All (λ j. j < N) (k ∷ ks) = rw q at i in
-          five_no ks hd o (head_in ks i2.1 zero_in) us w (front_once ks us (rw q at c)) (rw q at a).0
+          five_no ks hd (head_in ks i2.1 zero_in) us w (front_once ks us (rw q at c)) (rw q at a).0
         where
           head_in : (ks : List ℕ) → All (λ j. j < N) ks → 0 < N → head_or0 ks < N
           head_in [] a z = z
           head_in (x ∷ ks) a z = a.0
 
-  module _ (o : r.ok ≡ true) (e : r.last ≡ false) (s'' : List ℕ) (b : Bool) (c : ChainGone g t (drop 26 f) r.slot s' s'' b) where
-    some : is_none (drop 26 f) ≡ false
-    some = sym (h.last o) ∙ e
+  module _ (slot at : ℕ) (h : Held g t m f k s s' (Some (Next slot at))) where
+    abbrev on : GoesOn g t m f k slot at
+    on = h.told.behind
+
+    -- the free extents behind the member, those of the map from track `at` on, are fewer
+    pub fewer : length (free_from m (tracks g) at) < length f
+    fewer =
+        let a = some_drop f on.more in
+        let l = length-drop 26 f in
+        let q = ap length on.rest in
+        omega arith
 
     abbrev ks : List ℕ
-    ks = chain_from g t (drop 26 f) r.slot
+    ks = chain_from g t (drop 26 f) slot
 
     is : chain_from g t f k ≡ k ∷ ks
-    is = chain_more g t f k u some ∙ ap (λ (j : ℕ). k ∷ chain_from g t (drop 26 f) j) (sym (h.next o))
+    is = chain_more g t f k u on.more ∙ ap (λ (j : ℕ). k ∷ chain_from g t (drop 26 f) j) (sym on.next)
 
     hd : head_or0 ks ≡ next_of g (drop 26 f) rec
-    hd = chain_head g t (drop 26 f) r.slot ∙ h.next o
+    hd = chain_head g t (drop 26 f) slot ∙ on.next
 
-    pub gone_on : ChainGone g t f k s s'' b
-    gone_on =
+    -- and what holds of the chain from there on holds from here on
+    pub go_on : (s'' : List ℕ) (b : Bool) → ChainGone g t (free_from m (tracks g) at) slot s' s'' b → ChainGone g t f k s s'' b
+    go_on s'' b behind =
+        let c = subst (λ (f : List Run). ChainGone g t f slot s' s'' b) on.rest behind in
         record {
           long = c.long ∙ h.long;
-          good = λ x. rw is (five_ok ks hd o, c.good x);
+          good = λ x. rw is (five_ok (Next slot at) h.told ks hd, c.good x);
           inside = λ x. rw is (u, c.inside x);
-          empty = λ x us w. rw is (shows_same s'' N (units ks ++ (run k 1 ∷ us)) (run k 1 ∷ (units ks ++ us)) (λ j v. moved ks us j) (c.empty x (run k 1 ∷ us) (h.took o us w)));
+          empty = λ x us w. rw is (shows_same s'' N (units ks ++ (run k 1 ∷ us)) (run k 1 ∷ (units ks ++ us)) (λ j v. moved ks us j) (c.empty x (run k 1 ∷ us) (h.told.took us w)));
           no = λ x us w a i n.
-              c.no x (run k 1 ∷ us) (h.took o us w) (rw is at a).1 (rw is at i).1
+              c.no x (run k 1 ∷ us) (h.told.took us w) (rw is at a).1 (rw is at i).1
               (λ j v. let z = (rw is at n) j v in let y = moved ks us j in omega arith);
         }
 
--- the same, as the loop has it: the free extents behind the member are those of the map from track `at` on
-pub go_on : (g : Geometry) (t m : List ℕ) (f : List Run) (k : ℕ) → k < slots g → (s s' : List ℕ) (r : Member) → Held g t m f k s s' r → r.ok ≡ true → r.last ≡ false
-    → (s'' : List ℕ) (b : Bool) → ChainGone g t (free_from m (tracks g) r.at) r.slot s' s'' b → ChainGone g t f k s s'' b
-go_on g t m f k u s s' r h o e s'' b c = gone_on g t m f k u s s' r h o e s'' b (subst (λ (f : List Run). ChainGone g t f r.slot s' s'' b) (h.rest o) c)
-
-pub fewer : (g : Geometry) (t m : List ℕ) (f : List Run) (k : ℕ) (s s' : List ℕ) (r : Member) → Held g t m f k s s' r → r.ok ≡ true → r.last ≡ false
-    → length (free_from m (tracks g) r.at) < length f
-fewer g t m f k s s' r h o e =
-    let d : is_none (drop 26 f) ≡ false = sym (h.last o) ∙ e in
-    let a = some_drop f d in
-    let l = length-drop 26 f in
-    let q = ap length (h.rest o) in
-    omega arith
-
 -- ---- the tests make a member
-
--- the slot is not free
-pub held_hit : (g : Geometry) (t m : List ℕ) (f : List Run) (k : ℕ) (s s' : List ℕ) (r : Member) → k < slots g → (b : Bool) → b ≡ false → Taken s s' k (k + 1) b → r.ok ≡ false → Held g t m f k s s' r
-held_hit g t m f k s s' r u b e x o =
-    record {
-      long = x.long;
-      took = λ q. clash q o;
-      here = λ q. clash q o;
-      next = λ q. clash q o;
-      inside = λ q. clash q o;
-      rest = λ q. clash q o;
-      up_to = λ q. clash q o;
-      last = λ q. clash q o;
-      no = λ q us w c i z. took_no (slots g) k 1 s s' b x e (omega arith) us w c;
-    }
 
 -- what the next run tells, where the number n of tracks was computed
 module _ (m : List ℕ) (n n' at from to : ℕ) (w : n ≡ n') (x : NextRun m n at from to) where
@@ -231,7 +214,7 @@ module _ (m : List ℕ) (n n' at from to : ℕ) (w : n ≡ n') (x : NextRun m n 
   pub some_left : from < n → free_from m n' at ≡ run from (to - from) ∷ free_from m n' to
   some_left u = subst (λ (z : ℕ). free_from m z at ≡ run from (to - from) ∷ free_from m z to) w (x.more u).1
 
-module _ (g : Geometry) (limit : Limits g) (t m : List ℕ) (at k : ℕ) (s s' : List ℕ) (b : Bool) (e : b ≡ true) (x : Taken s s' k (k + 1) b) where
+module _ (g : Geometry) (limit : Limits g) (t m : List ℕ) (at k : ℕ) (s s' : List ℕ) (x : Taken s s' k (k + 1) true) where
   abbrev f5 : List Run
   f5 = free_from m (tracks g) at
 
@@ -242,73 +225,53 @@ module _ (g : Geometry) (limit : Limits g) (t m : List ℕ) (at k : ℕ) (s s' :
   linked = part 135 5 record5
 
   -- the entries are not those of the free extents
-  pub held_bad : (r : Member) (rec : List ℕ) (ok : Bool) (next : ℕ) → rec ≡ record5 → HoldsRuns g m (tracks g) at rec ok next → ok ≡ false → r.ok ≡ false → Held g t m f5 k s s' r
-  held_bad r rec ok next z y f o =
-      record {
-        long = x.long;
-        took = λ q. clash q o;
-        here = λ q. clash q o;
-        next = λ q. clash q o;
-        inside = λ q. clash q o;
-        rest = λ q. clash q o;
-        up_to = λ q. clash q o;
-        last = λ q. clash q o;
-        no = λ q us w c i h. y.no f (next_of g (drop 26 f5) record5) (h ∙ sym z);
-      }
+  pub held_bad : HoldsRuns g m (tracks g) at record5 None → Held g t m f5 k s s' None
+  held_bad y = record { long = x.long; told = λ us w c i h. y (next_of g (drop 26 f5) record5) h }
 
-  module _ (bytes : Bytes t) (long : length record5 ≡ 140) (behind : ℕ) (y : HoldsRuns g m (tracks g) at record5 true behind) where
+  module _ (bytes : Bytes t) (long : length record5 ≡ 140) (behind : ℕ) (y : RunsOf g m (tracks g) at record5 behind) where
     long_link : length linked ≡ 5
     long_link = length_part 135 5 record5 (omega arith)
 
     -- there are no more free extents
-    pub held_last : (r : Member) → free_from m (tracks g) behind ≡ [] → r.ok ≡ all_are 0 linked → r.last ≡ true → r.slot ≡ 0 → r.at ≡ behind → Held g t m f5 k s s' r
-    held_last r none o l z a =
-        let d : drop 26 f5 ≡ [] = sym (y.rest refl) ∙ none in
-        let n : next_of g (drop 26 f5) record5 ≡ 0 = ap (λ (x : List Run). next_of g x record5) d in
-        record {
-          long = x.long;
-          took = λ q us w. took_yes (slots g) k 1 s s' b x e us w;
-          here = λ q. ap (format5 g (take 26 f5)) n ∙ y.yes refl 0 (none_is g linked long_link (true_is (sym o ∙ q)));
-          next = λ q. z ∙ sym n;
-          inside = λ q. rw z (omega (arith, limit.least));
-          rest = λ q. rw a (y.rest refl);
-          up_to = λ q. rw a (y.up_to refl);
-          last = λ q. l ∙ sym (ap is_none d);
-          no = λ q us w c i h.
-              clash (ap (all_are 0) (sym (ap (part 135 5) (sym (ap (format5 g (take 26 f5)) n) ∙ h)) ∙ five_link g (take 26 f5) 0) ∙ is_true (none_passes g)) (sym o ∙ q);
-        }
+    pub held_last : free_from m (tracks g) behind ≡ [] → (ok : Bool) → ok ≡ all_are 0 linked → Held g t m f5 k s s' (then_some ok Last)
+    held_last none ok o = record { long = x.long; told = told ok o }
+      where
+        d : drop 26 f5 ≡ []
+        d = sym y.rest ∙ none
+
+        n : next_of g (drop 26 f5) record5 ≡ 0
+        n = ap (λ (x : List Run). next_of g x record5) d
+
+        told : (ok : Bool) → ok ≡ all_are 0 linked → MatchOption (then_some ok Last) (HoldsNone g t f5 k s) (λ r. Holds g t m f5 k s s' r)
+        told true o =
+            record {
+              took = λ us w. took_yes (slots g) k 1 s s' true x refl us w;
+              here = ap (format5 g (take 26 f5)) n ∙ y.bytes 0 (none_is g linked long_link (true_is (sym o)));
+              behind = ap is_none d;
+            }
+        told false o = λ us w c i h.
+            clash (ap (all_are 0) (sym (ap (part 135 5) (sym (ap (format5 g (take 26 f5)) n) ∙ h)) ∙ five_link g (take 26 f5) 0) ∙ is_true (none_passes g)) (sym o)
 
     -- there are more: the record names the slot that holds them
-    pub held_more : (r : Member) (v : Run) (vs : List Run) → free_from m (tracks g) behind ≡ v ∷ vs
-        → r.slot ≡ linked_slot g record5 → r.ok ≡ link_ok r.slot linked → r.last ≡ false → r.at ≡ behind → Held g t m f5 k s s' r
-    held_more r v vs some z o l a =
-        record {
-          long = x.long;
-          took = λ q us w. took_yes (slots g) k 1 s s' b x e us w;
-          here = λ q. ap (format5 g (take 26 f5)) (sym (named q)) ∙ y.yes refl r.slot (is_link q);
-          next = named;
-          inside = λ q. rw z (linked_below g record5 limit);
-          rest = λ q. rw a (y.rest refl);
-          up_to = λ q. rw a (y.up_to refl);
-          last = λ q. l ∙ sym (ap is_none d);
-          no = λ q us w2 c i h. unlinked r.slot (z ∙ found i h) (sym o ∙ q) (sym (five_link g (take 26 f5) (next_of g (drop 26 f5) record5)) ∙ ap (part 135 5) h);
-        }
+    pub held_more : (v : Run) (vs : List Run) → free_from m (tracks g) behind ≡ v ∷ vs → (slot : ℕ) → slot ≡ linked_slot g record5 → (ok : Bool) → ok ≡ link_ok slot linked
+        → Held g t m f5 k s s' (then_some ok (Next slot behind))
+    held_more v vs some slot z ok o = record { long = x.long; told = told ok o }
       where
         d : drop 26 f5 ≡ v ∷ vs
-        d = sym (y.rest refl) ∙ some
+        d = sym y.rest ∙ some
 
         n : next_of g (drop 26 f5) record5 ≡ slot_at g record5 135
         n = ap (λ (x : List Run). next_of g x record5) d
 
-        is_link : r.ok ≡ true → link g r.slot ≡ linked
-        is_link q = go r.slot (sym z) (sym o ∙ q)
+        is_link : true ≡ link_ok slot linked → link g slot ≡ linked
+        is_link q = go slot (sym z) (sym q)
           where
             go : (j : ℕ) → linked_slot g record5 ≡ j → link_ok j linked ≡ true → link g j ≡ linked
             go zero p f = none_is g linked long_link (true_is f)
             go (suc j) p f = (slot_named_lem g (slots g) linked (suc j) long_link (bytes_part 135 5 record5 (bytes_part (140 * k) 140 t bytes)) (omega arith) p).0
 
-        named : r.ok ≡ true → r.slot ≡ next_of g (drop 26 f5) record5
-        named q = sym (n ∙ place_read g r.slot record5 135 (is_link q))
+        named : true ≡ link_ok slot linked → slot ≡ next_of g (drop 26 f5) record5
+        named q = sym (n ∙ place_read g slot record5 135 (is_link q))
 
         unlinked : (j : ℕ) → j ≡ next_of g (drop 26 f5) record5 → link_ok j linked ≡ false → link g (next_of g (drop 26 f5) record5) ≡ linked → ⊥
         unlinked zero p f q = clash (ap (all_are 0) (sym q ∙ sym (ap (link g) p)) ∙ is_true (none_passes g)) f
@@ -321,3 +284,18 @@ module _ (g : Geometry) (limit : Limits g) (t m : List ℕ) (at k : ℕ) (s s' :
             go : (j : ℕ) → j < slots g → link g j ≡ linked → linked_slot g record5 ≡ j
             go zero i p = ap (slot_named g.heads g.records g.vtoc_start (slots g)) (sym p) ∙ slot_none g.heads g.records g.vtoc_start (slots g)
             go (suc j) i p = slot_found g (slots g) linked limit.heads limit.records (suc j) (omega arith) i p
+
+        told : (ok : Bool) → ok ≡ link_ok slot linked → MatchOption (then_some ok (Next slot behind)) (HoldsNone g t f5 k s) (λ r. Holds g t m f5 k s s' r)
+        told true q =
+            record {
+              took = λ us w. took_yes (slots g) k 1 s s' true x refl us w;
+              here = ap (format5 g (take 26 f5)) (sym (named q)) ∙ y.bytes slot (is_link q);
+              behind = record {
+                more = ap is_none d;
+                next = named q;
+                inside = rw z (linked_below g record5 limit);
+                rest = y.rest;
+                up_to = y.up_to;
+              };
+            }
+        told false q = λ us w2 c i h. unlinked slot (z ∙ found i h) (sym q) (sym (five_link g (take 26 f5) (next_of g (drop 26 f5) record5)) ∙ ap (part 135 5) h)

@@ -1,5 +1,5 @@
 -- The chain of format 5s, read from a table and held against the map of free tracks. Assumes nothing.
-use Rattle.std.specs.Prelude.{◌≡◌, ℕ, ◌≤◌, ◌<◌, Bool, true, false, List, [], ◌∷◌, ◌++◌, drop, length, take}
+use Rattle.std.specs.Prelude.{◌≡◌, ℕ, ◌≤◌, ◌<◌, Bool, true, false, List, [], ◌∷◌, ◌++◌, drop, length, take, Option, MatchOption}
 use Rattle.model.specs.Model.{Geometry, Run, fives_for, run, slots, tracks}
 use Rattle.model.specs.Predicates.{All, Once}
 use Rattle.rules.specs.Layout.{fives, format5}
@@ -9,6 +9,7 @@ use Rattle.bitmap.specs.Map.{Shows, free_from}
 use Rattle.dscb.specs.Records.{slot_bytes}
 use Rattle.check_label.specs.Marks.{units}
 use Rattle.check_chain.specs.declared.Member.{Member}
+use Rattle.check_chain.specs.declared.Member.TheVariants.{Last, Next}
 
 -- the slots of the chain that begins in slot k and has room for the free extents f
 unfoldable pub chain_from : Geometry → List ℕ → List Run → ℕ → List ℕ
@@ -23,19 +24,36 @@ abbrev pub is_none : List Run → Bool
 is_none [] = true
 is_none (x ∷ f) = false
 
--- Slot k has left the map of free slots and holds the first of the free extents f, with the address of the next format 5;
--- or not so.
-pub record Held (g : Geometry) (t m : List ℕ) (f : List Run) (k : ℕ) (s s' : List ℕ) (r : Member) : Type 0 where
+-- behind slot k, which has room for the first of the free extents f, stand the others, which are those from track `at` on, in the chain from
+-- `slot` on
+pub record GoesOn (g : Geometry) (t m : List ℕ) (f : List Run) (k slot at : ℕ) : Type 0 where
+  pub more : is_none (drop 26 f) ≡ false
+  pub next : slot ≡ next_of g (drop 26 f) (slot_bytes t k)
+  pub inside : slot < slots g
+  pub rest : free_from m (tracks g) at ≡ drop 26 f
+  pub up_to : at ≤ tracks g
+
+-- what follows slot k: nothing, or these
+abbrev pub Follows : Geometry → List ℕ → List ℕ → List Run → ℕ → Member → Type 0
+Follows g t m f k Last = is_none (drop 26 f) ≡ true
+Follows g t m f k (Next slot at) = GoesOn g t m f k slot at
+
+-- Slot k has left the map of free slots and holds the first of the free extents f, with the address of the next format 5.
+pub record Holds (g : Geometry) (t m : List ℕ) (f : List Run) (k : ℕ) (s s' : List ℕ) (r : Member) : Type 0 where
+  pub took : (us : List Run) → Shows s (slots g) us → Shows s' (slots g) (run k 1 ∷ us)
+  pub here : format5 g (take 26 f) (next_of g (drop 26 f) (slot_bytes t k)) ≡ slot_bytes t k
+  pub behind : Follows g t m f k r
+
+-- It doesn't, or it was held before.
+abbrev pub HoldsNone : Geometry → List ℕ → List Run → ℕ → List ℕ → Type 0
+HoldsNone g t f k s =
+    (us : List Run) → Shows s (slots g) us → Once (slots g) (run k 1 ∷ us) → next_of g (drop 26 f) (slot_bytes t k) < slots g
+    → format5 g (take 26 f) (next_of g (drop 26 f) (slot_bytes t k)) ≡ slot_bytes t k → ⊥
+
+-- whether it does
+pub record Held (g : Geometry) (t m : List ℕ) (f : List Run) (k : ℕ) (s s' : List ℕ) (r : Option Member) : Type 0 where
   pub long : length s' ≡ length s
-  pub took : r.ok ≡ true → (us : List Run) → Shows s (slots g) us → Shows s' (slots g) (run k 1 ∷ us)
-  pub here : r.ok ≡ true → format5 g (take 26 f) (next_of g (drop 26 f) (slot_bytes t k)) ≡ slot_bytes t k
-  pub next : r.ok ≡ true → r.slot ≡ next_of g (drop 26 f) (slot_bytes t k)
-  pub inside : r.ok ≡ true → r.slot < slots g
-  pub rest : r.ok ≡ true → free_from m (tracks g) r.at ≡ drop 26 f
-  pub up_to : r.ok ≡ true → r.at ≤ tracks g
-  pub last : r.ok ≡ true → r.last ≡ is_none (drop 26 f)
-  pub no : r.ok ≡ false → (us : List Run) → Shows s (slots g) us → Once (slots g) (run k 1 ∷ us) → next_of g (drop 26 f) (slot_bytes t k) < slots g
-      → format5 g (take 26 f) (next_of g (drop 26 f) (slot_bytes t k)) ≡ slot_bytes t k → ⊥
+  pub told : MatchOption r (HoldsNone g t f k s) (λ x. Holds g t m f k s s' x)
 
 -- the chain from slot k on holds the free extents f, and its slots have left the map; or not so
 pub record ChainGone (g : Geometry) (t : List ℕ) (f : List Run) (k : ℕ) (s s' : List ℕ) (r : Bool) : Type 0 where

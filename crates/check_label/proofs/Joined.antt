@@ -15,9 +15,11 @@ use Rattle.bitmap.specs.Map.{Shows}
 use Rattle.dscb.specs.Records.{slot_bytes}
 use Rattle.rows.specs.Words.{Bytes}
 use Rattle.dscb.proofs.Records.{chop_slot, length_part}
-use Rattle.check_label.specs.Label.{form_of, shape_of, sound_label, unsound, used_ok}
+use Rattle.std.specs.Prelude.{None, Some}
+use Rattle.std.specs.Bool.{then_some}
+use Rattle.check_label.specs.Label.{form_of, shape_of, used_ok}
 use Rattle.check_label.specs.Marks.{AtLabel, Took, TookLabel, TookSlots, TookTested, label_at, units}
-use Rattle.check_label.proofs.Shape.{Shaped, form_if, shape_bad, shape_good}
+use Rattle.check_label.proofs.Shape.{Shaped, shape_bad, shape_good}
 use Rattle.check_label.proofs.Meaning.{form_bad, form_good, label_slot, slot3_is_lem}
 
 module _ (g : Geometry) (t : List ℕ) (k : ℕ) (a : AtLabel g t k) (bytes : Bytes t) where
@@ -33,10 +35,10 @@ module _ (g : Geometry) (t : List ℕ) (k : ℕ) (a : AtLabel g t k) (bytes : By
   abbrev Good_with : ℕ → Type 0
   Good_with q = LabelOk g rs l × (l.slot3 ≡ q) × (q < slots g)
 
-  pub good_form : (q : ℕ) → form_of g t k ≡ sound_label q → Good_with q
+  pub good_form : (q : ℕ) → form_of g t k ≡ Some q → Good_with q
   good_form q e = form_good g a.limits t bytes a.long k a.low a.high a.id q e
 
-  bad_form : (m m' s s' : List ℕ) → length m' ≡ length m → length s' ≡ length s → form_of g t k ≡ unsound → TookLabel g t k m m' s s' false
+  bad_form : (m m' s s' : List ℕ) → length m' ≡ length m → length s' ≡ length s → form_of g t k ≡ None → TookLabel g t k m m' s s' false
   bad_form m m' s s' lm ls e =
       record {
         long_map = lm;
@@ -50,10 +52,10 @@ module _ (g : Geometry) (t : List ℕ) (k : ℕ) (a : AtLabel g t k) (bytes : By
   pub slot_long : (j : ℕ) → j < slots g → length (slot_bytes t j) ≡ 140
   slot_long j u = length_part (140 * j) 140 t (let m = mul-le-mul_left 140 u in omega (arith, a.long))
 
-  pub label_bad : (m s : List ℕ) → shape_of g t k ≡ unsound → TookLabel g t k m m s s false
+  pub label_bad : (m s : List ℕ) → shape_of g t k ≡ None → TookLabel g t k m m s s false
   label_bad m s e = bad_form m m s s refl refl (shape_bad g a.limits t slot_long k a.high e)
 
-  pub shaped : (q : ℕ) → shape_of g t k ≡ sound_label q → Shaped g a.limits t slot_long k a.high q
+  pub shaped : (q : ℕ) → shape_of g t k ≡ Some q → Shaped g a.limits t slot_long k a.high q
   shaped q e = shape_good g a.limits t slot_long k a.high q e
 
   module _ (q : ℕ) (ok : Good_with q) where
@@ -92,18 +94,18 @@ module _ (g : Geometry) (t : List ℕ) (k : ℕ) (a : AtLabel g t k) (bytes : By
 
   -- ---- the shape is good: the extents in use decide
 
-  module _ (q : ℕ) (e : shape_of g t k ≡ sound_label q) where
+  module _ (q : ℕ) (e : shape_of g t k ≡ Some q) where
     abbrev used : Bool
     used = used_ok g f1 (slot_bytes t q) (get_or f1 59 0)
 
-    form_is : form_of g t k ≡ form_if used q
+    form_is : form_of g t k ≡ then_some used q
     form_is = (shaped q e).form
 
     when_good : used ≡ true → Good_with q
-    when_good u = good_form q (form_is ∙ ap (λ (b : Bool). form_if b q) u)
+    when_good u = good_form q (form_is ∙ ap (λ (b : Bool). then_some b q) u)
 
     when_bad : used ≡ false → (m m' s s' : List ℕ) → length m' ≡ length m → length s' ≡ length s → TookLabel g t k m m' s s' false
-    when_bad u m m' s s' lm ls = bad_form m m' s s' lm ls (form_is ∙ ap (λ (b : Bool). form_if b q) u)
+    when_bad u m m' s s' lm ls = bad_form m m' s s' lm ls (form_is ∙ ap (λ (b : Bool). then_some b q) u)
 
     pub slots_refused : (m s s' : List ℕ) → TookSlots k q s s' false → TookLabel g t k m m s s' false
     slots_refused m s s' x = by used (λ u. slots_bad q (when_good u) m s s' x) (λ u. when_bad u m m s s' refl x.long)

@@ -7,18 +7,20 @@ use native.Mathlib.Nat.{add-zero, zero-add}
 use native.Mathlib.Omega.{arith}
 use native.Mathlib.Numerals.{add-one}
 use borrow.Author.Tests.{lt-leb, le-leb}
+use lib.Dec.{T}
 use lib.ListN.{get_or, take, drop, length, length-drop, take-append-drop}
 use lib.Seq.{drop-drop, take-add, take_all}
 use Rattle.model.specs.Basics.{part}
 use Rattle.model.specs.Model.{Geometry}
 use Rattle.rules.specs.Layout.{extent_part}
-use Rattle.rules.proofs.Keyed.{count}
 use Rattle.dscb.specs.Records.{slot_bytes}
 use Rattle.rows.specs.Words.{all_are}
 use Rattle.rows.proofs.Rows.{and_assoc, and_true, are_append, from_place}
 use Rattle.dscb.proofs.Tens.{in_format1, in_format3, in_rest3}
 use Rattle.dscb.specs.Forms.{extent_ok, one_ok, three_ok}
-use Rattle.check_label.specs.Label.{Judged, extents_ok, few_shape, good_if, good_third, named_third, or_zero, shape_of, sound_label, third_shape, unsound, unused_ok}
+use Rattle.std.specs.Prelude.{None, Some}
+use Rattle.std.specs.Bool.{then_some}
+use Rattle.check_label.specs.Label.{extents_ok, few_shape, named_third, shape_of, third_shape, unused_ok}
 
 module _ (h t : ℕ) (f1 f3 : List ℕ) (n e m : ℕ) (u : e < m) where
   step : extents_ok h t f1 f3 n e (m - e) ≡ (extent_ok h t n e (extent_part f1 f3 e) && extents_ok h t f1 f3 n (e + 1) (m - (e + 1)))
@@ -120,30 +122,23 @@ few_zeros f1 n r l u e =
     ∙ few_rest f1 (3 - n) n l (omega arith)
     ∙ and_swap (unused_ok f1 f1 n (3 - n)) (all_are 0 (part 135 5 f1))
 
-or_zero_lem : (b : Bool) → or_zero b 0 ≡ 0
-or_zero_lem true = refl
-or_zero_lem false = refl
+-- ---- the slot of a format 3, where a test is passed
+
+pub if_some : (b : Bool) (p q : ℕ) → then_some b p ≡ Some q → T b × (p ≡ q)
+if_some true p q e = (tt, cc)
+if_some false p q e = cc
 
 module _ (g : Geometry) (t f1 : List ℕ) (n q : ℕ) (e : q ≡ named_third g f1) where
-  pub third_none : q ≡ 0 → 0 ≡ third_shape g t f1 n
+  pub third_none : q ≡ 0 → None ≡ third_shape g t f1 n
   unfolding third_shape
-  third_none z = let y : named_third g f1 ≡ 0 = sym e ∙ z in rw y (sym (or_zero_lem (three_ok (slot_bytes t 0) && unused_ok f1 (slot_bytes t 0) n (16 - n))))
+  third_none z = let y : named_third g f1 ≡ 0 = sym e ∙ z in rw y
 
-  module _ (f3 : List ℕ) (at : f3 ≡ slot_bytes t q) where
-    pub third_wrong : three_ok f3 ≡ false → 0 ≡ third_shape g t f1 n
-    unfolding third_shape
-    third_wrong b = let y : three_ok (slot_bytes t (named_third g f1)) ≡ false = subst (λ (x : ℕ). three_ok (slot_bytes t x) ≡ false) e (subst (λ (x : List ℕ). three_ok x ≡ false) at b) in rw y
-
-    pub third_tested : (b : Bool) → three_ok f3 ≡ true → unused_ok f1 f3 n (16 - n) ≡ b → or_zero b q ≡ third_shape g t f1 n
-    unfolding third_shape
-    third_tested b x y =
-        let x' : three_ok (slot_bytes t (named_third g f1)) ≡ true = subst (λ (z : ℕ). three_ok (slot_bytes t z) ≡ true) e (subst (λ (z : List ℕ). three_ok z ≡ true) at x) in
-        let y' : unused_ok f1 (slot_bytes t (named_third g f1)) n (16 - n) ≡ b
-        = subst (λ (z : ℕ). unused_ok f1 (slot_bytes t z) n (16 - n) ≡ b) e (subst (λ (z : List ℕ). unused_ok f1 z n (16 - n) ≡ b) at y) in
-        rw (x', y') (ap (or_zero b) e)
+  pub third_tested : 1 ≤ q → (f3 : List ℕ) → f3 ≡ slot_bytes t q → then_some (three_ok f3 && unused_ok f1 f3 n (16 - n)) q ≡ third_shape g t f1 n
+  unfolding third_shape
+  third_tested u f3 at = rw (at, ← e, le-leb 1 q u)
 
 module _ (g : Geometry) (t : List ℕ) (k : ℕ) (f1 : List ℕ) (at : f1 ≡ slot_bytes t k) where
-  pub form_wrong : one_ok f1 ≡ false → unsound ≡ shape_of g t k
+  pub form_wrong : one_ok f1 ≡ false → None ≡ shape_of g t k
   unfolding shape_of
   form_wrong b = let y : one_ok (slot_bytes t k) ≡ false = subst (λ (x : List ℕ). one_ok x ≡ false) at b in rw y
 
@@ -154,26 +149,10 @@ module _ (g : Geometry) (t : List ℕ) (k : ℕ) (f1 : List ℕ) (at : f1 ≡ sl
     count' : get_or (slot_bytes t k) 59 0 ≡ n
     count' = sym (count ∙ ap (λ (x : List ℕ). get_or x 59 0) at)
 
-    pub form_few : (b : Bool) → n ≤ 3 → few_shape f1 n ≡ b → good_if b ≡ shape_of g t k
+    pub form_few : n ≤ 3 → then_some (few_shape f1 n) 0 ≡ shape_of g t k
     unfolding shape_of
-    form_few b u y =
-        let y' : few_shape (slot_bytes t k) n ≡ b = subst (λ (x : List ℕ). few_shape x n ≡ b) at y in
-        rw (one', count', le-leb n 3 u, y')
+    form_few u = rw (one', count', le-leb n 3 u, at)
 
-    pub form_many : (q : ℕ) → 3 < n → q ≡ third_shape g t f1 n → good_third q ≡ shape_of g t k
+    pub form_many : 3 < n → third_shape g t f1 n ≡ shape_of g t k
     unfolding shape_of
-    form_many q u y =
-        let y' : third_shape g t (slot_bytes t k) n ≡ q = sym (y ∙ ap (λ (x : List ℕ). third_shape g t x n) at) in
-        rw (one', count', lt-leb n 3 u, y')
-
-pub third_positive : (q : ℕ) → (q ≡ 0 → ⊥) → sound_label q ≡ good_third q
-third_positive zero n = absurd (n refl)
-third_positive (suc q) n = refl
-
--- ---- the answers differ by their numbers, and sound labels by their format 3s
-
-pub not_sound : {A : Type 0} {q : ℕ} → unsound ≡ sound_label q → A
-not_sound e = absurd (let z : ◌≡◌ {A = ℕ} 3 0 = ap (λ (x : Judged). x.number) e in omega arith)
-
-pub same_third : {p q : ℕ} → sound_label p ≡ sound_label q → p ≡ q
-same_third e = ap (λ (x : Judged). x.third) e
+    form_many u = rw (one', count', lt-leb n 3 u, at)

@@ -8,14 +8,13 @@ use mathlib.Core.Logic.{◌⊎◌, ⊎_elim, inl, inr}
 use native.Mathlib.Nat.{lt_of_not-le, le_refl, mul-le-mul_left}
 use native.Mathlib.Decide.{dec_le}
 use lib.ListN.{length, get_or, get_or-eq_default}
-use mathlib.Core.Bool.{◌&&◌, false, Bool, true}
-use borrow.Author.Tests.{leb-true, leb-false}
+use mathlib.Core.Bool.{◌&&◌, true}
+use borrow.Author.Tests.{le-leb, leb-true, leb-false}
 use Rattle.model.specs.Basics.{part}
 use Rattle.model.specs.Model.{Extent, Geometry, Label, slots, tracks}
 use Rattle.model.proofs.Lists.{and_l, and_r, both, by, is_true, true_is}
 use Rattle.rules.specs.Layout.{extent_part, format1, format3, link}
 use Rattle.rules.specs.Reading.{chop, read_extents, read_label, record_at, slot_at}
-use Rattle.rules.specs.Table.{named}
 use Rattle.rules.proofs.LabelBack.{length_3}
 use Rattle.rules.specs.Predicates.{GoodLabel, Limits}
 use Rattle.rules.specs.Sound.{LabelOk}
@@ -29,8 +28,9 @@ use Rattle.dscb.proofs.Blocks.{ten_for}
 use Rattle.dscb.proofs.Cutting.{bytes_part}
 use Rattle.dscb.proofs.Sound.{OneOk, ThreeOk, one→, three→, →one, →three}
 use Rattle.dscb.proofs.Written.{all_good, count_back, extent_passes, good_label_lem, link1_back, one_back, stand1_back, stand3_back, stands, three_back, written1, written3}
-use Rattle.check_label.specs.Label.{extents_ok, few_ok, form_of, good_if, good_third, named_third, or_zero, sound_label, third_of, unsound}
-use Rattle.check_label.proofs.Laws.{not_sound, same_third, third_positive}
+use Rattle.std.specs.Prelude.{None, Some}
+use Rattle.check_label.specs.Label.{extents_ok, few_ok, form_of, named_third, third_of}
+use Rattle.check_label.proofs.Laws.{if_some}
 
 -- ---- rows of tests
 
@@ -180,43 +180,32 @@ module _ (g : Geometry) (limit : Limits g) (t : List ℕ) (bytes : Bytes t) (len
           th.inside,
         )
 
-    or_some : (b : Bool) (q p : ℕ) → 1 ≤ p → or_zero b q ≡ p → T b × (q ≡ p)
-    or_some true q p u e = (tt, e)
-    or_some false q p u e = absurd (omega arith)
-
-    many_passed : T (one_ok f1) → 3 < n → (q : ℕ) → 1 ≤ q → third_of g t f1 n ≡ q → Passed q
+    many_passed : T (one_ok f1) → 3 < n → (q : ℕ) → third_of g t f1 n ≡ Some q → Passed q
     unfolding third_of
-    many_passed one u q pos e =
-        let a = or_some (three_ok (slot_bytes t (named_third g f1)) && extents_ok g.heads (tracks g) f1 (slot_bytes t (named_third g f1)) n 0 16) (named_third g f1) q pos e in
-        let b = subst (λ (y : ℕ). T (three_ok (slot_bytes t y) && extents_ok g.heads (tracks g) f1 (slot_bytes t y) n 0 16)) a.1 a.0 in
-        let three = and_l (three_ok (slot_bytes t q)) (extents_ok g.heads (tracks g) f1 (slot_bytes t q) n 0 16) b in
-        let x = and_r (three_ok (slot_bytes t q)) (extents_ok g.heads (tracks g) f1 (slot_bytes t q) n 0 16) b in
+    many_passed one u q e =
+        let p : ℕ = named_third g f1 in
+        let a = if_some ((leb 1 p && three_ok (slot_bytes t p)) && extents_ok g.heads (tracks g) f1 (slot_bytes t p) n 0 16) p q e in
+        let b = subst (λ (y : ℕ). T ((leb 1 y && three_ok (slot_bytes t y)) && extents_ok g.heads (tracks g) f1 (slot_bytes t y) n 0 16)) a.1 a.0 in
+        let some = and_l (leb 1 q && three_ok (slot_bytes t q)) (extents_ok g.heads (tracks g) f1 (slot_bytes t q) n 0 16) b in
+        let x = and_r (leb 1 q && three_ok (slot_bytes t q)) (extents_ok g.heads (tracks g) f1 (slot_bytes t q) n 0 16) b in
+        let pos = leb-true 1 q (is_true (and_l (leb 1 q) (three_ok (slot_bytes t q)) some)) in
+        let three = and_r (leb 1 q) (three_ok (slot_bytes t q)) some in
         let nm = slot_named_lem g N (part 135 5 f1) q five (bytes_part 135 5 f1 (slot_bytes_lem k)) pos a.1 in
         let th = from_link q nm.0 nm.1 in
         let each : (e : ℕ) → e < 16 → T (extent_ok g.heads (tracks g) n e (extent_part f1 (slot_bytes t q) e)) = λ e v. tests→ g.heads (tracks g) f1 (slot_bytes t q) n 0 16 x e (omega arith) (omega arith) in
         (good_from q th one (λ e v. each e (omega arith)) (λ v. (pos, three, each)) (λ v. absurd (omega arith)), slot3_is_lem ∙ th.read, th.inside)
 
-    if_good : (b : Bool) (q : ℕ) → good_if b ≡ sound_label q → T b × (q ≡ 0)
-    if_good true q e = (tt, sym (same_third e))
-    if_good false q e = not_sound e
-
-    third_good : (p q : ℕ) → good_third p ≡ sound_label q → (p ≡ q) × (1 ≤ q)
-    third_good zero q e = not_sound e
-    third_good (suc p) q e = let z : suc p ≡ q = same_third e in (z, omega arith)
-
-    pub form_good : (q : ℕ) → form_of g t k ≡ sound_label q → Passed q
+    pub form_good : (q : ℕ) → form_of g t k ≡ Some q → Passed q
     unfolding form_of
     form_good q e =
         by (one_ok f1)
         (λ a.
         by (leb n 3)
         (λ b.
-        let x = if_good (few_ok g.heads (tracks g) f1 n) q (rw (a, b) at e) in
-        subst Passed (sym x.1) (few_passed (true_is a) (leb-true _ _ b) x.0))
-        (λ b.
-        let x = third_good (third_of g t f1 n) q (rw (a, b) at e) in
-        many_passed (true_is a) (leb-false _ _ b) q x.1 x.0))
-        (λ a. let y : unsound ≡ sound_label q = rw a at e in not_sound y)
+        let x = if_some (few_ok g.heads (tracks g) f1 n) 0 q (rw (a, b) at e) in
+        subst Passed x.1 (few_passed (true_is a) (leb-true _ _ b) x.0))
+        (λ b. many_passed (true_is a) (leb-false _ _ b) q (rw (a, b) at e)))
+        (λ a. let y : None ≡ Some q = rw a at e in cc)
 
     -- ---- good, so passed
 
@@ -250,7 +239,7 @@ module _ (g : Geometry) (limit : Limits g) (t : List ℕ) (bytes : Bytes t) (len
           both (all_are 0 (part 135 5 f1)) (extents_ok g.heads (tracks g) f1 f1 n 0 3) (subst (λ (x : List ℕ). T (all_are 0 x)) (sym z) (none_passes g))
           (→tests g.heads (tracks g) f1 f1 n 0 3 (λ e v w. passes_at f1 e (stand1_back g l ok.good f1 l1 e v w)))
 
-      many_passes : 3 < n → (third_of g t f1 n ≡ l.slot3) × (1 ≤ l.slot3)
+      many_passes : 3 < n → third_of g t f1 n ≡ Some l.slot3
       unfolding third_of
       many_passes u =
           let c = counted in
@@ -263,7 +252,8 @@ module _ (g : Geometry) (limit : Limits g) (t : List ℕ) (bytes : Bytes t) (len
           = is_true (subst (λ (x : List ℕ). T (three_ok x)) (sym (ap (slot_bytes t) named ∙ at)) (→three (format3 g l) (three_back g l ok.good))) in
           let ex : extents_ok g.heads (tracks g) f1 (slot_bytes t (named_third g f1)) n 0 16 ≡ true
           = is_true (subst (λ (x : List ℕ). T (extents_ok g.heads (tracks g) f1 x n 0 16)) (sym (ap (slot_bytes t) named ∙ at)) (→tests g.heads (tracks g) f1 (format3 g l) n 0 16 (λ e v w. passes_at (format3 g l) e (every e w)))) in
-          (rw (t3, ex) named, pos)
+          let some : leb 1 (named_third g f1) ≡ true = le-leb 1 (named_third g f1) (omega arith) in
+          rw (some, t3, ex) (ap Some named)
         where
           third_inside : length (record_at rs l.slot3) ≡ 140 → l.slot3 < N
           third_inside e =
@@ -279,18 +269,15 @@ module _ (g : Geometry) (limit : Limits g) (t : List ℕ) (bytes : Bytes t) (len
                 | no v ↦ stand1_back g l ok.good (format3 g l) (length_3 g l) e (omega arith) (lt_of_not-le v)
               ]
 
-    pub form_bad : form_of g t k ≡ unsound → LabelOk g rs l → ⊥
+    pub form_bad : form_of g t k ≡ None → LabelOk g rs l → ⊥
     unfolding form_of
     form_bad e ok =
         let a : one_ok f1 ≡ true = is_true (one_passes ok) in
         by (leb n 3)
         (λ b.
         let c : few_ok g.heads (tracks g) f1 n ≡ true = is_true (few_passes ok (leb-true _ _ b)) in
-        let y : sound_label 0 ≡ unsound = rw (a, b, c) at e in
-        not_sound (sym y))
+        let y : Some 0 ≡ None = rw (a, b, c) at e in
+        cc)
         (λ b.
-        let m = many_passes ok (leb-false _ _ b) in
-        let y : good_third l.slot3 ≡ unsound = rw (a, b, m.0) at e in
-        let q : sound_label l.slot3 ≡ good_third l.slot3 = third_positive l.slot3 (λ w. omega (arith, m.1)) in
-        let p : sound_label l.slot3 ≡ unsound = q ∙ y in
-        not_sound (sym p))
+        let y : Some l.slot3 ≡ None = rw (a, b, many_passes ok (leb-false _ _ b)) at e in
+        cc)

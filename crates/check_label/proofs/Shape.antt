@@ -19,8 +19,10 @@ use Rattle.rows.proofs.Rows.{and_assoc}
 use Rattle.dscb.proofs.Tens.{in_format1}
 use Rattle.dscb.specs.Forms.{extent_ok, one_ok, three_ok}
 use Rattle.dscb.proofs.Linked.{linked_below}
-use Rattle.check_label.specs.Label.{Judged, extents_ok, few_ok, few_shape, form_of, good_if, good_third, named_third, or_zero, shape_of, sound_label, third_of, third_shape, unsound, unused_ok, used_ok}
-use Rattle.check_label.proofs.Laws.{not_sound, same_third}
+use Rattle.std.specs.Prelude.{None, Some}
+use Rattle.std.specs.Bool.{then_some}
+use Rattle.check_label.specs.Label.{extents_ok, few_ok, few_shape, form_of, named_third, shape_of, third_of, third_shape, unused_ok, used_ok}
+use Rattle.check_label.proofs.Laws.{if_some}
 
 module _ (h t : ℕ) (f1 f3 : List ℕ) (n : ℕ) where
   abbrev X : ℕ → ℕ → Bool
@@ -56,40 +58,16 @@ same_used h t f1 a b n e (suc k) l m o u =
 
 -- ---- the answers, by their tests
 
-abbrev pub form_if : Bool → ℕ → Judged
-form_if true q = sound_label q
-form_if false q = unsound
+if_bad : (a x u : Bool) (p : ℕ) → then_some (a && u) p ≡ None → then_some (a && (x && u)) p ≡ None
+if_bad true true u p e = e
+if_bad true false u p e = refl
+if_bad false x u p e = refl
 
-few_bad : (a x u : Bool) → good_if (a && u) ≡ unsound → good_if (a && (x && u)) ≡ unsound
-few_bad true true u e = e
-few_bad true false u e = refl
-few_bad false x u e = refl
-
-few_good : (a x u : Bool) (q : ℕ) → good_if (a && u) ≡ sound_label q → good_if (a && (x && u)) ≡ form_if x q
-few_good true true u q e = e
-few_good true false u q e = refl
-few_good false true u q e = e
-few_good false false u q e = refl
-
-third_bad : (a x u : Bool) (p : ℕ) → good_third (or_zero (a && u) p) ≡ unsound → good_third (or_zero (a && (x && u)) p) ≡ unsound
-third_bad true true u p e = e
-third_bad true false u p e = refl
-third_bad false x u p e = refl
-
-third_good : (a x u : Bool) (p q : ℕ) → good_third (or_zero (a && u) p) ≡ sound_label q → good_third (or_zero (a && (x && u)) p) ≡ form_if x q
-third_good true true u p q e = e
-third_good true false u p q e = refl
-third_good false true u p q e = e
-third_good false false u p q e = refl
-
-few_slot : (b : Bool) (q : ℕ) → good_if b ≡ sound_label q → 0 ≡ q
-few_slot true q e = same_third e
-few_slot false q e = not_sound e
-
-third_slot : (b : Bool) (p q : ℕ) → good_third (or_zero b p) ≡ sound_label q → p ≡ q
-third_slot true zero q e = not_sound e
-third_slot true (suc p) q e = same_third e
-third_slot false p q e = not_sound e
+if_good : (a x u : Bool) (p q : ℕ) → then_some (a && u) p ≡ Some q → then_some (a && (x && u)) p ≡ then_some x q
+if_good true true u p q e = e
+if_good true false u p q e = refl
+if_good false true u p q e = e
+if_good false false u p q e = refl
 
 -- ---- a label
 
@@ -111,29 +89,32 @@ module _ (g : Geometry) (limit : Limits g) (t : List ℕ) (long : (j : ℕ) → 
   unfolding few_ok
   few_parts u = ap (λ (b : Bool). all_are 0 (part 135 5 f1) && b) (parts_are g.heads (tracks g) f1 f1 n 3 u)
 
-  third_parts : n ≤ 16 → third_of g t f1 n ≡ or_zero (three_ok (slot_bytes t (named_third g f1)) && (used_ok g f1 (slot_bytes t (named_third g f1)) n && unused_ok f1 (slot_bytes t (named_third g f1)) n (16 - n))) (named_third g f1)
+  third_parts : n ≤ 16 → third_of g t f1 n
+      ≡ then_some ((leb 1 (named_third g f1) && three_ok (slot_bytes t (named_third g f1))) && (used_ok g f1 (slot_bytes t (named_third g f1)) n && unused_ok f1 (slot_bytes t (named_third g f1)) n (16 - n))) (named_third g f1)
   unfolding third_of
-  third_parts u = ap (λ (b : Bool). or_zero (three_ok (slot_bytes t (named_third g f1)) && b) (named_third g f1)) (parts_are g.heads (tracks g) f1 (slot_bytes t (named_third g f1)) n 16 u)
+  third_parts u =
+      ap (λ (b : Bool). then_some ((leb 1 (named_third g f1) && three_ok (slot_bytes t (named_third g f1))) && b) (named_third g f1))
+      (parts_are g.heads (tracks g) f1 (slot_bytes t (named_third g f1)) n 16 u)
 
-  pub shape_bad : shape_of g t k ≡ unsound → form_of g t k ≡ unsound
+  pub shape_bad : shape_of g t k ≡ None → form_of g t k ≡ None
   unfolding shape_of form_of few_shape third_shape
   shape_bad e =
       by (one_ok f1)
       (λ a.
       by (leb n 3)
-      (λ b. rw (a, b) (ap good_if (few_parts (leb-true _ _ b)) ∙ few_bad (all_are 0 (part 135 5 f1)) (used_ok g f1 f1 n) (unused_ok f1 f1 n (3 - n)) (rw (a, b) at e)))
+      (λ b. rw (a, b) (ap (λ (b : Bool). then_some b 0) (few_parts (leb-true _ _ b)) ∙ if_bad (all_are 0 (part 135 5 f1)) (used_ok g f1 f1 n) (unused_ok f1 f1 n (3 - n)) 0 (rw (a, b) at e)))
       (λ b.
       rw (a, b)
-      (ap good_third (third_parts (one_few f1 a))
-      ∙ third_bad (three_ok (slot_bytes t (named_third g f1))) (used_ok g f1 (slot_bytes t (named_third g f1)) n) (unused_ok f1 (slot_bytes t (named_third g f1)) n (16 - n)) (named_third g f1) (rw (a, b) at e))))
+      (third_parts (one_few f1 a)
+      ∙ if_bad (leb 1 (named_third g f1) && three_ok (slot_bytes t (named_third g f1))) (used_ok g f1 (slot_bytes t (named_third g f1)) n) (unused_ok f1 (slot_bytes t (named_third g f1)) n (16 - n)) (named_third g f1) (rw (a, b) at e))))
       (λ a. rw a)
 
   pub record Shaped (q : ℕ) : Type 0 where
     pub slot : q < slots g
     pub few : n ≤ 16
-    pub form : form_of g t k ≡ form_if (used_ok g f1 (slot_bytes t q) n) q
+    pub form : form_of g t k ≡ then_some (used_ok g f1 (slot_bytes t q) n) q
 
-  pub shape_good : (q : ℕ) → shape_of g t k ≡ sound_label q → Shaped q
+  pub shape_good : (q : ℕ) → shape_of g t k ≡ Some q → Shaped q
   unfolding shape_of form_of few_shape third_shape
   shape_good q e =
       by (one_ok f1)
@@ -141,7 +122,7 @@ module _ (g : Geometry) (limit : Limits g) (t : List ℕ) (long : (j : ℕ) → 
       by (leb n 3)
       (λ b.
       let f = rw (a, b) at e in
-      let z : 0 ≡ q = few_slot (all_are 0 (part 135 5 f1) && unused_ok f1 f1 n (3 - n)) q f in
+      let z : 0 ≡ q = (if_some (all_are 0 (part 135 5 f1) && unused_ok f1 f1 n (3 - n)) 0 q f).1 in
       let w : q < slots g = omega (arith, limit.least) in
       let u = leb-true _ _ b in
       record {
@@ -149,21 +130,21 @@ module _ (g : Geometry) (limit : Limits g) (t : List ℕ) (long : (j : ℕ) → 
         few = one_few f1 a;
         form =
             rw (a, b)
-            (ap good_if (few_parts u)
-            ∙ few_good (all_are 0 (part 135 5 f1)) (used_ok g f1 f1 n) (unused_ok f1 f1 n (3 - n)) q f
-            ∙ ap (λ (x : Bool). form_if x q) (same_used g.heads (tracks g) f1 f1 (slot_bytes t q) n 0 n (long k inside) (long k inside) (long q w) (omega arith)));
+            (ap (λ (b : Bool). then_some b 0) (few_parts u)
+            ∙ if_good (all_are 0 (part 135 5 f1)) (used_ok g f1 f1 n) (unused_ok f1 f1 n (3 - n)) 0 q f
+            ∙ ap (λ (x : Bool). then_some x q) (same_used g.heads (tracks g) f1 f1 (slot_bytes t q) n 0 n (long k inside) (long k inside) (long q w) (omega arith)));
       })
       (λ b.
       let f = rw (a, b) at e in
       let p : ℕ = named_third g f1 in
-      let z : p ≡ q = third_slot (three_ok (slot_bytes t p) && unused_ok f1 (slot_bytes t p) n (16 - n)) p q f in
+      let z : p ≡ q = (if_some ((leb 1 p && three_ok (slot_bytes t p)) && unused_ok f1 (slot_bytes t p) n (16 - n)) p q f).1 in
       record {
         slot = subst (λ (i : ℕ). i < slots g) z (linked_below g f1 limit);
         few = one_few f1 a;
         form =
             rw (a, b)
-            (ap good_third (third_parts (one_few f1 a))
-            ∙ third_good (three_ok (slot_bytes t p)) (used_ok g f1 (slot_bytes t p) n) (unused_ok f1 (slot_bytes t p) n (16 - n)) p q f
-            ∙ ap (λ (i : ℕ). form_if (used_ok g f1 (slot_bytes t i) n) q) z);
+            (third_parts (one_few f1 a)
+            ∙ if_good (leb 1 p && three_ok (slot_bytes t p)) (used_ok g f1 (slot_bytes t p) n) (unused_ok f1 (slot_bytes t p) n (16 - n)) p q f
+            ∙ ap (λ (i : ℕ). then_some (used_ok g f1 (slot_bytes t i) n) q) z);
       }))
-      (λ a. not_sound (rw a at e))
+      (λ a. let y : None ≡ Some q = rw a at e in cc)

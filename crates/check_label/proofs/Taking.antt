@@ -10,7 +10,6 @@ use Rattle.model.specs.Basics.{bit, get2, sum_of, up_from}
 use borrow.Author.Tests.{leb-true, lt-ltb, ltb-true}
 use lib.Dec.{eqb, leb, ltb}
 use lib.ListN.{get_or, length}
-use Rattle.model.specs.Choice.{before}
 use Rattle.model.specs.Model.{Geometry, Run, covers, one_slot, overs, run, times, tracks}
 use Rattle.model.proofs.Lists.{and_l, and_r, by, clash, is_true, sum_append, true_is}
 use Rattle.model.specs.Predicates.{Once}
@@ -132,14 +131,6 @@ one_slot_lem (suc k) u = refl
 module _ (k q : ℕ) (s s₁ s₂ : List ℕ) (r : Bool) (pos : 1 ≤ k) (a : Taken s s₁ k (k + 1) true) where
   is_slot : one_slot k ≡ k ∷ []
   is_slot = one_slot_lem k pos
-
-  pub slots_one : q ≡ 0 → TookSlots k q s s₁ true
-  slots_one z =
-      record {
-        long = a.long;
-        yes = λ e n hs h. rw (z, is_slot) (took_yes n k 1 s s₁ true a refl hs h);
-        no = λ e. clash {b = true} refl e;
-      }
 
   module _ (pos2 : 1 ≤ q) (b : Taken s₁ s₂ q (q + 1) r) where
     two_slots : one_slot q ≡ q ∷ []

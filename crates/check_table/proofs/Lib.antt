@@ -1,6 +1,5 @@
 pub mod Unused
 pub mod Scan
-pub mod Lengths
 pub mod Read
 pub mod Pieces
 pub mod Whole

@@ -28,8 +28,9 @@ use Rattle.check_table.specs.Labels.{GoneBelow, LabelsTaken, labels_below}
 use Rattle.check_table.proofs.Scan.{unit_tally}
 use Rattle.check_chain.specs.Chain.{ChainGone, chain_from}
 use Rattle.check_chain.proofs.Laws.{chain_head, chain_length}
+use Rattle.std.specs.Prelude.{Option, Some, None, IfSome}
 use Rattle.check_table.specs.declared.Verdict.{Verdict}
-use Rattle.check_table.specs.Check.{Contents, MapsBegun, Rest, RestTold, TellsVolume, volume_at}
+use Rattle.check_table.specs.Check.{Contents, MapsBegun, Rest, RestTold, TellsRest, TellsVolume, volume_at}
 use Rattle.check_table.proofs.Read.{all_long, differ_names, highest_is_lem, names_differ_lem}
 
 -- ---- slots in the table
@@ -119,14 +120,14 @@ module _ (g : Geometry) (limit : Limits g) (t : List ℕ) (len : length t ≡ 14
   module _ (m m₁ m₂ s s₁ s₂ : List ℕ) (begun : MapsBegun g m m₁ s s₁) where
     -- ---- a label is wrong, or two overlap or have one name
 
-    pub labels_wrong : (r : Bool) → r ≡ false → LabelsTaken g t N m₁ m₂ s₁ s₂ r → (v : Verdict) → v.taken ≡ false → Contents g t m m₂ s s₂ v
-    labels_wrong r e x v f =
+    pub labels_wrong : (r : Bool) → r ≡ false → LabelsTaken g t N m₁ m₂ s₁ s₂ r → Contents g t m m₂ s s₂ None
+    labels_wrong r e x =
         record {
           long_map = x.long_map ∙ begun.long_map;
           long_slots = x.long_slots ∙ begun.long_slots;
-          yes = λ q. clash q f;
-          shown = λ q. clash q f;
-          tells = λ q. clash q f;
+          yes = λ q. clash q refl;
+          shown = λ q. clash q refl;
+          tells = tt;
           no = λ _ y.
               (x.gone (differ_names g t y.differ)).no e (held g []) (units (0 ∷ [])) begun.free_tracks begun.free_slots y.labels
               (λ j u. let a = y.once j u in let b = held_same j in omega arith)
@@ -171,21 +172,21 @@ module _ (g : Geometry) (limit : Limits g) (t : List ℕ) (len : length t ≡ 14
 
         -- ---- the chain is wrong
 
-        pub chain_wrong : w ≡ false → (o : Verdict) → o.taken ≡ false → Contents g t m m₂ s s₃ o
-        chain_wrong v o f =
+        pub chain_wrong : w ≡ false → Contents g t m m₂ s s₃ None
+        chain_wrong v =
             record {
               long_map = long_map_lem;
               long_slots = gone.long ∙ long_slots_lem;
-              yes = λ q. clash q f;
-              shown = λ q. clash q f;
-              tells = λ q. clash q f;
+              yes = λ q. clash q refl;
+              shown = λ q. clash q refl;
+              tells = tt;
               no = λ _ y.
                   gone.no v before slots_shown y.fives
                   (none_below N ks (λ k u. let a = y.slot_in k u in let f = used_tally ls ks k in omega arith))
                   (λ j u. let a = y.slot_once j in let c = used_same_lem j in omega arith);
             }
 
-        module _ (v : w ≡ true) (o : Verdict) (last : RestTold g t s₃ o) where
+        module _ (v : w ≡ true) where
           all_slots : Shows s₃ N (units (used ls ks))
           all_slots =
               shows_same s₃ N (units ks ++ before) (units (used ls ks)) (λ j u. used_same_lem j ∙ sym (unit_tally j (used ls ks)))
@@ -236,24 +237,25 @@ module _ (g : Geometry) (limit : Limits g) (t : List ℕ) (len : length t ≡ 14
                 four = ap (λ (k : ℕ). format4 g k (length (unused N (used ls ks)))) (sym (highest_is_lem g t N)) ∙ y.four ∙ chop_slot N t 0 zero_in;
               }
 
-          numbers : o.taken ≡ true → TellsVolume (volume_at g t) (geometry_of o.geometry) o.format0s o.highest
+          numbers : (o : Option Verdict) → IfSome o (λ y. TellsRest g t s₃ y) → IfSome o (λ y. TellsVolume (volume_at g t) (geometry_of y.geometry) y.format0s y.highest)
           unfolding format0s
-          numbers p = record {
-            geometry_is = last.geometry_is p;
-            count_is = last.count_is p (used ls ks) all_slots;
-            count_most = last.count_most p;
-            highest_is = last.highest_is p ∙ sym (highest_is_lem g t N);
+          numbers None x = tt
+          numbers (Some y) x = record {
+            geometry_is = x.geometry_is;
+            count_is = x.count_is (used ls ks) all_slots;
+            count_most = x.count_most;
+            highest_is = x.highest_is ∙ sym (highest_is_lem g t N);
           }
 
           -- ---- all is well so far: the rest decides
 
-          pub rest_decides : Contents g t m m₂ s s₃ o
-          rest_decides =
+          pub rest_decides : (o : Option Verdict) → RestTold g t s₃ o → Contents g t m m₂ s s₃ o
+          rest_decides o last =
               record {
                 long_map = long_map_lem;
                 long_slots = gone.long ∙ long_slots_lem;
                 yes = λ p. all_sound (last.yes p (used ls ks) all_slots);
                 shown = λ p. record { free_tracks = tracks_shown; free_slots = all_slots };
-                tells = numbers;
+                tells = numbers o last.tells;
                 no = λ p y. last.no p (used ls ks) all_slots (rest_of y);
               }

@@ -24,7 +24,7 @@ use Rattle.rows.specs.Words.{all_are}
 use Rattle.rows.proofs.Rows.{are_append, are→, →are}
 use Rattle.dscb.proofs.Records.{length_part}
 use Rattle.names.specs.Find.{is_label}
-use Rattle.check_table.specs.Spare.{Spared, ZeroBelow, highest_slot}
+use Rattle.check_table.specs.Spare.{AllZero, ZeroBelow, highest_slot}
 
 -- ---- what a run says of the bits
 
@@ -124,19 +124,15 @@ module _ (t : List ℕ) {m : List ℕ} {n s a b : ℕ} (r : NextRun m n s a b) (
       z k (omega arith) (omega arith)))) e
 
 pub spared_all : (t m : List ℕ) (n at count : ℕ) → n ≤ at → at ≤ n → count ≤ at → count + total (free_from m n at) ≡ total (free_from m n 0) → ZeroBelow t at m
-    → Spared t n m true count
+    → AllZero t n m count
 spared_all t m n at count u v w e z =
     let q : at ≡ n = omega arith in
     let x : total (free_from m n at) ≡ 0 = ap (λ (y : ℕ). total (free_from m n y)) q ∙ ap total (free_from_end m n) in
     record {
-      zero = λ _ k h f. z k (omega arith) f;
-      wrong = λ f. clash {b = true} refl f;
-      many = λ _. omega arith;
+      zero = λ k h f. z k (omega arith) f;
+      many = omega arith;
       most = omega arith;
     }
-
-pub spared_not : (t m : List ℕ) (n count : ℕ) → count ≤ n → (ZeroBelow t n m → ⊥) → Spared t n m false count
-spared_not t m n count u w = record { zero = λ f. clash {b = false} f refl; wrong = λ _. w; many = λ f. clash {b = false} f refl; most = u }
 
 -- ---- the count is that of the model
 

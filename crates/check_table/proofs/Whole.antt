@@ -23,10 +23,11 @@ use Rattle.dscb.proofs.Records.{chop_slot}
 use Rattle.dscb.specs.Forms.{geometry_of}
 use Rattle.check_label.specs.Marks.{units}
 use Rattle.check_table.proofs.Scan.{unit_tally}
-use Rattle.check_table.specs.Spare.{Spared, highest_slot}
+use Rattle.std.specs.Prelude.{Option, Some, None, IfSome, is_some}
+use Rattle.check_table.specs.Spare.{AllZero, ZeroBelow, highest_slot}
 use Rattle.check_table.proofs.Unused.{count_unused}
 use Rattle.check_table.specs.declared.Verdict.{Verdict}
-use Rattle.check_table.specs.Check.{Checked, Contents, MapsBegun, RestTold, Shown, TellsVolume, volume_at}
+use Rattle.check_table.specs.Check.{Checked, Contents, MapsBegun, Rest, RestTold, Shown, TellsVolume, volume_at}
 use Rattle.check_table.proofs.Read.{records_are, volume_is}
 
 -- ---- the maps
@@ -69,48 +70,49 @@ module _ (g : Geometry) (limit : Limits g) (m m₁ m₂ : List ℕ) (r₁ r₂ :
 
 -- ---- the rest
 
-module _ (g : Geometry) (t s : List ℕ) (clear : Bool) (count n : ℕ) (all : n ≡ slots g) (spared : Spared t n s clear count) where
-  x : Spared t (slots g) s clear count
-  x = subst (λ (k : ℕ). Spared t k s clear count) all spared
+module _ (g : Geometry) (t s : List ℕ) where
+  no_rest : ((us : List ℕ) → Shows s (slots g) (units us) → Rest g t us → ⊥) → RestTold g t s None
+  no_rest f = record { yes = λ q. clash q refl; no = λ _. f; tells = tt }
 
-  pub rest_unclear : clear ≡ false → (v : Verdict) → v.taken ≡ false → RestTold g t s v
-  rest_unclear e v f =
-      record {
-        yes = λ q. clash q f;
-        geometry_is = λ q. clash q f;
-        count_is = λ q. clash q f;
-        count_most = λ q. clash q f;
-        highest_is = λ q. clash q f;
-        no = λ _ us h y. x.wrong e (λ k u i. y.zero k u (let a = h k u in let c = unit_tally k us in omega arith));
-      }
+  pub rest_unclear : (n : ℕ) → n ≡ slots g → (ZeroBelow t n s → ⊥) → RestTold g t s None
+  rest_unclear n all f = no_rest (λ us h y. f (λ k u i. y.zero k (omega arith) (let a = h k (omega arith) in let c = unit_tally k us in omega arith)))
 
   -- the verdict v, whose numbers are those that the format 4 is made of
-  module _ (e : clear ≡ true) (made rec : List ℕ) (v : Verdict) (is : geometry_of v.geometry ≡ g) (many : v.format0s ≡ count) (highest : v.highest ≡ highest_slot t n)
-      (four : made ≡ format4 g v.highest count) (first : rec ≡ slot_bytes t 0) (o : v.taken ≡ same made rec) where
+  module _ (count n : ℕ) (all : n ≡ slots g) (spared : AllZero t n s count) (made rec : List ℕ) (v : Verdict) (is : geometry_of v.geometry ≡ g)
+      (many : v.format0s ≡ count) (highest : v.highest ≡ highest_slot t n) (four : made ≡ format4 g v.highest count) (first : rec ≡ slot_bytes t 0) where
+    x : AllZero t (slots g) s count
+    x = subst (λ (k : ℕ). AllZero t k s count) all spared
+
     high : v.highest ≡ highest_slot t (slots g)
     high = highest ∙ ap (highest_slot t) all
 
     count_is : (us : List ℕ) → Shows s (slots g) (units us) → count ≡ length (unused (slots g) us)
-    count_is us w = x.many e ∙ count_unused s (slots g) us (λ k u. let a = w k u in let c = unit_tally k us in omega arith)
+    count_is us w = x.many ∙ count_unused s (slots g) us (λ k u. let a = w k u in let c = unit_tally k us in omega arith)
 
     made_is : (us : List ℕ) → Shows s (slots g) (units us) → made ≡ format4 g (highest_slot t (slots g)) (length (unused (slots g) us))
     made_is us w = four ∙ ap (λ (k : ℕ). format4 g k count) high ∙ ap (format4 g (highest_slot t (slots g))) (count_is us w)
 
-    pub rest_told : RestTold g t s v
-    rest_told =
+    pub rest_wrong : same made rec ≡ false → RestTold g t s None
+    rest_wrong q =
+        no_rest (λ us w y.
+        let i : made ≡ rec = made_is us w ∙ y.four ∙ sym first in
+        clash (ap (same made) (sym i) ∙ is_true (same_refl made)) q)
+
+    pub rest_told : same made rec ≡ true → RestTold g t s (Some v)
+    rest_told q =
         record {
-          geometry_is = λ _. is;
-          count_is = λ _ us w. many ∙ count_is us w;
-          count_most = λ _. let a = x.most in omega arith;
-          highest_is = λ _. high;
-          yes = λ q us w.
+          yes = λ _ us w.
               record {
-                zero = λ k u z. x.zero e k u (let a = w k u in let c = unit_tally k us in omega arith);
-                four = sym (made_is us w) ∙ same→eq made rec (true_is (sym o ∙ q)) ∙ first;
+                zero = λ k u z. x.zero k u (let a = w k u in let c = unit_tally k us in omega arith);
+                four = sym (made_is us w) ∙ same→eq made rec (true_is q) ∙ first;
               };
-          no = λ q us w y.
-              let i : made ≡ rec = made_is us w ∙ y.four ∙ sym first in
-              clash (ap (same made) (sym i) ∙ is_true (same_refl made)) (sym o ∙ q);
+          no = λ e. clash {b = true} refl e;
+          tells = record {
+            geometry_is = is;
+            count_is = λ us w. many ∙ count_is us w;
+            count_most = let a = x.most in omega arith;
+            highest_is = high;
+          };
         }
 
 -- ---- refused at once
@@ -118,10 +120,9 @@ module _ (g : Geometry) (t s : List ℕ) (clear : Bool) (count n : ℕ) (all : n
 refused : (t : List ℕ) → (T (taken t) → ⊥) → false ≡ taken t
 refused t f = by (taken t) (λ e. absurd (f (true_is e))) (λ e. sym e)
 
--- nothing was marked in the maps, and the verdict v says so
-module _ (t m s : List ℕ) (v : Verdict) (out : v.taken ≡ false) where
-  no_maps : (T (taken t) → ⊥) → Checked t m m s s v
-  no_maps f = record { long_map = refl; long_slots = refl; told = out ∙ refused t f; shown = λ q. clash q out; tells = λ q. clash q out }
+-- nothing was marked in the maps, and there is no verdict
+no_maps : (t m s : List ℕ) → (T (taken t) → ⊥) → Checked t m m s s None
+no_maps t m s f = record { long_map = refl; long_slots = refl; told = refused t f; shown = λ q. clash q refl; tells = tt }
 
 pub taken_long : (t : List ℕ) → T (taken t) → length t ≡ slots (read t).geometry * 140
 taken_long t x = let p = taken_is t x in ap length (sym p.1) ∙ length_encode (read t) p.0
@@ -134,34 +135,34 @@ four_id : (g : Geometry) (a b : ℕ) → get_or (format4 g a b) 44 0 ≡ 0xF4
 unfolding format4
 four_id g a b = refl
 
-module _ (t m s : List ℕ) (v : Verdict) (out : v.taken ≡ false) where
-  pub too_short : length t < 140 → Checked t m m s s v
-  too_short u = no_maps t m s v out (λ x. let l = taken_long t x in let n = (taken_sound t x).limits.least in omega arith)
+module _ (t m s : List ℕ) where
+  pub too_short : length t < 140 → Checked t m m s s None
+  too_short u = no_maps t m s (λ x. let l = taken_long t x in let n = (taken_sound t x).limits.least in omega arith)
 
   module _ (u : 140 ≤ length t) where
-    pub no_four : (rec : List ℕ) → rec ≡ slot_bytes t 0 → (get_or rec 44 0 ≡ 0xF4 → ⊥) → Checked t m m s s v
+    pub no_four : (rec : List ℕ) → rec ≡ slot_bytes t 0 → (get_or rec 44 0 ≡ 0xF4 → ⊥) → Checked t m m s s None
     no_four rec e f =
-        no_maps t m s v out (λ x.
+        no_maps t m s (λ x.
         let y = taken_sound t x in
         f (ap (λ (r : List ℕ). get_or r 44 0) (e ∙ sym (chop_slot (length t / 140) t 0 (omega arith)) ∙ sym y.four) ∙ four_id (read t).geometry _ _))
 
     module _ (g : Geometry) (e : g ≡ read_geometry (slot_bytes t 0)) where
-      pub out_of_limits : limits g ≡ false → Checked t m m s s v
+      pub out_of_limits : limits g ≡ false → Checked t m m s s None
       out_of_limits f =
-          no_maps t m s v out (λ x.
+          no_maps t m s (λ x.
           let q : (read t).geometry ≡ g = geometry_read t u ∙ sym e in
           clash (is_true (taken_is t x).0.limit) (ap limits q ∙ f))
 
-      pub wrong_length : (n : ℕ) → n ≡ slots g → (length t ≡ 140 * n → ⊥) → Checked t m m s s v
+      pub wrong_length : (n : ℕ) → n ≡ slots g → (length t ≡ 140 * n → ⊥) → Checked t m m s s None
       wrong_length n all f =
-          no_maps t m s v out (λ x.
+          no_maps t m s (λ x.
           let q : slots (read t).geometry ≡ slots g = ap slots (geometry_read t u ∙ sym e) in
           let l = taken_long t x in
           f (omega arith))
 
 -- ---- the contents decide
 
-pub contents_decide : (t m m' s s' : List ℕ) (g : Geometry) (r : Verdict) → Limits g → g ≡ read_geometry (slot_bytes t 0) → length t ≡ 140 * slots g → Contents g t m m' s s' r
+pub contents_decide : (t m m' s s' : List ℕ) (g : Geometry) (r : Option Verdict) → Limits g → g ≡ read_geometry (slot_bytes t 0) → length t ≡ 140 * slots g → Contents g t m m' s s' r
     → Checked t m m' s s' r
 contents_decide t m m' s s' g r limit e len x =
     let n = limit.least in
@@ -171,11 +172,11 @@ contents_decide t m m' s s' g r limit e len x =
       long_map = x.long_map;
       long_slots = x.long_slots;
       told =
-          by r.taken
+          by (is_some r)
           (λ q. q ∙ sym (is_true (sound_taken t (let z : length t % 140 ≡ 0 = omega arith in z) (rw (v, c) (x.yes q)))))
           (λ q. q ∙ refused t (λ y. x.no q (let z = taken_sound t y in rw (v, c) at z)));
       shown = λ q. subst (λ (w : Volume). Shown w m' s') (sym v) (x.shown q);
-      tells = λ q. subst (λ (w : Volume). TellsVolume w (geometry_of r.geometry) r.format0s r.highest) (sym v) (x.tells q);
+      tells = subst (λ (w : Volume). IfSome r (λ o. TellsVolume w (geometry_of o.geometry) o.format0s o.highest)) (sym v) x.tells;
     }
 
 pub no_label : (t rec : List ℕ) → rec ≡ slot_bytes t 0 → get_or rec 44 0 ≡ 0xF4 → Rattle.names.specs.Find.is_label (slot_bytes t 0) ≡ false

@@ -1,5 +1,5 @@
 -- What the check of a table answers, piece by piece, and of the maps of free tracks and slots that it makes. Assumes nothing.
-use Rattle.std.specs.Prelude.{◌≡◌, ℕ, ◌*◌, ◌≤◌, ◌<◌, true, false, List, [], ◌∷◌, length, replicate}
+use Rattle.std.specs.Prelude.{◌≡◌, ℕ, ◌*◌, ◌≤◌, ◌<◌, List, [], ◌∷◌, Option, IfSome, IsNone, IsSome, is_some, length, replicate}
 use Rattle.model.specs.Basics.{zeros}
 use Rattle.model.specs.Model.{Geometry, Volume, format0s, free, held, slots, tally, tracks, unused, used}
 use Rattle.rules.specs.Layout.{format4, highest}
@@ -43,13 +43,17 @@ pub record Rest (g : Geometry) (t us : List ℕ) : Type 0 where
   pub zero : (k : ℕ) → k < slots g → tally k us ≡ 0 → slot_bytes t k ≡ zeros 140
   pub four : format4 g (highest_slot t (slots g)) (length (unused (slots g) us)) ≡ slot_bytes t 0
 
-pub record RestTold (g : Geometry) (t s : List ℕ) (r : Verdict) : Type 0 where
-  pub yes : r.taken ≡ true → (us : List ℕ) → Shows s (slots g) (units us) → Rest g t us
-  pub no : r.taken ≡ false → (us : List ℕ) → Shows s (slots g) (units us) → Rest g t us → ⊥
-  pub geometry_is : r.taken ≡ true → geometry_of r.geometry ≡ g
-  pub count_is : r.taken ≡ true → (us : List ℕ) → Shows s (slots g) (units us) → r.format0s ≡ length (unused (slots g) us)
-  pub count_most : r.taken ≡ true → r.format0s ≤ slots g
-  pub highest_is : r.taken ≡ true → r.highest ≡ highest_slot t (slots g)
+-- the numbers that are told then
+pub record TellsRest (g : Geometry) (t s : List ℕ) (v : Verdict) : Type 0 where
+  pub geometry_is : geometry_of v.geometry ≡ g
+  pub count_is : (us : List ℕ) → Shows s (slots g) (units us) → v.format0s ≡ length (unused (slots g) us)
+  pub count_most : v.format0s ≤ slots g
+  pub highest_is : v.highest ≡ highest_slot t (slots g)
+
+pub record RestTold (g : Geometry) (t s : List ℕ) (r : Option Verdict) : Type 0 where
+  pub yes : IsSome r → (us : List ℕ) → Shows s (slots g) (units us) → Rest g t us
+  pub no : IsNone r → (us : List ℕ) → Shows s (slots g) (units us) → Rest g t us → ⊥
+  pub tells : IfSome r (λ v. TellsRest g t s v)
 
 -- the maps show what the volume holds
 pub record Shown (v : Volume) (m s : List ℕ) : Type 0 where
@@ -64,18 +68,18 @@ pub record TellsVolume (v : Volume) (g : Geometry) (count top : ℕ) : Type 0 wh
   pub highest_is : top ≡ highest v.labels
 
 -- a table of this geometry is sound, and the maps show what it holds; or it is not
-pub record Contents (g : Geometry) (t m m' s s' : List ℕ) (r : Verdict) : Type 0 where
+pub record Contents (g : Geometry) (t m m' s s' : List ℕ) (r : Option Verdict) : Type 0 where
   pub long_map : length m' ≡ length m
   pub long_slots : length s' ≡ length s
-  pub yes : r.taken ≡ true → Sound (chop (slots g) t) (volume_at g t)
-  pub shown : r.taken ≡ true → Shown (volume_at g t) m' s'
-  pub tells : r.taken ≡ true → TellsVolume (volume_at g t) (geometry_of r.geometry) r.format0s r.highest
-  pub no : r.taken ≡ false → Sound (chop (slots g) t) (volume_at g t) → ⊥
+  pub yes : IsSome r → Sound (chop (slots g) t) (volume_at g t)
+  pub shown : IsSome r → Shown (volume_at g t) m' s'
+  pub tells : IfSome r (λ v. TellsVolume (volume_at g t) (geometry_of v.geometry) v.format0s v.highest)
+  pub no : IsNone r → Sound (chop (slots g) t) (volume_at g t) → ⊥
 
 -- THE CHECK: whether the table is taken, and then what is free and what its numbers are
-pub record Checked (t m m' s s' : List ℕ) (r : Verdict) : Type 0 where
+pub record Checked (t m m' s s' : List ℕ) (r : Option Verdict) : Type 0 where
   pub long_map : length m' ≡ length m
   pub long_slots : length s' ≡ length s
-  pub told : r.taken ≡ taken t
-  pub shown : r.taken ≡ true → Shown (read t) m' s'
-  pub tells : r.taken ≡ true → TellsVolume (read t) (geometry_of r.geometry) r.format0s r.highest
+  pub told : is_some r ≡ taken t
+  pub shown : IsSome r → Shown (read t) m' s'
+  pub tells : IfSome r (λ v. TellsVolume (read t) (geometry_of v.geometry) v.format0s v.highest)

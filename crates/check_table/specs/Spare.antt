@@ -1,5 +1,5 @@
 -- The slots that the map of slots shows free, and the highest slot of a label. Assumes nothing.
-use Rattle.std.specs.Prelude.{ℕ, zero, suc, ◌≤◌, ◌<◌, Bool, true, false, cond, List, ◌≡◌}
+use Rattle.std.specs.Prelude.{ℕ, zero, suc, ◌≤◌, ◌<◌, cond, List, Option, MatchOption, ◌≡◌}
 use Rattle.model.specs.Basics.{zeros}
 use Rattle.model.specs.Model.{total}
 use Rattle.bitmap.specs.Map.{free_bit, free_from}
@@ -10,12 +10,15 @@ use Rattle.names.specs.Find.{is_label}
 abbrev pub ZeroBelow : List ℕ → ℕ → List ℕ → Type 0
 ZeroBelow t n s = (k : ℕ) → k < n → free_bit s k ≡ 1 → slot_bytes t k ≡ zeros 140
 
--- whether the free slots among the n of the table t are zero, and how many they are
-pub record Spared (t : List ℕ) (n : ℕ) (s : List ℕ) (clear : Bool) (count : ℕ) : Type 0 where
-  pub zero : clear ≡ true → ZeroBelow t n s
-  pub wrong : clear ≡ false → ZeroBelow t n s → ⊥
-  pub many : clear ≡ true → count ≡ total (free_from s n 0)
+-- the free slots among the n of the table t are zero, and so many
+pub record AllZero (t : List ℕ) (n : ℕ) (s : List ℕ) (count : ℕ) : Type 0 where
+  pub zero : ZeroBelow t n s
+  pub many : count ≡ total (free_from s n 0)
   pub most : count ≤ n
+
+-- how many they are; or one of them is not zero
+abbrev pub Spared : (t : List ℕ) (n : ℕ) (s : List ℕ) → Option ℕ → Type 0
+Spared t n s r = MatchOption r (ZeroBelow t n s → ⊥) (λ count. AllZero t n s count)
 
 -- the highest of the n slots that has a format 1, 0 for none
 unfoldable pub highest_slot : List ℕ → ℕ → ℕ

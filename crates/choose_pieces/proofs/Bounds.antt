@@ -1,13 +1,14 @@
 -- Units and tracks: where a candidate lies. Assumes nothing.
 use mathlib.Core.Path.{◌≡◌, sym, ap, ◌∙◌, subst}
-use mathlib.Core.List.{List, []}
+use mathlib.Core.List.{List}
 use Prim.Native.Nat.{ℕ, ◌+◌, ◌-◌, ◌*◌, ◌/◌, ◌≤◌}
 use native.Mathlib.Nat.{div-one, le_refl, mul-le-mul, mul-le-mul_right}
 use native.Mathlib.Omega.{arith}
 use lib.ListN.{get_or, get_or-map}
 use Rattle.model.specs.Model.{Run, run}
 use Rattle.model.specs.Choice.{whole_in}
-use Rattle.choose_pieces.specs.Pass.{to_run, to_runs, no_run, Within, Small}
+use Rattle.choose_pieces.specs.declared.Units.{Units}
+use Rattle.choose_pieces.specs.Pass.{to_run, to_runs, no_run, no_units, Within, Small}
 
 -- the code's sum for the whole units from one track up to another
 pub whole_is : (u from to n : ℕ) → from ≤ to → n ≡ to / u - (from + u - 1) / u → run ((from + u - 1) / u) n ≡ whole_in u (run from (to - from))
@@ -33,19 +34,10 @@ small u ds pos w k =
 
 -- ---- the rows that the code holds
 
--- as omega reads it
-pub rows_small : (rs : List (List ℕ)) → Small (to_runs rs)
-    → (get_or (get_or rs 0 []) 1 0 ≤ 65535) × (get_or (get_or rs 1 []) 1 0 ≤ 65535) × (get_or (get_or rs 2 []) 1 0 ≤ 65535)
-    × (get_or (get_or rs 3 []) 1 0 ≤ 65535) × (get_or (get_or rs 4 []) 1 0 ≤ 65535)
-rows_small rs w = (at 0, at 1, at 2, at 3, at 4)
-  where
-    at : (k : ℕ) → get_or (get_or rs k []) 1 0 ≤ 65535
-    at k = subst (λ (r : Run). r.count ≤ 65535) (get_or-map to_run rs k []) (w k)
-
 -- the first n units of candidate k have tracks of 16 bits
-pub part_within : (u : ℕ) (rs : List (List ℕ)) (k : ℕ) (c : List ℕ) (n : ℕ) → Within u (to_runs rs) → c ≡ get_or rs k [] → n ≤ get_or c 1 0
-    → (get_or c 0 0 * u ≤ 65535) × (n * u ≤ 65535)
+pub part_within : (u : ℕ) (rs : List Units) (k : ℕ) (c : Units) (n : ℕ) → Within u (to_runs rs) → c ≡ get_or rs k no_units → n ≤ c.count
+    → (c.start * u ≤ 65535) × (n * u ≤ 65535)
 part_within u rs k c n w e h =
-    let a = subst (λ (r : Run). (r.start + r.count) * u ≤ 65535) (get_or-map to_run rs k [] ∙ ap to_run (sym e)) (w k) in
+    let a = subst (λ (r : Run). (r.start + r.count) * u ≤ 65535) (get_or-map to_run rs k no_units ∙ ap to_run (sym e)) (w k) in
     let b = mul-le-mul_right u h in
     (omega arith, omega arith)

@@ -17,8 +17,9 @@ use Rattle.model.proofs.Lists.{by}
 use Rattle.choose_pieces.specs.Grant.{granted_runs, row, no_pieces, grant_of}
 use Rattle.choose_pieces.specs.declared.SpaceOption.{SpaceOption as Asked}
 use Rattle.choose_pieces.specs.declared.SpaceOption.TheVariants.{NoOption, Contig, Mxig, Alx}
+use Rattle.choose_pieces.specs.declared.Units.{Units}
 use Rattle.choose_pieces.specs.Options.{serve_first, sought, to_option}
-use Rattle.choose_pieces.specs.Pass.{to_run, to_runs, padded, Surveyed, Within}
+use Rattle.choose_pieces.specs.Pass.{no_units, to_run, to_runs, padded, Surveyed, Within}
 use Rattle.choose_pieces.proofs.Gathering.{next_of, one_more_of, rows, stored_whole}
 use Rattle.choose_pieces.proofs.Choosing.{best_within, five_within, found, not_found, several_of}
 
@@ -61,12 +62,12 @@ serve_padded (suc m) (suc k) n (d ∷ ds) h p =
 -- ---- the turns of `whole_pieces`
 
 -- the first k candidates serve and were taken whole
-pub record Taking (u n most : ℕ) (five g : List (List ℕ)) (k : ℕ) : Type 0 where
+pub record Taking (u n most : ℕ) (five : List Units) (g : List (List ℕ)) (k : ℕ) : Type 0 where
   pub few : k ≤ most
   pub so_far : take most (serve_first n (to_runs five)) ≡ to_runs (take k five) ++ take (most - k) (serve_first n (to_runs (drop k five)))
   pub places : g ≡ rows u (to_runs (take k five)) ++ drop k no_pieces
 
-pub taking_none : (u n most : ℕ) (five : List (List ℕ)) → Taking u n most five no_pieces 0
+pub taking_none : (u n most : ℕ) (five : List Units) → Taking u n most five no_pieces 0
 taking_none u n most five =
     let e : most ≡ most - 0 = omega arith in
     record { few = omega arith; so_far = ap (λ (x : ℕ). take x (serve_first n (to_runs five))) e; places = refl }
@@ -77,7 +78,7 @@ unfolding grant_of
 wholes_placed u [] = refl
 wholes_placed u (p ∷ ps) = ap (λ (k : ℕ). rows u (p ∷ ps) ++ drop k no_pieces) (sym (length-map (p ∷ ps) (scale u)))
 
-module _ {u n most : ℕ} {five g : List (List ℕ)} {k : ℕ} (t : Taking u n most five g k) (m : most ≤ 5) (l : length five ≡ 5) where
+module _ {u n most : ℕ} {five : List Units} {g : List (List ℕ)} {k : ℕ} (t : Taking u n most five g k) (m : most ≤ 5) (l : length five ≡ 5) where
   abbrev all : List (List ℕ)
   all = grant_of (map_option (map (scale u)) (or_none (take most (serve_first n (to_runs five)))))
 
@@ -97,7 +98,7 @@ module _ {u n most : ℕ} {five g : List (List ℕ)} {k : ℕ} (t : Taking u n m
 
   module _ (h : k < most) where
     abbrev d : Run
-    d = to_run (get_or five k [])
+    d = to_run (get_or five k no_units)
 
     abbrev w : List Run
     w = to_runs (take k five)
@@ -109,13 +110,13 @@ module _ {u n most : ℕ} {five g : List (List ℕ)} {k : ℕ} (t : Taking u n m
     next = t.so_far ∙ ap (λ (x : List Run). w ++ take (most - k) (serve_first n x)) (next_of k five (omega arith) l)
 
     -- the next one does not serve, nor do those behind it
-    pub taking_short : get_or (get_or five k []) 1 0 < n → g ≡ all
+    pub taking_short : (get_or five k no_units).count < n → g ≡ all
     taking_short s =
         done
         (next ∙ ap (λ (b : Bool). w ++ take (most - k) (cond b (d ∷ serve_first n ds) [])) (lt-leb n d.count s)
         ∙ ap (λ (x : List Run). w ++ x) (take-nil (most - k)) ∙ append-nil w)
 
-    pub taking_next : n ≤ get_or (get_or five k []) 1 0 → Taking u n most five (set g k (row (scale u d))) (k + 1)
+    pub taking_next : n ≤ (get_or five k no_units).count → Taking u n most five (set g k (row (scale u d))) (k + 1)
     taking_next s =
         let e : most - k ≡ suc (most - suc k) = omega arith in
         rw (add-one k)

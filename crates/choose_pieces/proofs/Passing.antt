@@ -13,7 +13,8 @@ use Rattle.dscb.specs.Records.{slot_bytes}
 use Rattle.free_extents.specs.FreeList.{Entries}
 use Rattle.free_extents.proofs.Chain.{lists_next}
 use Rattle.free_extents.proofs.Walk.{Going, going_next}
-use Rattle.choose_pieces.specs.Pass.{LookedOver, Surveyed, better, best_after, entered, five_after, fits_better, no_run, padded, run_or_none, to_run, to_runs}
+use Rattle.choose_pieces.specs.declared.Units.{Units}
+use Rattle.choose_pieces.specs.Pass.{LookedOver, Surveyed, better, best_after, entered, five_after, fits_better, no_run, no_units, padded, run_or_none, to_run, to_runs}
 use Rattle.choose_pieces.proofs.Longest.{five_law, no_longer}
 use Rattle.choose_pieces.proofs.BestFit.{best_law, exact_stays, too_short}
 
@@ -44,9 +45,9 @@ not_among : (u a c : ℕ) → 1 ≤ u → (five : List Run) → c < ((get_or fiv
 not_among u a c pos five k =
     sym (no_longer (whole_in u (run a c)) five (let l = few_units u a c ((get_or five 4 no_run).count + 1) pos (omega arith) k in omega arith))
 
-pub not_among_rows : (u a c : ℕ) → 1 ≤ u → (rs : List (List ℕ)) → c < (get_or (get_or rs 4 []) 1 0 + 1) * u → to_runs rs ≡ entered (whole_in u (run a c)) (to_runs rs)
+pub not_among_rows : (u a c : ℕ) → 1 ≤ u → (rs : List Units) → c < ((get_or rs 4 no_units).count + 1) * u → to_runs rs ≡ entered (whole_in u (run a c)) (to_runs rs)
 not_among_rows u a c pos rs k =
-    let fifth : get_or (get_or rs 4 []) 1 0 ≡ (get_or (to_runs rs) 4 no_run).count = ap (λ (r : Run). r.count) (sym (get_or-map to_run rs 4 [])) in
+    let fifth : (get_or rs 4 no_units).count ≡ (get_or (to_runs rs) 4 no_run).count = ap (λ (r : Run). r.count) (sym (get_or-map to_run rs 4 no_units)) in
     not_among u a c pos (to_runs rs) (subst (λ (m : ℕ). c < (m + 1) * u) fifth k)
 
 -- too short for a unit
@@ -119,5 +120,5 @@ module _ (u n : ℕ) (f five₀ : List Run) (best : Run) (five : List Run) (star
   pub onwards_exact : (g : Geometry) (t : List ℕ) (left k : ℕ) (b : Run) (d : List Run) → Limits g → 1 ≤ k → Going g t left k (Onwards u n f five₀ b d)
       → ((e : List Run) → Entries g.heads (slot_bytes t k) (take 26 e) → LookedOver u n (take 26 e) b best d five) → best.count ≡ n → Surveyed u n f best five
   onwards_exact g t left k b d limit h x here e =
-      let y = going_next g t (Onwards u n f five₀ b d) left k x h _ (Onwards u n f five₀ best five) (λ r z. onwards_next u n f five₀ b best d five r pos (here r z)) (λ m r. lists_next g t k r m limit) in
+      let y = going_next g t (Onwards u n f five₀ b d) left k x h left (omega arith) _ (Onwards u n f five₀ best five) (λ r z. onwards_next u n f five₀ b best d five r pos (here r z)) (λ m r. lists_next g t k r m limit) in
       onwards_to (y.known best five (looked_exact u n y.rest best five pos e))

@@ -32,16 +32,16 @@ pub together_none : (r : List ℕ) (c d : ℕ) → Together r c d 0
 together_none r c d = record { cylinders = λ e j u. absurd (omega arith); odd = λ j u. absurd (omega arith) }
 
 -- entry n too, which stands at place p
-pub together_next : (r : List ℕ) (c d n p d' : ℕ) → p ≡ entry_place n → d ≤ d' → get_or r (p + 4) 0 ≤ d' → Together r c d n → Together r (bit_or (bit_or c (get_or r (p + 2) 0)) (get_or r (p + 3) 0)) d' (n + 1)
+pub together_next : (r : List ℕ) (c d n p d' : ℕ) → p ≡ entry_place n → d ≤ d' → get_or r (p + 4) 0 ≤ d' → Together r c d n → Together r (bit_or c (bit_or (get_or r (p + 2) 0) (get_or r (p + 3) 0))) d' (n + 1)
 together_next r c d n p d' at more most x = record {
   cylinders = λ e j u.
-      let a = or_none_lem (bit_or c (get_or r (p + 2) 0)) (get_or r (p + 3) 0) e in
-      let b = or_none_lem c (get_or r (p + 2) 0) a.0 in
+      let a = or_none_lem c (bit_or (get_or r (p + 2) 0) (get_or r (p + 3) 0)) e in
+      let b = or_none_lem (get_or r (p + 2) 0) (get_or r (p + 3) 0) a.1 in
       let low : get_or r (p + 2 + 1) 0 ≡ get_or r (p + 3) 0 = ap (λ (i : ℕ). get_or r i 0) (let q : p + 2 + 1 ≡ p + 3 = omega arith in q) in
-      let here : get2 r (p + 2) ≡ 0 = omega (arith, a.1, b.1) in
+      let here : get2 r (p + 2) ≡ 0 = omega (arith, b.0, b.1) in
       elim (ℕ_discrete j n) [
         | yes k ↦ ap (λ (i : ℕ). get2 r (entry_place i + 2)) k ∙ ap (λ (i : ℕ). get2 r (i + 2)) (sym at) ∙ here
-        | no k ↦ x.cylinders b.0 j (omega arith)
+        | no k ↦ x.cylinders a.0 j (omega arith)
       ];
   odd = λ j u. elim (ℕ_discrete j n) [
     | yes k ↦ let e : get_or r (entry_place j + 4) 0 ≡ get_or r (p + 4) 0 = ap (λ (i : ℕ). get_or r (entry_place i + 4) 0) k ∙ ap (λ (i : ℕ). get_or r (i + 4) 0) (sym at) in omega arith

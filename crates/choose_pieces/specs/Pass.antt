@@ -5,13 +5,17 @@ use Rattle.model.specs.Basics.{or_else}
 use Rattle.model.specs.Model.{Run, run}
 use Rattle.model.specs.Choice.{candidates, serving, shortest, longest_first, whole_in}
 use Rattle.rules.specs.Reading.{entry_place, read_entry}
+use Rattle.choose_pieces.specs.declared.Units.{Units}
 
 -- candidates as the code holds them, first unit and count, and none where the count is 0
-abbrev pub to_run : List ℕ → Run
-to_run r = run (get_or r 0 0) (get_or r 1 0)
+abbrev pub to_run : Units → Run
+to_run c = run c.start c.count
 
-abbrev pub to_runs : List (List ℕ) → List Run
-to_runs rs = map to_run rs
+abbrev pub to_runs : List Units → List Run
+to_runs cs = map to_run cs
+
+abbrev pub no_units : Units
+no_units = record { start = 0; count = 0 }
 
 abbrev pub no_run : Run
 no_run = run 0 0

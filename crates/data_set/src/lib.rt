@@ -3,7 +3,6 @@
 
 ghost use Rattle.std.specs.Prelude.{◌≡◌, ◌+◌, ◌*◌, ◌≤◌, ◌<◌, length};
 ghost use Rattle.model.specs.Model.{slots};
-ghost use Rattle.rules.specs.Predicates.{Limits};
 ghost use Rattle.dscb.specs.Forms.{geometry_of};
 ghost use Rattle.data_set.specs.Held.{SetAt, ThirdIn};
 
@@ -32,14 +31,14 @@ pub fn third_record(table: &[u8], q: usize) -> [u8; 140]
 
 // The data set whose format 1 is in slot k.
 pub fn set_at(table: &[u8], g: Geometry, k: usize) -> Held
-    requires { Limits (geometry_of g) × (length table.now ≡ 140 * slots (geometry_of g)) × (k < slots (geometry_of g)) }
+    requires { (length table.now ≡ 140 * slots (geometry_of g)) × (k < slots (geometry_of g)) }
     ensures { SetAt (geometry_of g) table.now k result.f1 result.f3 result.count result.slot3 }
 {
     let label = dscb::record_at(table, k);
     let f1 = dscb_write::record_of(label);
     let slot3 = dscb::link(label, g);
     let f3 = third_record(table, slot3);
-    let count = rows::wide(f1[DS1NOEPV]) as usize;
+    let count = usize::from(f1[DS1NOEPV]);
     Held {
         f1,
         f3,

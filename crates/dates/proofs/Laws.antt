@@ -1,83 +1,26 @@
 -- Dates: the definitions, as the code goes. Laws take a result with what it ensures. Assumes nothing.
 use mathlib.Core.Path.{◌≡◌, refl, sym, ap, ap₂, ◌∙◌, subst}
-use mathlib.Core.Bool.{Bool, true, false, not, cond, ◌&&◌}
-use mathlib.Core.Option.{Option, none, some}
+use mathlib.Core.Bool.{Bool, true, false, cond, ◌&&◌}
+use mathlib.Core.Option.{none, some}
 use mathlib.Core.List.{List, [], ◌∷◌, ◌++◌}
-use Prim.Native.Nat.{ℕ, zero, suc, ◌+◌, ◌-◌, ◌*◌, ◌/◌, ◌%◌, ◌≤◌, ◌<◌}
+use Prim.Native.Nat.{ℕ, ◌+◌, ◌-◌, ◌*◌, ◌/◌, ◌%◌, ◌≤◌, ◌<◌}
 use native.Mathlib.Omega.{arith}
-use borrow.Author.Tests.{eq-eqb, eqb-false, eqb-true, le-leb, le-ltb, leb-false, leb-true, lt-leb, lt-ltb, ne_eqb}
-use lib.Dec.{T, eqb, leb, ltb, eqb→eq, leb→le}
-use lib.ListN.{drop, get_or, length, length-drop, set, take}
-use lib.Seq.{take_all}
-use Rattle.model.specs.Basics.{bit, get2, map_option, same, zeros}
+use borrow.Author.Tests.{eq-eqb, le-leb}
+use lib.Dec.{T, eqb, leb, eqb→eq, leb→le}
+use lib.ListN.{drop, get_or, length, length-drop, take}
+use lib.Seq.{drop-drop, take_all}
+use borrow.Rule.Slice.PartMut.{put_mid}
+use Rattle.model.specs.Basics.{get2, map_option, same, zeros}
 use Rattle.model.proofs.Lists.{and_l, and_r, both, by, clash, is_true, same_refl, same→eq, true_is}
-use Rattle.rules.specs.Dates.{Date, date, date_in, days_in, expiry_from, from_packed, from_stored, good_date, later, leap, packed_form, stored_form, to_packed, to_stored, with_expiry}
+use Rattle.rules.specs.Dates.{Date, date, date_in, expiry_from, from_packed, from_stored, good_date, packed_form, stored_form, to_packed, to_stored, with_expiry}
 use Rattle.rules.proofs.Dates.{Good, good}
 use Rattle.dates.specs.Digits.{day_in, digits_in, two_digits, year_in}
 
--- ---- the calendar
-
-pub common : (y : ℕ) → (y % 4 ≡ 0 → ⊥) → false ≡ leap (1900 + y)
-common y h = rw (ne_eqb ((1900 + y) % 4) 0 (λ e. h (omega arith)))
-
--- of 1900 and 2000, the years here that end a century, 2000 is a leap year
-pub a_fourth : (y : ℕ) → y < 200 → y % 4 ≡ 0 → not (eqb y 0) ≡ leap (1900 + y)
-a_fourth y l f =
-    by (eqb y 0)
-    (λ z. rw (eqb-true y 0 z))
-    (λ z.
-    let n = ne_zero y (eqb-false y 0 z) in
-    by (eqb ((1900 + y) % 100) 0)
-    (λ k. let e : y ≡ 100 = hundred y l n (eqb-true ((1900 + y) % 100) 0 k) in rw e)
-    (λ k. rw (z, eq-eqb ((1900 + y) % 4) 0 (omega arith), k)))
-  where
-    ne_zero : (y : ℕ) → (y ≡ 0 → ⊥) → 1 ≤ y
-    ne_zero zero h = absurd (h refl)
-    ne_zero (suc y) h = omega arith
-
-    hundred : (y : ℕ) → y < 200 → 1 ≤ y → (1900 + y) % 100 ≡ 0 → y ≡ 100
-    hundred y l n e = omega arith
-
--- ---- whether there is such a day
+-- ---- a day that there is
 
 module _ (y d : ℕ) where
   abbrev e : Date
   e = date (1900 + y) d
-
-  pub too_late : 200 ≤ y → false ≡ good_date e
-  too_late h = rw (le-leb 1900 (1900 + y) (omega arith), lt-leb (1900 + y) 2099 (omega arith))
-
-  module _ (h : y < 200) where
-    by_day : good_date e ≡ (leb 1 d && leb d (days_in (1900 + y)))
-    by_day = rw (le-leb 1900 (1900 + y) (omega arith), le-leb (1900 + y) 2099 (omega arith))
-
-    pub too_early : d < 1 → false ≡ good_date e
-    too_early l = sym (by_day ∙ rw (lt-leb 1 d l))
-
-    module _ (l : 1 ≤ d) where
-      by_end : good_date e ≡ leb d (days_in (1900 + y))
-      by_end = by_day ∙ rw (le-leb 1 d l)
-
-      pub any_year : d ≤ 365 → true ≡ good_date e
-      any_year u = sym (by_end ∙ le-leb d (days_in (1900 + y)) (omega arith))
-
-      module _ (u : 366 ≤ d) where
-        pub no_year : (d ≡ 366 → ⊥) → false ≡ good_date e
-        no_year n = sym (by_end ∙ lt-leb d (days_in (1900 + y)) (past (leap (1900 + y)) (beyond d u n)))
-          where
-            beyond : (d : ℕ) → 366 ≤ d → (d ≡ 366 → ⊥) → 367 ≤ d
-            beyond d u n = by (leb 367 d) (λ k. leb-true 367 d k) (λ k. let j = leb-false 367 d k in absurd (n (omega arith)))
-
-            past : (b : Bool) → 367 ≤ d → 365 + bit b < d
-            past true m = omega arith
-            past false m = omega arith
-
-        pub leap_year : d ≡ 366 → (b : Bool) → b ≡ leap (1900 + y) → b ≡ good_date e
-        leap_year q b r = sym (by_end ∙ ap₂ (λ (i : ℕ) (k : Bool). leb i (365 + bit k)) q (sym r) ∙ either b)
-          where
-            either : (b : Bool) → leb 366 (365 + bit b) ≡ b
-            either true = refl
-            either false = refl
 
   pub bounds : (ok : Bool) → ok ≡ good_date e → ok ≡ true → (y < 200) × (d < 400)
   bounds ok h k = let g = good e (true_is (sym h ∙ k)) in let a = g.last in let b = g.most in (omega arith, omega arith)
@@ -104,9 +47,6 @@ and_false false b e = refl
 
 -- ---- the forms
 
-pub two_digits_lem : (n : ℕ) → n < 100 → (n + 6 * (n / 10) ≡ n / 10 * 16 + n % 10) × (n + 6 * (n / 10) < 256)
-two_digits_lem n h = (omega arith, omega arith)
-
 packed_as : (y d : ℕ) → y / 100 ∷ (y / 10 % 10 * 16 + y % 10) ∷ (d / 100 * 16 + d / 10 % 10) ∷ (d % 10 * 16 + 15) ∷ [] ≡ packed_form (date (1900 + y) d)
 packed_as y d =
     ap₂ (λ (c z : ℕ). c ∷ (z / 10 % 10 * 16 + z % 10) ∷ (d / 100 * 16 + d / 10 % 10) ∷ (d % 10 * 16 + 15) ∷ [])
@@ -114,22 +54,6 @@ packed_as y d =
   where
     less : (y : ℕ) → 1900 + y - 1900 ≡ y
     less y = omega arith
-
-pub packed_is : (y d b c : ℕ) → b ≡ y % 100 / 10 * 16 + y % 100 % 10 → c ≡ d / 10 / 10 * 16 + d / 10 % 10
-    → y / 100 ∷ b ∷ c ∷ (d % 10 * 16 + 15) ∷ [] ≡ packed_form (date (1900 + y) d)
-packed_is y d b c eb ec =
-    ap₂ (λ (i j : ℕ). y / 100 ∷ i ∷ j ∷ (d % 10 * 16 + 15) ∷ [])
-    (eb ∙ ap₂ (λ (i j : ℕ). i * 16 + j) (tens y) (ones y)) (ec ∙ ap (λ (i : ℕ). i * 16 + d / 10 % 10) (hundreds d))
-    ∙ packed_as y d
-  where
-    tens : (n : ℕ) → n % 100 / 10 ≡ n / 10 % 10
-    tens n = omega arith
-
-    ones : (n : ℕ) → n % 100 % 10 ≡ n % 10
-    ones n = omega arith
-
-    hundreds : (n : ℕ) → n / 10 / 10 ≡ n / 100
-    hundreds n = omega arith
 
 pub stored_is : (y d : ℕ) → y ∷ d / 256 ∷ d % 256 ∷ [] ≡ stored_form (date (1900 + y) d)
 stored_is y d = ap (λ (z : ℕ). z ∷ d / 256 ∷ d % 256 ∷ []) (omega arith)
@@ -152,14 +76,6 @@ module _ (form other : Date → List ℕ) (e : Date) (bs : List ℕ) where
 
 -- packed to stored
 
-pub year_is : (p : List ℕ) (a b : ℕ) → a ≡ get_or p 0 0 → b ≡ get_or p 1 0 → 100 * (a % 16) + 10 * (b / 16) + b % 16 ≡ year_in p
-unfolding year_in
-year_is p a b e f = ap₂ (λ (a b : ℕ). 100 * (a % 16) + 10 * (b / 16) + b % 16) e f
-
-pub day_is : (p : List ℕ) (a b : ℕ) → a ≡ get_or p 2 0 → b ≡ get_or p 3 0 → 100 * (a / 16) + 10 * (a % 16) + b / 16 ≡ day_in p
-unfolding day_in
-day_is p a b e f = ap₂ (λ (a b : ℕ). 100 * (a / 16) + 10 * (a % 16) + b / 16) e f
-
 pub stored_short : (p : List ℕ) → (length p ≡ 4 → ⊥) → to_stored p ≡ none
 unfolding to_stored
 stored_short p h = converts_other packed_form stored_form (from_packed p) p (other_length (packed_form (from_packed p)) p h)
@@ -167,38 +83,6 @@ stored_short p h = converts_other packed_form stored_form (from_packed p) p (oth
 told_four : (p : List ℕ) → length p ≡ 4 → date (1900 + year_in p) (day_in p) ≡ from_packed p
 unfolding year_in day_in
 told_four p l = by_four (λ p. date (1900 + year_in p) (day_in p) ≡ from_packed p) (λ a b c d. ap (λ (y : ℕ). date y (100 * (c / 16) + 10 * (c % 16) + d / 16)) (omega arith)) p l
-
--- ---- whether they are digits, byte by byte
-
-pub two_bad : (b : ℕ) → 0x99 < b → false ≡ two_digits b
-two_bad b h = rw (lt-leb b 0x99 h)
-
-pub two_as : (b : ℕ) → b ≤ 0x99 → leb (b % 16) 9 ≡ two_digits b
-two_as b h = rw (le-leb b 0x99 h)
-
-module _ (p : List ℕ) where
-  pub first_bad : 1 < get_or p 0 0 → false ≡ digits_in p
-  unfolding digits_in
-  first_bad h = rw (lt-leb (get_or p 0 0) 1 h)
-
-  module _ (a : get_or p 0 0 ≤ 1) (x : Bool) (ex : x ≡ two_digits (get_or p 1 0)) where
-    pub second_bad : x ≡ false → false ≡ digits_in p
-    unfolding digits_in
-    second_bad k = rw (le-leb (get_or p 0 0) 1 a, sym ex ∙ k)
-
-    module _ (tx : x ≡ true) (y : Bool) (ey : y ≡ two_digits (get_or p 2 0)) where
-      pub third_bad : y ≡ false → false ≡ digits_in p
-      unfolding digits_in
-      third_bad k = rw (le-leb (get_or p 0 0) 1 a, sym ex ∙ tx, sym ey ∙ k)
-
-      module _ (ty : y ≡ true) where
-        pub fourth_bad : 0x9F < get_or p 3 0 → false ≡ digits_in p
-        unfolding digits_in
-        fourth_bad h = rw (le-leb (get_or p 0 0) 1 a, sym ex ∙ tx, sym ey ∙ ty, lt-leb (get_or p 3 0) 0x9F h)
-
-        pub by_sign : get_or p 3 0 ≤ 0x9F → eqb (get_or p 3 0 % 16) 15 ≡ digits_in p
-        unfolding digits_in
-        by_sign h = rw (le-leb (get_or p 0 0) 1 a, sym ex ∙ tx, sym ey ∙ ty, le-leb (get_or p 3 0) 0x9F h)
 
 -- ---- digits: those of a packed date are, and what has them is the packed form of what it tells
 
@@ -389,42 +273,7 @@ pub expiry_some : (e : List ℕ) (s : Bool) → s ≡ same e (zeros 4) → s ≡
 unfolding expiry_from
 expiry_some e s h k = rw (sym h ∙ k)
 
-set_three : (i : ℕ) (r : List ℕ) (a b c : ℕ) → i + 2 < length r
-    → set (set (set r i a) (suc i) b) (suc (suc i)) c ≡ take i r ++ (a ∷ b ∷ c ∷ drop (suc (suc (suc i))) r)
-set_three i [] a b c h = absurd (omega arith)
-set_three zero (x ∷ []) a b c h = absurd (omega arith)
-set_three zero (x ∷ y ∷ []) a b c h = absurd (omega arith)
-set_three zero (x ∷ y ∷ z ∷ r) a b c h = refl
-set_three (suc i) (x ∷ r) a b c h = ap (λ (l : List ℕ). x ∷ l) (set_three i r a b c (omega arith))
-
-pub expiry_put : (s at : List ℕ) → length s ≡ 3 → length at ≡ 52 → set (set (set at 11 (get_or s 0 0)) 12 (get_or s 1 0)) 13 (get_or s 2 0) ≡ with_expiry s at
+-- the attributes copied, three of them written over
+pub expiry_put : (s at : List ℕ) → length at ≡ 52 → put_mid 11 3 at s ≡ with_expiry s at
 unfolding with_expiry
-expiry_put s at ls la =
-    let k = length-drop 14 at in
-    set_three 11 at (get_or s 0 0) (get_or s 1 0) (get_or s 2 0) (omega arith)
-    ∙ ap₂ (λ (x y : List ℕ). take 11 at ++ (x ++ y)) (three s ls) (sym (take_all 38 (drop 14 at) (omega arith)))
-  where
-    three : (s : List ℕ) → length s ≡ 3 → get_or s 0 0 ∷ get_or s 1 0 ∷ get_or s 2 0 ∷ [] ≡ s
-    three s l = by_three (λ s. get_or s 0 0 ∷ get_or s 1 0 ∷ get_or s 2 0 ∷ [] ≡ s) (λ a b c. refl) s l
-
--- ---- what is told: a date, or none
-
-pub told_none : {o : Option (List ℕ)} (ok : Bool) (bs : List ℕ) → o ≡ cond ok (some bs) none → ok ≡ false → o ≡ none
-told_none ok bs e k = e ∙ ap (λ (b : Bool). cond b (some bs) none) k
-
-pub told_some : {o : Option (List ℕ)} (ok : Bool) (bs : List ℕ) → o ≡ cond ok (some bs) none → ok ≡ true → o ≡ some bs
-told_some ok bs e k = e ∙ ap (λ (b : Bool). cond b (some bs) none) k
-
--- ---- which of two is later
-
-module _ (s t : List ℕ) where
-  pub later_year : get_or t 0 0 < get_or s 0 0 → true ≡ later s t
-  later_year h = rw (lt-ltb (get_or t 0 0) (get_or s 0 0) h)
-
-  module _ (h : get_or s 0 0 ≤ get_or t 0 0) where
-    pub earlier_year : (get_or s 0 0 ≡ get_or t 0 0 → ⊥) → false ≡ later s t
-    earlier_year n = rw (le-ltb (get_or t 0 0) (get_or s 0 0) h, ne_eqb (get_or s 0 0) (get_or t 0 0) n)
-
-    pub by_days : get_or s 0 0 ≡ get_or t 0 0 → (d e : ℕ) → d ≡ get2 s 1 → e ≡ get2 t 1 → ltb e d ≡ later s t
-    by_days q d e ed ee =
-        sym (rw (le-ltb (get_or t 0 0) (get_or s 0 0) h, eq-eqb (get_or s 0 0) (get_or t 0 0) q) (ap₂ (λ (x y : ℕ). ltb x y) (sym ee) (sym ed)))
+expiry_put s at la = ap (λ (x : List ℕ). take 11 at ++ (s ++ x)) (drop-drop 3 11 at ∙ sym (take_all 38 (drop 14 at) (omega (arith, length-drop 14 at))))

@@ -3,12 +3,11 @@ use mathlib.Core.Path.{◌≡◌}
 use mathlib.Core.Bool.{false}
 use mathlib.Core.List.{List}
 use Prim.Native.Nat.{ℕ, ◌+◌, ◌-◌, ◌*◌, ◌≤◌, ◌<◌}
-use native.Mathlib.Omega.{arith}
-use borrow.Author.Tests.{eq-eqb, ne_eqb, lt-ltb, le-ltb, le-leb, lt-leb}
+use borrow.Author.Tests.{lt-ltb, le-ltb, le-leb, lt-leb}
 use lib.ListN.{get_or}
 use Rattle.model.specs.Basics.{get2}
 use Rattle.rules.specs.Reading.{track_at}
-use Rattle.dscb.specs.Tests.{good_ten, slot_named, type_ok}
+use Rattle.dscb.specs.Tests.{good_ten, slot_named}
 use Rattle.rows.proofs.Rows.{and_false}
 
 module _ (h t i : ℕ) (x : List ℕ) where
@@ -20,10 +19,6 @@ module _ (h t i : ℕ) (x : List ℕ) where
   unfolding good_ten
   bad_last u = rw (le-ltb (get2 x 8) h u, and_false)
 
-  pub bad_number : (get_or x 1 0 ≡ i → ⊥) → false ≡ good_ten h t i x
-  unfolding good_ten
-  bad_number u = rw (ne_eqb (get_or x 1 0) i u, and_false, and_false)
-
   pub bad_order : track_at h x 6 < track_at h x 2 → false ≡ good_ten h t i x
   unfolding good_ten
   bad_order u = rw (lt-leb (track_at h x 2) (track_at h x 6) u, and_false, and_false, and_false)
@@ -31,21 +26,6 @@ module _ (h t i : ℕ) (x : List ℕ) where
   pub bad_end : t ≤ track_at h x 6 → false ≡ good_ten h t i x
   unfolding good_ten
   bad_end u = rw (le-ltb (track_at h x 6) t u, and_false, and_false, and_false, and_false)
-
-  pub all_but : (k f l : ℕ) → k ≡ get_or x 0 0 → f ≡ get2 x 4 → l ≡ get2 x 8 → f < h → l < h → get_or x 1 0 ≡ i
-      → track_at h x 2 ≤ track_at h x 6 → track_at h x 6 < t → type_ok h k f l ≡ good_ten h t i x
-  unfolding good_ten
-  all_but k f l ek ef el a b c d e =
-      rw (
-        lt-ltb (get2 x 4) h (omega arith),
-        lt-ltb (get2 x 8) h (omega arith),
-        eq-eqb (get_or x 1 0) i c,
-        le-leb (track_at h x 2) (track_at h x 6) d,
-        lt-ltb (track_at h x 6) t e,
-        ek,
-        ef,
-        el,
-      )
 
 module _ (h d s n : ℕ) (x : List ℕ) where
   pub no_head : h ≤ get2 x 2 → 0 ≡ slot_named h d s n x

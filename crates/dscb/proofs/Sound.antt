@@ -4,7 +4,7 @@ use mathlib.Core.Bool.{Bool, true, false, ◌&&◌, ◌||◌}
 use mathlib.Core.List.{List}
 use Prim.Native.Nat.{ℕ, ◌+◌, ◌-◌, ◌≤◌, ◌<◌}
 use native.Mathlib.Omega.{arith}
-use borrow.Author.Tests.{eqb-true, eq-eqb, ne_eqb, leb-true, le-leb, lt-ltb, le-ltb}
+use borrow.Author.Tests.{eqb-true, eq-eqb, leb-true, le-leb, lt-ltb, le-ltb}
 use lib.Bits.{bit_and}
 use lib.Dec.{T, eqb, leb}
 use lib.ListN.{get_or, drop}
@@ -55,12 +55,6 @@ space_unit u h = agree_is _ _ (for_all (λ x. agree (eqb x 0x80 || eqb x 0xC0) (
 module _ (u s : ℕ) (h : u < 256) where
   pub unit_space : bit_and u 0xBF ≡ 0x80 → true ≡ good_unit u s
   unit_space e = rw (space_unit u h, eq-eqb (bit_and u 0xBF) 0x80 e)
-
-  pub unit_other : (bit_and u 0xBF ≡ 0x80 → ⊥) → (u ≡ 0x00 → ⊥) → false ≡ good_unit u s
-  unit_other m n = rw (space_unit u h, ne_eqb (bit_and u 0xBF) 0x80 m, ne_eqb u 0x00 n)
-
-  pub unit_absolute : (bit_and u 0xBF ≡ 0x80 → ⊥) → u ≡ 0x00 → eqb s 0 ≡ good_unit u s
-  unit_absolute m e = rw (space_unit u h, ne_eqb (bit_and u 0xBF) 0x80 m, eq-eqb u 0x00 e)
 
 -- ---- the formats
 

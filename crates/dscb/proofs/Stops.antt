@@ -1,5 +1,5 @@
 -- Sixteen bits hold every sum of tracks on a volume that meets the limits. Where a table would need more the check stops: here is why a
--- stop is right where it is met, and that what is good meets none. Assumes nothing.
+-- stop is right where it is met, why the numbers of what passes fit, and that what is good meets none. Assumes nothing.
 use mathlib.Core.Path.{◌≡◌, refl, sym, ap, ap₂, ◌∙◌, subst}
 use mathlib.Core.Bool.{Bool, true, false, ◌&&◌}
 use mathlib.Core.List.{List}
@@ -16,10 +16,12 @@ use Rattle.rules.specs.Predicates.{Limits}
 use Rattle.rules.specs.Reading.{read_geometry, track_at}
 use Rattle.rules.specs.Table.{limits}
 use Rattle.rules.proofs.Valid.{→limits}
+use Rattle.rules.specs.Promises.{geometry}
+use Rattle.std.specs.Prelude.{Some, None}
 use Rattle.dscb.specs.Forms.{Gives, geometry_of}
+use Rattle.dscb.specs.declared.device.Geometry.{Geometry as Numbers}
 use Rattle.dscb.specs.Tests.{good_ten, slot_named}
-use Rattle.dscb.specs.declared.Geometry.{Geometry as Numbers}
-use Rattle.dscb.proofs.Failing.{bad_end, bad_order, past_slots}
+use Rattle.dscb.proofs.Failing.{bad_end, bad_first, bad_last, bad_order, past_slots}
 use Rattle.dscb.proofs.Sound.{geometry_is_lem, no_limits}
 
 -- ---- a product, made of the bytes of a factor
@@ -30,13 +32,6 @@ module _ (a b : ℕ) where
       sym (ap (λ (z : ℕ). z * b) (div-add-mod' a 256))
       ∙ add-mul (a / 256 * 256) (a % 256) b
       ∙ ap (λ (z : ℕ). z + a % 256 * b) (mul_right_comm (a / 256) 256 b ∙ mul_comm (a / 256 * b) 256)
-
-  -- a byte times a byte has 16 bits
-  pub high_fits : a < 65536 → b ≤ 255 → a / 256 * b ≤ 65025
-  high_fits u v = let p : a / 256 ≤ 255 = omega arith in mul-le-mul p v
-
-  pub low_fits : b ≤ 255 → a % 256 * b ≤ 65025
-  low_fits v = let p : a % 256 ≤ 255 = omega arith in mul-le-mul p v
 
   -- the stop: the part of the high byte is more than the product may be
   pub high_past : (most : ℕ) → b ≤ 255 → most / 256 < a / 256 * b → false ≡ (leb b 255 && leb (a * b) most)
@@ -112,6 +107,19 @@ module _ (c h i : ℕ) (x : List ℕ) where
 
   pub first_fits : get2 x 2 ≤ get2 x 6 → get2 x 6 < c → get2 x 4 < h → track_at h x 2 < c * h
   first_fits w u v = let d : get2 x 2 < c = omega arith in let p = cylinder_fits c h (get2 x 2) d in omega arith
+
+  -- the stops before the tracks are numbered, together: what meets one is no extent
+  pub stopped : (get2 x 4 < h → get2 x 8 < h → get2 x 6 < c → get2 x 2 ≤ get2 x 6 → ⊥) → false ≡ good_ten h (c * h) i x
+  stopped n =
+      by (ltb (get2 x 4) h)
+      (λ p.
+      by (ltb (get2 x 8) h)
+      (λ q.
+      by (ltb (get2 x 6) c)
+      (λ r. later_cylinder (omega (arith, n (ltb-true _ _ p) (ltb-true _ _ q) (ltb-true _ _ r))) (ltb-true _ _ q))
+      (λ r. end_past (ltb-false _ _ r)))
+      (λ q. bad_last h (c * h) i x (ltb-false _ _ q)))
+      (λ p. bad_first h (c * h) i x (ltb-false _ _ p))
 
   -- a good extent meets no stop
   pub good_passes : good_ten h (c * h) i x ≡ true → get2 x 8 < h → (get2 x 6 < c) × (get2 x 2 ≤ get2 x 6)
@@ -208,20 +216,12 @@ pub limits_pass : (g : Geometry) → Limits g
 limits_pass g l =
     (rw (le-leb g.heads 255 l.heads_most, le-leb (tracks g) 65535 l.tracks_most), rw (le-leb g.records 255 l.records_most, le-leb (slots g) 468 l.most))
 
-module _ (x : Geometry) (n : Numbers) where
-  -- where the limits are broken, any numbers that break them serve
-  pub gives_none : (Limits x → ⊥) → limits (geometry_of n) ≡ false → Gives x n
-  gives_none broken none = record { within = λ p. clash p (sym (no_limits x broken)); beyond = λ _. none }
+-- what is given where the limits are met is the geometry, and nothing is where they are not
+pub given_good : (x : Geometry) (n : Numbers) → Gives x (Some n) → geometry_of n ≡ x
+given_good x n g = g
 
-  pub gives_same : geometry_of n ≡ x → Gives x n
-  gives_same e = record { within = λ _. e; beyond = λ p. ap limits e ∙ p }
-
-  -- so the test of the numbers is that of the geometry
-  pub given_good : Gives x n → limits (geometry_of n) ≡ true → geometry_of n ≡ x
-  given_good g p = by (limits x) (λ q. g.within q) (λ q. clash p (g.beyond q))
-
-  pub given_bad : Gives x n → limits (geometry_of n) ≡ false → limits x ≡ false
-  given_bad g p = by (limits x) (λ q. clash (ap limits (g.within q) ∙ q) p) (λ q. q)
+pub given_bad : (x : Geometry) → Gives x None → limits x ≡ false
+given_bad x g = g
 
 -- the VTOC of c cylinders of h tracks, from track s to track e, as a format 4 tells of it
 abbrev pub vtoc_from : (c h d s e : ℕ) → Geometry
@@ -237,18 +237,15 @@ module _ (c h d s e : ℕ) where
 -- a format 4 whose numbers break the limits, and one whose VTOC is on the volume; c, h and d are read from it, f and l are the first and the
 -- last track of the VTOC, or the volume's end
 module _ (r : List ℕ) (c h : ℕ) (ec : c ≡ get2 r 62) (eh : h ≡ get2 r 64) where
-  pub read_none : (n : Numbers) → (Limits (vtoc_from c h (get_or r 74 0) (track_at h r 107) (track_at h r 111)) → ⊥) → limits (geometry_of n) ≡ false → Gives (read_geometry r) n
-  read_none n broken none =
-      subst (λ (x : Geometry). Gives x n) (geometry_is_lem r c h _ _ _ ec eh refl refl refl)
-      (gives_none (vtoc_from c h (get_or r 74 0) (track_at h r 107) (track_at h r 111)) n broken none)
+  pub read_none : (Limits (vtoc_from c h (get_or r 74 0) (track_at h r 107) (track_at h r 111)) → ⊥) → limits (read_geometry r) ≡ false
+  read_none broken =
+      subst (λ (x : Geometry). limits x ≡ false) (geometry_is_lem r c h _ _ _ ec eh refl refl refl) (sym (no_limits (vtoc_from c h (get_or r 74 0) (track_at h r 107) (track_at h r 111)) broken))
 
   same_read : (d f l : ℕ) → d ≡ get_or r 74 0 → f ≡ track_at h r 107 → l ≡ track_at h r 111 → l - f + 1 ≡ l + 1 - f
       → ◌≡◌ {A = Geometry} (record { cylinders = c; heads = h; records = d; vtoc_start = f; vtoc_tracks = l - f + 1 }) (read_geometry r)
   same_read d f l ed es ee long =
       ap (λ (k : ℕ). record { cylinders = c; heads = h; records = d; vtoc_start = f; vtoc_tracks = k }) long ∙ geometry_is_lem r c h d f l ec eh ed es ee
 
-  pub read_same : (n : Numbers) (d f l : ℕ) → d ≡ get_or r 74 0 → f ≡ min (c * h) (track_at h r 107) → l ≡ min (c * h) (track_at h r 111) → f ≤ l → l < c * h
-      → geometry_of n ≡ record { cylinders = c; heads = h; records = d; vtoc_start = f; vtoc_tracks = l - f + 1 } → Gives (read_geometry r) n
-  read_same n d f l ed ef el u v e =
-      gives_same (read_geometry r) n
-      (◌∙◌ {b = record { cylinders = c; heads = h; records = d; vtoc_start = f; vtoc_tracks = l - f + 1 }} e (same_read d f l ed (omega arith) (omega arith) (omega arith)))
+  pub read_same : (d f l : ℕ) → d ≡ get_or r 74 0 → f ≡ min (c * h) (track_at h r 107) → l ≡ min (c * h) (track_at h r 111) → f ≤ l → l < c * h
+      → geometry c h d f (l - f + 1) ≡ read_geometry r
+  read_same d f l ed ef el u v = same_read d f l ed (omega arith) (omega arith) (omega arith)

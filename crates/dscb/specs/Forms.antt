@@ -1,6 +1,6 @@
 -- What the tests of whole records answer, as the code goes. Assumes nothing.
-use Rattle.std.specs.Prelude.{ℕ, ◌≡◌, Bool, true, false, cond, ◌&&◌, List, ltb, eqb, get_or}
-use Rattle.dscb.specs.declared.Geometry.{Geometry as Numbers}
+use Rattle.std.specs.Prelude.{ℕ, ◌≡◌, Bool, false, cond, ◌&&◌, List, ltb, eqb, get_or, Option, MatchOption}
+use Rattle.dscb.specs.declared.device.Geometry.{Geometry as Numbers}
 use Rattle.model.specs.Basics.{get3, part, within}
 use Rattle.model.specs.Model.{Geometry, slots}
 use Rattle.rules.specs.Table.{good_name, good_unit, limits}
@@ -12,11 +12,10 @@ abbrev pub geometry_of : Numbers → Geometry
 geometry_of n =
     record { cylinders = n.cylinders; heads = n.heads; records = n.records; vtoc_start = n.vtoc_start; vtoc_tracks = n.vtoc_tracks }
 
--- The numbers n, of 16 bits each, for the geometry x: where x meets the limits they are x, and where it does not they do not either. So
--- numbers that 16 bits do not hold need no place of their own.
-pub record Gives (x : Geometry) (n : Numbers) : Type 0 where
-  pub within : limits x ≡ true → geometry_of n ≡ x
-  pub beyond : limits x ≡ false → limits (geometry_of n) ≡ false
+-- The numbers of the geometry x, where it meets the limits; none where it does not. So numbers that 16 bits do not hold need no place
+-- of their own.
+abbrev pub Gives : Geometry → Option Numbers → Type 0
+Gives x r = MatchOption r (limits x ≡ false) (λ n. geometry_of n ≡ x)
 
 -- the slot whose address stands at the end of a format 1 or 5, 0 for none
 abbrev pub linked_slot : Geometry → List ℕ → ℕ

@@ -6,6 +6,7 @@ use native.Mathlib.Omega.{arith}
 use lib.ListN.{drop_of_length-le, length-take, length-replicate, take-append-drop, length-append, length-drop, drop, take, replicate-append-replicate, length}
 use lib.Seq.{take_all, take-append-add, drop-drop, take-nil}
 use native.Mathlib.Nat.{mul-suc, mul-zero}
+use borrow.Rule.Slice.PartMut.{put_mid, Post-is}
 use Rattle.model.specs.Basics.{fill, zeros}
 use Rattle.rules.proofs.Bytes.{fill_split, length_fill}
 use Rattle.dscb_write.specs.Put.{put_at}
@@ -23,6 +24,13 @@ put_is r i xs h =
     (ap (λ (l : List ℕ). put_at l 0 xs) (sym (take-append-drop (length xs) (drop i r)))
     ∙ put_left (take (length xs) (drop i r)) (drop (length xs) (drop i r)) 0 xs (omega arith)
     ∙ ap₂ (λ (x y : List ℕ). x ++ y) (fields_put (take (length xs) (drop i r)) xs (omega arith)) (drop-drop (length xs) i r))
+
+-- the same where a part was lent to a copy of xs
+pub copied_over : (r : List ℕ) (a e : ℕ) (p xs : List ℕ) → p ≡ xs → e ≡ a + length xs → e ≤ length r → put_mid a (e - a) r p ≡ put_at r a xs
+copied_over r a e p xs c w h =
+    ap (put_mid a (e - a) r) c
+    ∙ ap (λ (d : List ℕ). take a r ++ (xs ++ d)) (Post-is a e r (omega arith) ∙ ap (λ (n : ℕ). drop n r) w)
+    ∙ sym (put_is r a xs (omega arith))
 
 -- into zeros
 zeros_put : (m : ℕ) (ys : List ℕ) → length ys ≤ m → put_at (zeros m) 0 ys ≡ ys ++ zeros (m - length ys)

@@ -23,13 +23,15 @@ use Rattle.dscb_write.specs.Fives.{Fills}
 use Rattle.dscb_write.specs.Put.{put_at}
 use Rattle.dscb_write.proofs.Extents.{entry_more}
 use Rattle.dscb_write.proofs.Filling.{drop_snoc, take_snoc}
-use Rattle.dscb_write.proofs.Putting.{put_field, put_five, set_field}
+use Rattle.dscb_write.proofs.Putting.{put_field, set_field}
 
--- an entry stored byte by byte, with w whole cylinders and o tracks
-pub put_made : (r : List ℕ) (i : ℕ) (g : Geometry) (s c w o : ℕ) → (w ≡ c / g.heads) × (o ≡ c % g.heads)
-    → set (set (set (set (set r i (s / 256)) (i + 1) (s % 256)) (i + 2) (w / 256)) (i + 3) (w % 256)) (i + 4) o ≡ put_at r i (entry g (run s c))
-put_made r i g s c w o e =
-    put_five r i (s / 256) (s % 256) (w / 256) (w % 256) o ∙ ap₂ (λ (x y : ℕ). put_at r i (s / 256 ∷ s % 256 ∷ x / 256 ∷ x % 256 ∷ y ∷ [])) e.0 e.1
+-- the bytes of an entry, with w whole cylinders and o tracks
+pub entry_bytes : (g : Geometry) (s c w o : ℕ) → s < 65536 → w < 65536 → w ≡ c / g.heads → o ≡ c % g.heads
+    → ◌≡◌ {A = List ℕ} (s / 256 % 256 ∷ s % 256 ∷ w / 256 % 256 ∷ w % 256 ∷ o ∷ []) (entry g (run s c))
+entry_bytes g s c w o hs hw ew eo =
+    let a : s / 256 % 256 ≡ s / 256 = omega arith in
+    let b : w / 256 % 256 ≡ w / 256 = omega arith in
+    rw (a, b, ew, eo)
 
 -- NONE
 pub five_none : (g : Geometry) → blank 4 0x05 0xF5 ≡ format5 g [] 0
@@ -106,9 +108,6 @@ module _ (g : Geometry) (m : List ℕ) (n at k : ℕ) where
   abbrev F : List Run
   F = free_from m n at
 
-  pub filling_long : (j t : ℕ) (r : List ℕ) → Filling g m n at k j t r → length r ≡ 140
-  filling_long j t r f = ap length f.bytes ∙ five_long g (take j F) k
-
   pub filling_none : at ≤ n → (r : List ℕ) → r ≡ format5 g [] k → Filling g m n at k 0 at r
   filling_none h r e = record { up_to = h; left = refl; bytes = e }
 
@@ -131,12 +130,4 @@ module _ (g : Geometry) (m : List ℕ) (n at k : ℕ) where
         bytes = f.bytes ∙ ap (λ (y : List Run). format5 g y k) (take_all j F l ∙ sym (take_all 26 F (omega arith)));
         rest = free_from_end m n ∙ sym (drop_of_length-le F {i = 26} (omega arith));
         up_to = le_refl n;
-      }
-
-  pub filling_full : (j t : ℕ) (r : List ℕ) → j ≡ 26 → Filling g m n at k j t r → Fills g m n at k r t
-  filling_full j t r e f =
-      record {
-        bytes = f.bytes ∙ ap (λ (i : ℕ). format5 g (take i F) k) e;
-        rest = f.left ∙ ap (λ (i : ℕ). drop i F) e;
-        up_to = f.up_to;
       }

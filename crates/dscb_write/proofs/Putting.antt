@@ -3,9 +3,8 @@ use Prim.Native.Nat.{ℕ, zero, suc, ◌+◌, ◌≤◌, ◌<◌, ◌-◌}
 use mathlib.Core.Path.{◌≡◌, ◌∙◌, refl, sym, ap}
 use mathlib.Core.List.{List, [], ◌∷◌, ◌++◌}
 use native.Mathlib.Omega.{arith}
-use lib.ListN.{get_or, length-set, length, set, length-take, replicate, take, length-replicate, replicate-append-replicate}
-use lib.Seq.{set-append_left, take-suc}
-use native.Mathlib.Numerals.{add-one}
+use lib.ListN.{get_or, length-set, length, set, replicate, length-replicate, replicate-append-replicate}
+use lib.Seq.{set-append_left}
 use Rattle.rules.specs.Layout.{whole}
 use Rattle.rules.proofs.Fields.{Lengths, field, start_of}
 use Rattle.dscb_write.specs.Put.{put_at}
@@ -29,15 +28,6 @@ put_behind r i a b xs ys e =
     let two : i + 2 ≡ i + 1 + 1 = omega arith in
     put_then (set (set r i a) (i + 1) b) (i + 2) xs ys (i + 6) (omega arith) ∙ ap (λ (k : ℕ). put_at (set (set r i a) (i + 1) b) k (xs ++ ys)) two
 
--- five bytes, stored one by one
-pub put_five : (r : List ℕ) (i a b c d e : ℕ) → set (set (set (set (set r i a) (i + 1) b) (i + 2) c) (i + 3) d) (i + 4) e ≡ put_at r i (a ∷ b ∷ c ∷ d ∷ e ∷ [])
-unfolding put_at
-put_five r i a b c d e =
-    let two : i + 2 ≡ i + 1 + 1 = omega arith in
-    let three : i + 3 ≡ i + 1 + 1 + 1 = omega arith in
-    let four : i + 4 ≡ i + 1 + 1 + 1 + 1 = omega arith in
-    rw (two, three, four)
-
 -- the record stays as long
 put_long : (r : List ℕ) (i : ℕ) (xs : List ℕ) → length (put_at r i xs) ≡ length r
 unfolding put_at
@@ -47,7 +37,7 @@ put_long r i (x ∷ xs) = put_long (set r i x) (i + 1) xs ∙ length-set r i x
 pub put_keeps : (r s : List ℕ) (i : ℕ) (xs : List ℕ) (n : ℕ) → s ≡ put_at r i xs → length r ≡ n → length s ≡ n
 put_keeps r s i xs n e l = ap length e ∙ put_long r i xs ∙ l
 
--- in a loop: the same byte again, and a row
+-- in a loop: the same byte again
 pub same_none : (r : List ℕ) (a v : ℕ) → r ≡ put_at r a (replicate (a - a) v)
 unfolding put_at
 same_none r a v = let e : a - a ≡ 0 = omega arith in rw e
@@ -58,15 +48,6 @@ same_more r a i v h =
     let e : (i - a) + 1 ≡ i + 1 - a = omega arith in
     put_next r a (replicate (i - a) v) i v (omega arith)
     ∙ ap (put_at r a) (replicate-append-replicate (i - a) 1 v ∙ ap (λ (k : ℕ). replicate k v) e)
-
-pub row_none : (r : List ℕ) (i : ℕ) (s : List ℕ) → r ≡ put_at r i (take 0 s)
-unfolding put_at
-row_none r i s = refl
-
-pub row_more : (r : List ℕ) (at : ℕ) (s : List ℕ) (i : ℕ) → i < length s → set (put_at r at (take i s)) (at + i) (get_or s i 0) ≡ put_at r at (take (i + 1) s)
-row_more r at s i h =
-    let n = length-take i s in
-    put_next r at (take i s) (at + i) (get_or s i 0) (omega arith) ∙ ap (put_at r at) (sym (take-suc s i 0 h) ∙ ap (λ (k : ℕ). take k s) (sym (add-one i)))
 
 -- ---- into one of two lists
 

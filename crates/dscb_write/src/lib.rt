@@ -7,7 +7,6 @@ ghost use Rattle.model.specs.Basics.{be2, be3};
 ghost use Rattle.model.specs.Model.{extent, run, slots, Geometry, Label};
 ghost use Rattle.rules.specs.Reading.{entry_place};
 ghost use Rattle.rules.specs.Layout.{cchh, entry, extent_bytes, format4, format5, link};
-ghost use Rattle.rules.specs.Predicates.{Limits};
 ghost use Rattle.dscb_write.specs.Put.{put_at};
 ghost use Rattle.dscb.specs.Forms.{geometry_of};
 ghost use Rattle.dscb_write.specs.Blank.{blank};
@@ -24,8 +23,7 @@ pub fn put_two(rec: &mut [u8; 140], at: usize, v: u16)
     requires { (length rec.old ≡ 140) × (at + 1 < 140) }
     ensures { rec.new ≡ put_at rec.old at (be2 v) }
 {
-    rec[at] = (v / 256) as u8;
-    rec[at + 1] = (v % 256) as u8;
+    rec[at..at + 2].copy_from_slice(&v.to_be_bytes());
 }
 
 // Puts a number of three bytes.
@@ -33,14 +31,12 @@ pub fn put_three(rec: &mut [u8; 140], at: usize, v: u32)
     requires { (length rec.old ≡ 140) × (at + 2 < 140) × (v < 16777216) }
     ensures { rec.new ≡ put_at rec.old at (be3 v) }
 {
-    rec[at] = (v / 65536) as u8;
-    rec[at + 1] = (v / 256 % 256) as u8;
-    rec[at + 2] = (v % 256) as u8;
+    rec[at..at + 3].copy_from_slice(&v.to_be_bytes()[1..]);
 }
 
 // Puts the address CCHH of track t.
 pub fn put_track(rec: &mut [u8; 140], at: usize, g: dscb::Geometry, t: u16)
-    requires { (length rec.old ≡ 140) × (at + 3 < 140) × Limits (geometry_of g) }
+    requires { (length rec.old ≡ 140) × (at + 3 < 140) }
     ensures { rec.new ≡ put_at rec.old at (cchh (geometry_of g) t) }
 {
     let h = g.heads;
@@ -50,18 +46,16 @@ pub fn put_track(rec: &mut [u8; 140], at: usize, g: dscb::Geometry, t: u16)
 
 // Puts the address CCHHR of slot k, or zeros for none, which is slot 0.
 pub fn put_link(rec: &mut [u8; 140], at: usize, g: dscb::Geometry, k: usize)
-    requires { (length rec.old ≡ 140) × (at + 4 < 140) × (k < slots (geometry_of g)) × Limits (geometry_of g) }
+    requires { (length rec.old ≡ 140) × (at + 4 < 140) × (k < slots (geometry_of g)) }
     ensures { rec.new ≡ put_at rec.old at (link (geometry_of g) k) }
 {
     if k == 0 {
         put_same(rec, at, at + 5, 0);
-        return;
+    } else {
+        let q = k as u16;
+        put_track(rec, at, g, g.vtoc_start + q / g.records);
+        rec[at + 4] = (q % g.records + 1) as u8;
     }
-    let q = k as u16;
-    let d = g.records;
-    let t = g.vtoc_start + q / d;
-    put_track(rec, at, g, t);
-    rec[at + 4] = (q % d + 1) as u8;
 }
 
 // Puts an extent: type, number, CCHH of the first track and of the last.
@@ -74,7 +68,7 @@ pub fn put_extent(
     start: u16,
     count: u16,
 )
-    requires { (length rec.old ≡ 140) × (at + 9 < 140) × (number < 16) × (1 ≤ count) × (start + count ≤ 65535) × Limits (geometry_of g) }
+    requires { (length rec.old ≡ 140) × (at + 9 < 140) × (number < 16) × (1 ≤ count) × (start + count ≤ 65535) }
     ensures { rec.new ≡ put_at rec.old at (extent_bytes (geometry_of g) number (extent type_byte (run start count))) }
 {
     rec[at] = type_byte;
@@ -83,42 +77,28 @@ pub fn put_extent(
     put_track(rec, at + 6, g, start + count - 1);
 }
 
-// A number of tracks: whole cylinders, odd tracks.
-#[derive(Clone, Copy)]
-struct Cylinders {
-    whole: u16,
-    odd: u16,
-}
-
-// Most free extents are less than a cylinder, and a division costs more than to see that.
-fn split(count: u16, h: u16) -> Cylinders
+// A number of tracks as whole cylinders and odd tracks. Most free extents are less than a cylinder, and a division costs more than to see
+// that.
+fn split(count: u16, h: u16) -> (u16, u16)
     requires { 1 ≤ h }
-    ensures { (result.whole ≡ count / h) × (result.odd ≡ count % h) }
+    ensures { (result.0 ≡ count / h) × (result.1 ≡ count % h) }
 {
     if count < h {
-        return Cylinders {
-            whole: 0,
-            odd: count,
-        };
-    }
-    Cylinders {
-        whole: count / h,
-        odd: count % h,
+        (0, count)
+    } else {
+        (count / h, count % h)
     }
 }
 
 // Puts an entry of a format 5: start track, whole cylinders, odd tracks.
 pub fn put_entry(rec: &mut [u8], at: usize, g: dscb::Geometry, start: u16, count: u16)
-    requires { (length rec.old ≡ 140) × (at + 4 < 140) × (start + count ≤ 65535) × Limits (geometry_of g) }
+    requires { (length rec.old ≡ 140) × (at + 4 < 140) × (start + count ≤ 65535) }
     ensures { rec.new ≡ put_at rec.old at (entry (geometry_of g) (run start count)) }
 {
-    let c = split(count, g.heads);
-    let whole = c.whole;
-    rec[at] = (start / 256) as u8;
-    rec[at + 1] = (start % 256) as u8;
-    rec[at + 2] = (whole / 256) as u8;
-    rec[at + 3] = (whole % 256) as u8;
-    rec[at + 4] = c.odd as u8;
+    let (whole, odd) = split(count, g.heads);
+    let [start_high, start_low] = start.to_be_bytes();
+    let [whole_high, whole_low] = whole.to_be_bytes();
+    rec[at..at + 5].copy_from_slice(&[start_high, start_low, whole_high, whole_low, odd as u8]);
 }
 
 // ---- rows of bytes
@@ -128,11 +108,7 @@ pub fn put_same(rec: &mut [u8; 140], a: usize, e: usize, v: u8)
     requires { (length rec.old ≡ 140) × (a ≤ e) × (e ≤ 140) }
     ensures { rec.new ≡ put_at rec.old a (replicate (e - a) v) }
 {
-    let mut i = a;
-    while i < e {
-        rec[i] = v;
-        i += 1;
-    }
+    rec[a..e].fill(v);
 }
 
 // Puts the bytes of s.
@@ -140,11 +116,7 @@ pub fn put_row(rec: &mut [u8; 140], at: usize, s: &[u8])
     requires { (length rec.old ≡ 140) × (at + length s.now ≤ 140) }
     ensures { rec.new ≡ put_at rec.old at s.now }
 {
-    let mut i = 0;
-    while i < s.len() {
-        rec[at + i] = s[i];
-        i += 1;
-    }
+    rec[at..at + s.len()].copy_from_slice(s);
 }
 
 // A record as it stands in the table.
@@ -153,7 +125,7 @@ pub fn record_of(s: &[u8]) -> [u8; 140]
     ensures { result ≡ s.now }
 {
     let mut r = [0u8; 140];
-    put_row(&mut r, 0, s);
+    r.copy_from_slice(s);
     r
 }
 
@@ -172,7 +144,7 @@ pub fn blank(n: usize, v: u8, id: u8) -> [u8; 140]
 
 // The format 4, slot 0: the highest slot with a format 1, 0 for none, and the number of format 0s.
 pub fn four(g: dscb::Geometry, highest: usize, format0s: usize) -> [u8; 140]
-    requires { (highest < slots (geometry_of g)) × (format0s < 65536) × Limits (geometry_of g) }
+    requires { (highest < slots (geometry_of g)) × (format0s < 65536) }
     ensures { result ≡ format4 (geometry_of g) highest format0s }
 {
     let mut r = blank(DS4IDFMT, 0x04, FORMAT4);
@@ -194,14 +166,15 @@ pub fn entry_place(j: usize) -> usize
     ensures { (result ≡ entry_place j) × (result + 4 < 140) }
 {
     if j < 8 {
-        return DS5AVEXT + 5 * j;
+        DS5AVEXT + 5 * j
+    } else {
+        DS5MAVET + 5 * (j - 8)
     }
-    DS5MAVET + 5 * (j - 8)
 }
 
 // The format 5 that has no entry, with slot k as the next one, 0 for none.
 fn empty_five(g: dscb::Geometry, k: usize) -> [u8; 140]
-    requires { (k < slots (geometry_of g)) × Limits (geometry_of g) }
+    requires { k < slots (geometry_of g) }
     ensures { result ≡ format5 (geometry_of g) [] k }
 {
     let mut r = blank(DS5AVEXT, 0x05, FORMAT5);
@@ -220,25 +193,20 @@ pub fn five(
     g: dscb::Geometry,
     k: usize,
 ) -> u16
-    requires { (length rec.old ≡ 140) × (at ≤ n) × (n ≤ 64 * length free_tracks.now) × (n ≤ 65535) × (k < slots (geometry_of g)) × Limits (geometry_of g) }
+    requires { (length rec.old ≡ 140) × (at ≤ n) × (n ≤ 64 * length free_tracks.now) × (n ≤ 65535) × (k < slots (geometry_of g)) }
     ensures { Fills (geometry_of g) free_tracks.now n at k rec.new result }
 {
-    let made = empty_five(g, k);
-    rows::copy(&made, rec);
+    rec.copy_from_slice(&empty_five(g, k));
     let mut t = at;
     let mut x = bitmap::rest_of(free_tracks, at, n);
-    let mut j: usize = 0;
-    while j < 26 {
+    for j in 0..26 {
         let free = bitmap::run_ahead(free_tracks, t, n, x);
-        let from = free.from;
-        let to = free.to;
-        if from >= n {
+        if free.from >= n {
             return n;
         }
-        put_entry(rec, entry_place(j), g, from, to - from);
-        t = to;
+        put_entry(rec, entry_place(j), g, free.from, free.to - free.from);
+        t = free.to;
         x = free.rest;
-        j += 1;
     }
     t
 }
@@ -275,13 +243,12 @@ pub fn add_extent1(
     start: u16,
     count: u16,
 )
-    requires { (length rec.old ≡ 140) × (n < 16) × (1 ≤ count) × (start + count ≤ 65535) × Limits (geometry_of g) }
+    requires { (length rec.old ≡ 140) × (n < 16) × (1 ≤ count) × (start + count ≤ 65535) }
     ensures { ((l : Label) → length l.extents ≡ n → Format1 (geometry_of g) l rec.old → Format1 (geometry_of g) (with_extent (extent type_byte (run start count)) l) rec.new) × (length rec.new ≡ 140) }
 {
     rec[DS1NOEPV] = (n + 1) as u8;
     if n < 3 {
         put_extent(rec, DS1EXT1 + 10 * n, g, n, type_byte, start, count);
-        return;
     }
 }
 
@@ -294,14 +261,14 @@ pub fn add_extent3(
     start: u16,
     count: u16,
 )
-    requires { (length rec.old ≡ 140) × (3 ≤ n) × (n < 16) × (1 ≤ count) × (start + count ≤ 65535) × Limits (geometry_of g) }
+    requires { (length rec.old ≡ 140) × (3 ≤ n) × (n < 16) × (1 ≤ count) × (start + count ≤ 65535) }
     ensures { ((l : Label) → length l.extents ≡ n → Format3 (geometry_of g) l rec.old → Format3 (geometry_of g) (with_extent (extent type_byte (run start count)) l) rec.new) × (length rec.new ≡ 140) }
 {
     if n < 7 {
         put_extent(rec, DS3EXTNT + 10 * (n - 3), g, n, type_byte, start, count);
-        return;
+    } else {
+        put_extent(rec, DS3ADEXT + 10 * (n - 7), g, n, type_byte, start, count);
     }
-    put_extent(rec, DS3ADEXT + 10 * (n - 7), g, n, type_byte, start, count);
 }
 
 // Makes the format 1 of a label that of the label with its first n extents.
@@ -312,7 +279,6 @@ pub fn keep_extents1(rec: &mut [u8; 140], n: usize)
     rec[DS1NOEPV] = n as u8;
     if n < 3 {
         put_same(rec, DS1EXT1 + 10 * n, DS1PTRDS, 0);
-        return;
     }
 }
 
@@ -324,9 +290,9 @@ pub fn keep_extents3(rec: &mut [u8; 140], n: usize)
     if n < 7 {
         put_same(rec, DS3EXTNT + 10 * (n - 3), DS3FMTID, 0);
         put_same(rec, DS3ADEXT, DS3PTRDS, 0);
-        return;
+    } else {
+        put_same(rec, DS3ADEXT + 10 * (n - 7), DS3PTRDS, 0);
     }
-    put_same(rec, DS3ADEXT + 10 * (n - 7), DS3PTRDS, 0);
 }
 
 // Makes the format 1 one with another last block.
@@ -338,18 +304,17 @@ pub fn set_ttr(rec: &mut [u8; 140], ttr: u32)
 }
 
 // A format 1 with another name.
-pub fn set_name(rec: [u8; 140], name: &[u8]) -> [u8; 140]
+pub fn set_name(mut rec: [u8; 140], name: &[u8]) -> [u8; 140]
     requires { length name.now ≡ 44 }
     ensures { (g : Geometry) (l : Label) → Format1 g l rec → Format1 g (with_name name.now l) result }
 {
-    let mut r = rec;
-    put_row(&mut r, 0, name);
-    r
+    put_row(&mut rec, 0, name);
+    rec
 }
 
 // Makes the format 1 one whose format 3 is in slot k, 0 for none.
 pub fn set_link3(rec: &mut [u8; 140], g: dscb::Geometry, k: usize)
-    requires { (length rec.old ≡ 140) × (k < slots (geometry_of g)) × Limits (geometry_of g) }
+    requires { (length rec.old ≡ 140) × (k < slots (geometry_of g)) }
     ensures { (l : Label) (slot : ℕ) → Format1 (geometry_of g) l rec.old → Format1 (geometry_of g) (with_slots slot k l) rec.new }
 {
     put_link(rec, DS1PTRDS, g, k);

@@ -65,13 +65,6 @@ grow n c cs i =
 abbrev pub AllIn : List ℕ → ℕ → ℕ → Type 0
 AllIn s j e = (i : ℕ) → j ≤ i → i < e → in_part (get_or s i 0) ≡ true
 
-pub in_more : (s : List ℕ) (j i : ℕ) → AllIn s j i → in_part (get_or s i 0) ≡ true → AllIn s j (i + 1)
-in_more s j i a x k u v =
-    elim (native.Mathlib.Decide.ℕ_discrete k i) [
-      | yes q ↦ rw q x
-      | no q ↦ a k u (omega arith)
-    ]
-
 -- m characters: they go on with a part of 8 at most, or make it too long
 walk : (s : List ℕ) (m n j : ℕ) → AllIn s j (j + m) → j + m ≤ length s → suc n + m ≤ 8 → name_from (suc n) (drop j s) ≡ name_from (suc n + m) (drop (j + m) s)
 walk s zero n j a l h =

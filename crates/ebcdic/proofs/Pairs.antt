@@ -17,7 +17,7 @@ use Rattle.rules.specs.Table.{good_name, in_part, name_from, starts_part}
 use Rattle.ebcdic.specs.Pairs.{Tells, brief, class_of, fit, least_of_four, least_of_nine, sixteen_to, turns_to, wanted_after}
 use Rattle.rows.specs.Words.{all_are}
 use Rattle.ebcdic.proofs.Names.{agree, agree_is, for_all, grow, or_false, or_none_set}
-use Rattle.rows.proofs.Rows.{from_place, rest}
+use Rattle.rows.proofs.Rows.{and_assoc, from_place, rest}
 
 -- ---- both of two
 
@@ -443,9 +443,9 @@ module _ (s : List ℕ) (i : ℕ) where
 -- ---- the loops
 
 module _ (f g : ℕ → Bool) (bad x y i : ℕ) (eb : Tells bad (turns_to f g i)) (ex : Tells x (f i)) (ey : Tells y (g i)) where
-  pub turn : Tells (bit_or (bit_or bad x) y) (turns_to f g (i + 1))
+  pub turn : Tells (bit_or bad (bit_or x y)) (turns_to f g (i + 1))
   unfolding turns_to
-  turn = rw add-one (tells_or (bit_or bad x) y (turns_to f g i && f i) (g i) (tells_or bad x (turns_to f g i) (f i) eb ex) ey)
+  turn = rw (add-one, and_assoc) (tells_or bad (bit_or x y) (turns_to f g i) (f i && g i) eb (tells_or x y (f i) (g i) ex ey))
 
 pub no_turn : (f g : ℕ → Bool) → Tells 0 (turns_to f g 0)
 unfolding turns_to
@@ -474,9 +474,9 @@ no_name s l e = on_start s 0 0 l ∙ rw e
 
 -- ---- names of 44 characters
 
--- all tests before place w
+-- all tests before place w: there are 43 pairs of neighbours and 36 rows of nine
 abbrev pub PairsUpto : List ℕ → ℕ → Type 0
-PairsUpto s w = (k : ℕ) → k < w → (fit s k ≡ true) × (brief s k ≡ true)
+PairsUpto s w = (k : ℕ) → k < w → (k < 43 → fit s k ≡ true) × (k < 36 → brief s k ≡ true)
 
 module _ (s : List ℕ) (l : length s ≡ 44) (st : starts_part (get_or s 0 0) ≡ true) where
   sound_of : good_name s ≡ true → SoundPairs s
@@ -502,39 +502,30 @@ module _ (s : List ℕ) (l : length s ≡ 44) (st : starts_part (get_or s 0 0) �
         (λ e. let a = sound_of e in clash (turns_all _ _ 16 (λ k w. (a.fits (p + k) (omega arith), a.rows (q + k) (omega arith)))) (sym whole ∙ h))
         (λ e. e)
 
-    pub sixteen_more : at ≤ 16 → tests ≡ true → PairsUpto s at → PairsUpto s (at + 16)
-    sixteen_more l16 h t k u =
+    pub sixteen_more : tests ≡ true → PairsUpto s at → PairsUpto s (at + 16)
+    sixteen_more h t k u =
         elim (dec_le at k) [
           | no z ↦ t k (lt_of_not-le z)
-          | yes z ↦
-              let e : p + (k - at) ≡ k = omega arith in
-              let f : q + (k - at) ≡ k = omega arith in
-              let a = passed h (k - at) (omega arith) in
-              (subst (λ (j : ℕ). fit s j ≡ true) e a.0, subst (λ (j : ℕ). brief s j ≡ true) f a.1)
+          | yes z ↦ (
+            λ v. let e : p + (k - p) ≡ k = omega arith in subst (λ (j : ℕ). fit s j ≡ true) e (passed h (k - p) (omega arith)).0,
+            λ v. let e : q + (k - q) ≡ k = omega arith in subst (λ (j : ℕ). brief s j ≡ true) e (passed h (k - q) (omega arith)).1,
+          )
         ]
 
-    -- the last sixteen overlap those before
-    sound_full : at ≡ 32 → tests ≡ true → PairsUpto s at → (get_or s 43 0 ≡ 0x4B → ⊥) → SoundPairs s
-    sound_full l32 h t n =
-        record {
-          fits = λ k u.
-              elim (dec_le 32 k) [
-                | no z ↦ (let y = lt_of_not-le z in (t k (omega arith)).0)
-                | yes z ↦ (let e : p + (k - 27) ≡ k = omega arith in subst (λ (j : ℕ). fit s j ≡ true) e (passed h (k - 27) (omega arith)).0)
-              ];
-          rows = λ k u.
-              elim (dec_le 32 k) [
-                | no z ↦ (let y = lt_of_not-le z in (t k (omega arith)).1)
-                | yes z ↦ (let e : q + (k - 20) ≡ k = omega arith in subst (λ (j : ℕ). brief s j ≡ true) e (passed h (k - 20) (omega arith)).1)
-              ];
-          last = λ e u v z. let y : 43 ≡ e = omega arith in n (rw y z);
-        }
+  -- all tests are passed
+  module _ (w : ℕ) (r : 43 ≤ w) (t : PairsUpto s w) where
+    sound_full : (get_or s 43 0 ≡ 0x4B → ⊥) → SoundPairs s
+    sound_full n = record {
+      fits = λ k u. (t k (omega arith)).0 (omega arith);
+      rows = λ k u. (t k (omega arith)).1 (omega arith);
+      last = λ e u v z. let y : 43 ≡ e = omega arith in n (rw y z);
+    }
 
-    pub at_last : at ≡ 32 → tests ≡ true → PairsUpto s at → not (eqb (get_or s 43 0) 0x4B) ≡ good_name s
-    at_last l32 h t =
+    pub at_last : not (eqb (get_or s 43 0) 0x4B) ≡ good_name s
+    at_last =
         by (eqb (get_or s 43 0) 0x4B)
         (λ e. rw e (sym (last_period (eqb-true _ _ e))))
-        (λ e. rw e (sym (sound_good s (omega arith) st (sound_full l32 h t (eqb-false _ _ e)))))
+        (λ e. rw e (sym (sound_good s (omega arith) st (sound_full (eqb-false _ _ e)))))
 
   -- a blank at place w, and all tests before it
   module _ (w : ℕ) (r : w < 44) (b : get_or s w 0 ≡ 0x40) (t : PairsUpto s w) where
@@ -544,9 +535,9 @@ module _ (s : List ℕ) (l : length s ≡ 44) (st : starts_part (get_or s 0 0) �
           fits = λ k u.
               elim (dec_le w k) [
                 | yes q ↦ fit_blank s k (z k q (omega arith)) ∙ eq-eqb (get_or s (k + 1) 0) 0x40 (z (k + 1) (omega arith) u)
-                | no q ↦ (t k (lt_of_not-le q)).0
+                | no q ↦ (t k (lt_of_not-le q)).0 (omega arith)
               ];
-          rows = λ k u. elim (dec_le w k) [ yes q ↦ (let y = z k q (omega arith) in brief_at s k (omega arith)) | no q ↦ (t k (lt_of_not-le q)).1 ];
+          rows = λ k u. elim (dec_le w k) [ yes q ↦ (let y = z k q (omega arith) in brief_at s k (omega arith)) | no q ↦ (t k (lt_of_not-le q)).1 (omega arith) ];
           last = λ e u v p. let y = z e (omega arith) (omega arith) in absurd (omega arith);
         }
 

@@ -1,7 +1,7 @@
 // EBCDIC characters: those of data set names and the rule for names; label bytes as printable characters.
 #![tactic(auto)]
 
-ghost use Rattle.std.specs.Prelude.{◌≡◌, cond, ◌+◌, ◌≤◌, ◌<◌, min, length};
+ghost use Rattle.std.specs.Prelude.{◌≡◌, cond, ◌+◌, ◌≤◌, ◌<◌, length};
 ghost use Rattle.rules.specs.Table.{good_name, in_part, starts_part};
 ghost use Rattle.ebcdic.specs.Pairs.{Tells, brief, class_of, fit, least_of_four, sixteen_to, wanted_after};
 ghost use Rattle.ebcdic.specs.Letters.{PartEnd, in_low, in_set};
@@ -31,13 +31,7 @@ fn has(set: u64, c: u8) -> bool
 fn has_low(set: u64, c: u8) -> bool
     ensures { result ≡ in_low set c }
 {
-    if c < 0x40 {
-        return false;
-    }
-    if c >= 0x80 {
-        return false;
-    }
-    has(set, c)
+    matches!(c, 0x40..=0x7F) && has(set, c)
 }
 
 // Whether c is a letter or national: it may start a part of a name.
@@ -45,9 +39,10 @@ pub fn starts_part(c: u8) -> bool
     ensures { result ≡ starts_part c }
 {
     if c >= 0xC0 {
-        return has(STARTS_HIGH, c);
+        has(STARTS_HIGH, c)
+    } else {
+        has_low(STARTS_LOW, c)
     }
-    has_low(STARTS_LOW, c)
 }
 
 // Whether c may stand in a part of a name, behind its start.
@@ -55,9 +50,10 @@ pub fn in_part(c: u8) -> bool
     ensures { result ≡ in_part c }
 {
     if c >= 0xC0 {
-        return has(PARTS_HIGH, c);
+        has(PARTS_HIGH, c)
+    } else {
+        has_low(PARTS_LOW, c)
     }
-    has_low(PARTS_LOW, c)
 }
 
 // Where the characters that may stand in a part, from place `from` on, end.
@@ -65,24 +61,20 @@ fn part_end(name: &[u8], from: usize) -> usize
     requires { from ≤ length name.now }
     ensures { PartEnd name.now from result }
 {
-    let mut i = from;
-    while i < name.len() {
-        if in_part(name[i]) {
-            i += 1;
-        } else {
-            return i;
-        }
-    }
-    i
+    (from..name.len())
+        .find(|&i| !in_part(name[i]))
+        .unwrap_or(name.len())
 }
 
-// Whether a name obeys the rule: parts of 1 to 8 characters joined by periods, then blanks. A turn sees one part.
+// Whether a name obeys the rule: parts of 1 to 8 characters joined by periods, then blanks. A turn sees one part, so no range counts
+// the turns. It is a function apart in the machine's code too: inlined, its registers would be saved for every name.
+#[inline(never)]
 fn parts_ok(name: &[u8]) -> bool
     ensures { result ≡ good_name name.now }
 {
-    let mut i: usize = 0;
+    let mut i = 0;
     while i < name.len() {
-        if starts_part(name[i]) {} else {
+        if !starts_part(name[i]) {
             return false;
         }
         let e = part_end(name, i + 1);
@@ -113,15 +105,15 @@ fn class_of(c: u8) -> u8
     ensures { result ≡ class_of c }
 {
     let low = c % 16;
-    let a: u8 = ones_if((c & 0xEF) >= 0xC1);
-    let b: u8 = ones_if(low <= 9);
-    let e: u8 = ones_if((c | 1) != 0xE1);
-    let f: u8 = ones_if(c < 0xF0);
-    let n: u8 = ones_if((c | 0x20) == 0x7B);
-    let m: u8 = ones_if(c == 0x7C);
-    let h: u8 = ones_if(c == 0x60);
-    let p: u8 = ones_if(c == 0x4B);
-    let q: u8 = ones_if(c == 0x40) & 12;
+    let a = ones_if((c & 0xEF) >= 0xC1);
+    let b = ones_if(low <= 9);
+    let e = ones_if((c | 1) != 0xE1);
+    let f = ones_if(c < 0xF0);
+    let n = ones_if((c | 0x20) == 0x7B);
+    let m = ones_if(c == 0x7C);
+    let h = ones_if(c == 0x60);
+    let p = ones_if(c == 0x4B);
+    let q = ones_if(c == 0x40) & 12;
     let high = a & b & e;
     let nat = n | m;
     let start = (high & f) | nat;
@@ -133,8 +125,8 @@ fn class_of(c: u8) -> u8
 fn wanted_after(c: u8) -> u8
     ensures { result ≡ wanted_after c }
 {
-    let p: u8 = ones_if(c == 0x4B);
-    let q: u8 = ones_if(c == 0x40);
+    let p = ones_if(c == 0x4B);
+    let q = ones_if(c == 0x40);
     4 ^ ((p & 5) | (q & 12))
 }
 
@@ -146,21 +138,14 @@ fn misfit(name: &[u8], i: usize) -> u8
     wanted_after(name[i]) & (class_of(name[i + 1]) ^ 255)
 }
 
-// The lesser of two characters.
-fn lesser(a: u8, b: u8) -> u8
-    ensures { result ≡ min a b }
-{
-    if a < b { a } else { b }
-}
-
 // The least of the four characters from place i on.
 fn least_of_four(name: &[u8], i: usize) -> u8
     requires { i + 3 < length name.now }
     ensures { result ≡ least_of_four name.now i }
 {
-    let a = lesser(name[i], name[i + 1]);
-    let b = lesser(name[i + 2], name[i + 3]);
-    lesser(a, b)
+    let a = name[i].min(name[i + 1]);
+    let b = name[i + 2].min(name[i + 3]);
+    a.min(b)
 }
 
 // 0 where one of the nine characters from place i on is a period or a blank, the least characters of names: no part is longer than
@@ -169,8 +154,8 @@ fn overlong(name: &[u8], i: usize) -> u8
     requires { i + 8 < length name.now }
     ensures { Tells result (brief name.now i) }
 {
-    let a = lesser(least_of_four(name, i), least_of_four(name, i + 4));
-    ones_if(lesser(a, name[i + 8]) > 0x4B)
+    let eight = least_of_four(name, i).min(least_of_four(name, i + 4));
+    ones_if(eight.min(name[i + 8]) > 0x4B)
 }
 
 // Whether the pairs of neighbours at the 16 places from `pair` on fit, and the rows of nine at the 16 from `row` on are brief. No turn
@@ -179,11 +164,9 @@ fn sixteen_ok(name: &[u8], pair: usize, row: usize) -> bool
     requires { (length name.now ≡ 44) × (pair ≤ 27) × (row ≤ 20) }
     ensures { result ≡ sixteen_to name.now pair row 16 }
 {
-    let mut bad: u8 = 0;
-    let mut i: usize = 0;
-    while i < 16 {
-        bad = bad | misfit(name, pair + i) | overlong(name, row + i);
-        i += 1;
+    let mut bad = 0;
+    for i in 0..16 {
+        bad |= misfit(name, pair + i) | overlong(name, row + i);
     }
     bad == 0
 }
@@ -197,20 +180,16 @@ pub fn name_ok(name: &[u8]) -> bool
     if name.len() != 44 {
         return parts_ok(name);
     }
-    if starts_part(name[0]) {} else {
+    if !starts_part(name[0]) {
         return false;
     }
-    let mut at: usize = 0;
-    loop {
-        if sixteen_ok(&name[0..], rows::at_most(at, 27), rows::at_most(at, 20)) {} else {
-            return false;
-        }
-        if at == 32 {
-            return name[43] != 0x4B;
-        }
-        at += 16;
+    for at in (0..44).step_by(16) {
         if name[at] == 0x40 {
             return rows::all_are(&name[at..], 0x40);
         }
+        if !sixteen_ok(&name[0..], at.min(27), at.min(20)) {
+            return false;
+        }
     }
+    name[43] != 0x4B
 }

@@ -65,5 +65,5 @@ const PRINTABLE: [u8; 256] = [
 pub fn printable(b: u8) -> u8
     ensures { Printable b result }
 {
-    PRINTABLE[b as usize]
+    PRINTABLE[usize::from(b)]
 }

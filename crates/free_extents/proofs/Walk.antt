@@ -1,7 +1,7 @@
 -- A walk along the chain of format 5s, member by member. Assumes nothing.
 use mathlib.Core.Path.{◌≡◌, subst}
 use mathlib.Core.List.{List, []}
-use Prim.Native.Nat.{ℕ, suc, ◌-◌, ◌≤◌}
+use Prim.Native.Nat.{ℕ, suc, ◌≤◌}
 use native.Mathlib.Omega.{arith}
 use lib.ListN.{drop, take}
 use Rattle.model.specs.Model.{Geometry, Run, slots}
@@ -18,15 +18,19 @@ pub record Going (g : Geometry) (t : List ℕ) (left k : ℕ) (P : List Run → 
   pub lists : Lists g t members k rest
   pub known : P rest
 
+-- a member as it was read: r are its bytes, and h are the heads
+pub entries_read : (h h' : ℕ) (r r' : List ℕ) (f : List Run) → h' ≡ h → r' ≡ r → Entries h r f → Entries h' r' f
+entries_read h h' r r' f e q x = rw (e, q) x
+
 module _ (g : Geometry) (t : List ℕ) (P : List Run → Type 0) where
   pub going_all : (n : ℕ) → n ≡ slots g → (f : List Run) → Listed g t f → P f → Going g t n 1 P
   going_all n e f x p = record { members = x.members; rest = f; few = omega (arith, e, x.few); lists = x.lists; known = p }
 
   module _ (left k : ℕ) (x : Going g t left k P) where
-    -- one member, and the slot r of the next
-    pub going_next : 1 ≤ k → (r : ℕ) (Q : List Run → Type 0) → ((f : List Run) → Entries g.heads (slot_bytes t k) (take 26 f) → P f → Q (drop 26 f))
-        → ((m : ℕ) (f : List Run) → Lists g t (suc m) k f → Lists g t m r (drop 26 f)) → Going g t (left - 1) r Q
-    going_next p r Q here next =
+    -- one member, and the slot r of the next; one fewer is left
+    pub going_next : 1 ≤ k → (less : ℕ) → left ≤ suc less → (r : ℕ) (Q : List Run → Type 0) → ((f : List Run) → Entries g.heads (slot_bytes t k) (take 26 f) → P f → Q (drop 26 f))
+        → ((m : ℕ) (f : List Run) → Lists g t (suc m) k f → Lists g t m r (drop 26 f)) → Going g t less r Q
+    going_next p less u r Q here next =
         let y = lists_here g t k x.rest x.members p x.lists in
         let m = y.2.0 in
         let e : x.members ≡ suc m = y.2.1 in

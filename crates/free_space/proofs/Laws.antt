@@ -1,7 +1,7 @@
 -- A data set that is to give tracks back, in the words of the rules. Assumes nothing.
 use mathlib.Core.Path.{◌≡◌, refl, sym, ap, ap₂, ◌∙◌, subst}
-use mathlib.Core.List.{List, ◌∷◌}
-use Prim.Native.Nat.{ℕ, zero, suc, ◌+◌, ◌/◌, ◌≤◌, ◌<◌}
+use mathlib.Core.List.{List}
+use Prim.Native.Nat.{ℕ, ◌+◌, ◌/◌, ◌≤◌, ◌<◌}
 use native.Mathlib.Omega.{arith}
 use lib.ListN.{get_or, length}
 use Rattle.model.specs.Model.{Extent, Geometry, Label, Volume, overs, runs_of, slots, total, tracks}
@@ -11,46 +11,18 @@ use Rattle.rules.specs.Table.{unit_in}
 use Rattle.model.proofs.Cylinders.{kept_within, tracks_length}
 use Rattle.rules.proofs.Labels.{without_sum}
 use Rattle.rules.proofs.Valid.{free_balance, held_total}
-use Rattle.bitmap.specs.Map.{Given}
-use Rattle.bitmap.proofs.Held.{shows_give}
-use Rattle.check_label.specs.Marks.{units}
 use Rattle.dscb.specs.Records.{slot_bytes}
 use Rattle.check_label.specs.Label.{named_third}
 use Rattle.set_extents.specs.Change.{GaveTail, SetIn, Spreads, Stays, extents_in}
 use Rattle.data_set.proofs.Stored.{Stored, stored}
 use Rattle.free_space.specs.declared.Measured.{Measured}
-use Rattle.free_space.specs.Giving.{At, FreedSlot, Measures, measured_extents}
-
--- ---- slots
-
-pub freed_none : (k : ℕ) (s : List ℕ) → k ≡ 0 → FreedSlot k s s
-freed_none zero s e = record { long = refl; freed = λ n us h. h }
-freed_none (suc k) s e = absurd (omega arith)
-
-pub freed_one : (k : ℕ) (s s' : List ℕ) → (k ≡ 0 → ⊥) → Given s s' k (k + 1) → FreedSlot k s s'
-freed_one zero s s' e d = absurd (e refl)
-freed_one (suc k) s s' e d = record { long = d.long; freed = λ n us h. shows_give s s' n (suc k) 1 (units (suc k ∷ us)) (units us) (λ t u. refl) h d }
+use Rattle.free_space.specs.Giving.{At, Measures, measured_extents}
 
 -- ---- records of a table, looked at
 
 module _ (g : Geometry) (t : List ℕ) (k q count : ℕ) (f1 f3 : List ℕ) (e1 : f1 ≡ slot_bytes t k) (e3 : f3 ≡ slot_bytes t q) where
   pub set_looked : SetIn g (slot_bytes t k) (slot_bytes t q) count → SetIn g f1 f3 count
   set_looked x = subst (λ (r : List ℕ). SetIn g r f3 count) (sym e1) (subst (λ (r : List ℕ). SetIn g (slot_bytes t k) r count) (sym e3) x)
-
-  extents_looked : extents_in g f1 f3 count ≡ extents_in g (slot_bytes t k) (slot_bytes t q) count
-  extents_looked = ap₂ (λ (a b : List ℕ). extents_in g a b count) e1 e3
-
-  -- what `tracks_kept` asks, and what it gives
-  pub fits_looked : (n : ℕ) → n ≤ total (overs (extents_in g (slot_bytes t k) (slot_bytes t q) count)) → n ≤ total (overs (extents_in g f1 f3 count))
-  fits_looked n h = subst (λ (es : List Extent). n ≤ total (overs es)) (sym extents_looked) h
-
-  pub kept_looked : (unit ttr r : ℕ) → r ≡ tracks_kept g.heads unit ttr (tracks_of (overs (extents_in g f1 f3 count)))
-      → r ≡ tracks_kept g.heads unit ttr (tracks_of (overs (extents_in g (slot_bytes t k) (slot_bytes t q) count)))
-  kept_looked unit ttr r h = h ∙ ap (λ (es : List Extent). tracks_kept g.heads unit ttr (tracks_of (overs es))) extents_looked
-
-  pub tail_looked : (unit keep n whole b start part : ℕ) (m m' : List ℕ) → GaveTail keep (extents_in g f1 f3 count) m m' × Stays unit keep (extents_in g f1 f3 count) n whole b start part
-      → GaveTail keep (extents_in g (slot_bytes t k) (slot_bytes t q) count) m m' × Stays unit keep (extents_in g (slot_bytes t k) (slot_bytes t q) count) n whole b start part
-  tail_looked unit keep n whole b start part m m' x = subst (λ (es : List Extent). GaveTail keep es m m' × Stays unit keep es n whole b start part) extents_looked x
 
 -- ---- the data set
 

@@ -25,7 +25,9 @@ use Rattle.bitmap.specs.Map.{Shows}
 use Rattle.bitmap.proofs.Held.{shows_same}
 use Rattle.check_label.specs.Marks.{units}
 use Rattle.update.specs.declared.Home.{Home}
-use Rattle.update.specs.Commit.{Draft, Leaves, Puts, drafted}
+use Rattle.std.specs.Prelude.{Option}
+use Rattle.update.specs.declared.Plan.{Plan}
+use Rattle.update.specs.Commit.{Draft, Leaves, NoPlan, Plans, Puts, drafted}
 use Rattle.update.proofs.Put.{is_w, put_full}
 use Rattle.update.proofs.Replies.{back_foreseen, is_given_back, not_fitting}
 use Rattle.update.proofs.Sets.{held_apart_lem, held_front, others_stay, shows_below, slots_inside, slots_once, slots_shown, used_apart}
@@ -36,9 +38,9 @@ use Rattle.set_extents.proofs.Laws.{shortened_is, stays_fits}
 use Rattle.data_set.specs.Held.{ThirdIn}
 use Rattle.data_set.proofs.Stored.{copied}
 use Rattle.free_space.specs.declared.Measured.{Measured}
-use Rattle.free_space.specs.Giving.{At, FreedSlot, Measures}
+use Rattle.free_space.specs.Giving.{At, Measures}
 use Rattle.free_space.proofs.Laws.{stays_is, tail_is}
-use Rattle.free_space.specs.declared.Cut.{Cut}
+use Rattle.set_extents.specs.declared.Kept.{Kept}
 use Rattle.free_space.specs.Shorter.{CutPlans, Shortens}
 use Rattle.free_space.specs.Deciding.{ForeseesAt, release_of}
 
@@ -50,11 +52,6 @@ ttr_fits ttr all h =
     let b : T (leb (ttr / 256 + 1) all) = search (and_l, and_r) in
     (ltb→lt _ _ a, leb→le _ _ b)
 
--- what `free_slot` asks
-pub freed_small : (few : Bool) (third q n : ℕ) → q ≡ cond few third 0 → third < n → n ≤ 468 → q < 512
-freed_small true third q n e u w = omega arith
-freed_small false third q n e u w = omega arith
-
 -- the slots before, by those after and the one that is freed
 slots_cut : (few : Bool) (l : Label) (i : ℕ) → tally i (slots_of l) ≡ tally i (one_slot (cond few l.slot3 0)) + tally i (one_slot l.slot ++ one_slot (cond few 0 l.slot3))
 slots_cut true l i =
@@ -62,10 +59,6 @@ slots_cut true l i =
     let b = sum_append (λ x. bit (eqb x i)) (one_slot l.slot) (one_slot 0) in
     omega arith
 slots_cut false l i = omega arith
-
--- what is freed and what is asked for, as the code has it
-pub freed_is : (few : Bool) (slot3 q : ℕ) {s s' : List ℕ} → q ≡ cond few slot3 0 → FreedSlot q s s' → FreedSlot (cond few slot3 0) s s'
-freed_is few slot3 q {s} {s'} e h = subst (λ (i : ℕ). FreedSlot i s s') e h
 
 module _ {g : Geometry} {t m s : List ℕ} {k : ℕ} (d : At g t m s k) (ttr : ℕ) {x : Measured} (y : Measures g t k d.it.label x) where
   abbrev v : Volume
@@ -83,7 +76,7 @@ module _ {g : Geometry} {t m s : List ℕ} {k : ℕ} (d : At g t m s k) (ttr : �
       sym (ap (λ (b : Bool). written (lent t a []) (unless b 12 (release_tracks v d.name ttr l (tracks_kept_of v.geometry ttr l)))) q)
 
   -- n is what the code has for the number of tracks that stay
-  module _ (ok : good_ttr ttr x.tracks ≡ true) {n : ℕ} (count : n ≡ tracks_kept_of g ttr l) {m' s' c : List ℕ} {r : Cut} (z : CutPlans g t m m' s s' c x n r) where
+  module _ (ok : good_ttr ttr x.tracks ≡ true) {n : ℕ} (count : n ≡ tracks_kept_of g ttr l) {m' s' c : List ℕ} {rest : Kept} {few : Bool} {r : Option Plan} (z : CutPlans g t m m' s s' c x n rest few r) where
     abbrev u : ℕ
     u = unit_in l.unit
 
@@ -100,16 +93,16 @@ module _ {g : Geometry} {t m s : List ℕ} {k : ℕ} (d : At g t m s k) (ttr : �
 
     -- ---- what stays
 
-    kept : Stays u n l.extents (tracks g) r.kept.whole r.kept.type_byte r.kept.start r.kept.count
-    kept = stays_is y n (tracks g) r.kept.whole r.kept.type_byte r.kept.start r.kept.count z.stays
+    kept : Stays u n l.extents (tracks g) rest.whole rest.type_byte rest.start rest.count
+    kept = stays_is y n (tracks g) rest.whole rest.type_byte rest.start rest.count z.stays
 
-    few_is_lem : r.few ≡ few_extents l₀
+    few_is_lem : few ≡ few_extents l₀
     few_is_lem = z.few_is l.extents kept.most ∙ ap (λ (es : List Extent). leb (length es) 3) (sym kept.kept)
 
     -- what `cut_set` asks
-    pub cut_fits : tracks g ≤ 65535 → (r.kept.whole ≤ 16) × (1 ≤ r.kept.count → r.kept.whole < 16) × (r.kept.start + r.kept.count ≤ 65535)
+    pub cut_fits : tracks g ≤ 65535 → (rest.whole ≤ 16) × (1 ≤ rest.count → rest.whole < 16) × (rest.start + rest.count ≤ 65535)
     cut_fits w =
-        stays_fits u n (tracks g) r.kept.whole r.kept.type_byte r.kept.start r.kept.count l.extents kept
+        stays_fits u n (tracks g) rest.whole rest.type_byte rest.start rest.count l.extents kept
         (let b = y.stored.many in let c = y.stored.set.most in omega arith) w
 
     -- ---- what the maps show then
@@ -122,9 +115,6 @@ module _ {g : Geometry} {t m s : List ℕ} {k : ℕ} (d : At g t m s k) (ttr : �
 
     tracks_shown : Shows m' (tracks g) (held g (kept3 l₀ ∷ others))
     tracks_shown = shows_same m' (tracks g) (runs_of l₀ ++ held g others) (held g (kept3 l₀ ∷ others)) (λ t u. held_front g (kept3 l₀) others t) all_shown
-
-    abbrev few : Bool
-    few = r.few
 
     abbrev q : ℕ
     q = cond few x.slot3 0
@@ -179,48 +169,48 @@ module _ {g : Geometry} {t m s : List ℕ} {k : ℕ} (d : At g t m s k) (ttr : �
           valid = stays_valid;
         }
 
-    pub full : (a : List ℕ) → r.plan.fits ≡ false → result_of 11 (lent t a []) ≡ written (lent t a []) (release_set v d.name ttr l)
+    pub full : NoPlan g t m' z.freed s' c z.asked → (a : List ℕ) → result_of 11 (lent t a []) ≡ written (lent t a []) (release_set v d.name ttr l)
     unfolding draft
-    full a h = not_fitting t a _ (given_back (total (runs_of l) - n)) (put_full draft z.asked_is z.plan h) ∙ sym (ap (written (lent t a [])) rule_is)
+    full h a = not_fitting t a _ (given_back (total (runs_of l) - n)) (put_full draft z.asked_is h) ∙ sym (ap (written (lent t a [])) rule_is)
 
-    -- on a copy
-    pub cut_foreseen : r.plan.fits ≡ true → (a a' : List ℕ) → a' ≡ answer (given_back (x.tracks - n)) → ForeseesAt d (release_of d ttr) a 0 a'
-    unfolding draft
-    cut_foreseen fits a a' e =
-        back_foreseen t a _ v _ d.ready.bytes (is_w draft z.asked_is z.plan fits) a' (total (runs_of l) - n) (e ∙ ap (λ (i : ℕ). answer (given_back (i - n))) y.spread.sum)
-        ∙ sym (ap (λ (o : Outcome). written (lent t a []) (on_copy v o)) rule_is)
-
-    -- ---- written: f1 and f3 are the records, copied from the table and then cut
-
-    module _ (fits : r.plan.fits ≡ true) (old1 old3 f1 f3 : List ℕ) (e : old1 ≡ slot_bytes t k) (there : ThirdIn t x.slot3 old3)
-        (short : Shortens g ttr r.kept.whole r.kept.type_byte r.kept.start r.kept.count old1 old3 f1 f3) where
-      records : InRecords g l₀ f1 f3
-      records =
-          subst (λ (z : Label). InRecords g (with_ttr ttr z) f1 f3) (shortened_is u n (tracks g) r.kept.whole r.kept.type_byte r.kept.start r.kept.count l kept)
-          (short.records l kept.most (copied t v d.ready d.name k d.it g d.geometry_is x.slot3 y.stored.slot3 old1 old3 e there))
-
-      abbrev home : Home
-      home = record { slot = x.slot; slot3 = x.slot3; few = few }
-
-      -- what `write_set` asks
-      pub puts : Puts g t m' c r.plan home f1 f3
+    module _ {p : Plan} (plan : Plans g t m' z.freed s' c x.lowest z.asked p) where
+      -- on a copy
+      pub cut_foreseen : (a a' : List ℕ) → a' ≡ answer (given_back (x.tracks - n)) → ForeseesAt d (release_of d ttr) a 0 a'
       unfolding draft
-      puts =
-          record {
-            empty_before = z.freed;
-            empty_after = s';
-            lo = x.lowest;
-            asked = z.asked;
-            draft = draft;
-            asked_is = z.asked_is;
-            plan = z.plan;
-            fits = fits;
-            first = records.one;
-            third = λ _. records.three;
-          }
+      cut_foreseen a a' e =
+          back_foreseen t a _ v _ d.ready.bytes (is_w draft z.asked_is plan) a' (total (runs_of l) - n) (e ∙ ap (λ (i : ℕ). answer (given_back (i - n))) y.spread.sum)
+          ∙ sym (ap (λ (o : Outcome). written (lent t a []) (on_copy v o)) rule_is)
 
-      pub cut_done : (a t' a' : List ℕ) → ((w : Puts g t m' c r.plan home f1 f3) → Leaves (drafted w.draft) t') → a' ≡ answer (given_back (x.tracks - n))
-          → result_of 0 (lent t' a' []) ≡ written (lent t a []) (release_set v d.name ttr l)
-      unfolding draft puts
-      cut_done a t' a' w ea =
-          is_given_back t a _ (total (runs_of l) - n) t' a' (w puts) (ea ∙ ap (λ (i : ℕ). answer (given_back (i - n))) y.spread.sum) ∙ sym (ap (written (lent t a [])) rule_is)
+      -- ---- written: f1 and f3 are the records, copied from the table and then cut
+
+      module _ (old1 old3 f1 f3 : List ℕ) (e : old1 ≡ slot_bytes t k) (there : ThirdIn t x.slot3 old3)
+          (short : Shortens g ttr rest.whole rest.type_byte rest.start rest.count old1 old3 f1 f3) where
+        records : InRecords g l₀ f1 f3
+        records =
+            subst (λ (z : Label). InRecords g (with_ttr ttr z) f1 f3) (shortened_is u n (tracks g) rest.whole rest.type_byte rest.start rest.count l kept)
+            (short.records l kept.most (copied t v d.ready d.name k d.it g d.geometry_is x.slot3 y.stored.slot3 old1 old3 e there))
+
+        abbrev home : Home
+        home = record { slot = x.slot; slot3 = x.slot3; few = few }
+
+        -- what `write_set` asks
+        pub puts : Puts g t m' c p home f1 f3
+        unfolding draft
+        puts =
+            record {
+              empty_before = z.freed;
+              empty_after = s';
+              lo = x.lowest;
+              asked = z.asked;
+              draft = draft;
+              asked_is = z.asked_is;
+              plan = plan;
+              first = records.one;
+              third = λ _. records.three;
+            }
+
+        pub cut_done : (a t' a' : List ℕ) → ((w : Puts g t m' c p home f1 f3) → Leaves (drafted w.draft) t') → a' ≡ answer (given_back (x.tracks - n))
+            → result_of 0 (lent t' a' []) ≡ written (lent t a []) (release_set v d.name ttr l)
+        unfolding draft puts
+        cut_done a t' a' w ea =
+            is_given_back t a _ (total (runs_of l) - n) t' a' (w puts) (ea ∙ ap (λ (i : ℕ). answer (given_back (i - n))) y.spread.sum) ∙ sym (ap (written (lent t a [])) rule_is)

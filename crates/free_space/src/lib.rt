@@ -5,20 +5,20 @@
 ghost use Rattle.std.specs.Prelude.{◌≡◌, ℕ, ◌*◌, ◌/◌, ◌≤◌, ◌<◌, ◌+◌, List, [], ◌++◌, length, take, leb};
 ghost use Rattle.model.specs.Model.{slots, tracks, Extent, overs, total};
 ghost use Rattle.model.specs.Tracks.{tracks_kept, tracks_of};
-ghost use Rattle.rules.specs.Predicates.{Limits};
 ghost use Rattle.dscb.specs.Forms.{geometry_of};
 ghost use Rattle.dscb.specs.Records.{slot_bytes};
 ghost use Rattle.set_extents.specs.Change.{GaveTail, SetIn, Stays, part_of};
 ghost use Rattle.free_space.specs.Giving.{At, FreedSlot, Measures, measured_extents};
 ghost use Rattle.rules.specs.Calls.{good_ttr, release_set, remove_set};
 ghost use Rattle.rules.specs.Entries.{lent, result_of, written};
-ghost use Rattle.free_space.specs.Shorter.{CutPlans, Shortens};
-ghost use Rattle.free_space.specs.Going.{GoingPlans};
+ghost use Rattle.refusals.specs.Numbers.{number_of};
+ghost use Rattle.free_space.specs.Shorter.{CutPlanning, Shortens};
+ghost use Rattle.free_space.specs.Going.{GoingPlanning};
 ghost use Rattle.free_space.specs.Deciding.{Decides, ForeseesAt, release_of};
 
 use dscb::Geometry;
 use dscb::places::*;
-use refusals::*;
+use refusals::Refusal;
 use set_extents::Kept;
 use update::{Home, Plan};
 
@@ -36,14 +36,14 @@ pub struct Measured {
 
 // The data set whose format 1 is in slot k. Without a format 3 the record in slot 0 serves as one: no extent is read from it.
 pub fn measure(table: &[u8], g: Geometry, k: usize) -> Measured
-    requires limits { Limits (geometry_of g) × (length table.now ≡ 140 * slots (geometry_of g)) × (k < slots (geometry_of g)) }
+    requires limits { (length table.now ≡ 140 * slots (geometry_of g)) × (k < slots (geometry_of g)) }
     requires by_index { (m : List ℕ) × (s : List ℕ) × At (geometry_of g) table.now m s k }
     ensures { ((m s : List ℕ) (d : At (geometry_of g) table.now m s k) → Measures (geometry_of g) table.now k d.it.label result) }
 {
     let f1 = dscb::record_at(table, k);
     let slot3 = dscb::link(f1, g);
     let f3 = dscb::record_at(table, slot3);
-    let count = rows::wide(f1[DS1NOEPV]) as usize;
+    let count = usize::from(f1[DS1NOEPV]);
     let x = set_extents::spread_of(f1, f3, count, g);
     Measured {
         slot: k,
@@ -82,37 +82,24 @@ pub fn free_slot(free_slots: &mut [u64], k: usize)
     requires { (length free_slots.old ≡ 8) × (k < 512) }
     ensures { FreedSlot k free_slots.old free_slots.new }
 {
-    if k == 0 {
-        return;
+    if k != 0 {
+        let slot = k as u16;
+        bitmap::give_range(free_slots, slot, slot + 1);
     }
-    let slot = k as u16;
-    bitmap::give_range(free_slots, slot, slot + 1);
 }
 
 // Whether a data set with so many tracks may end with the block TTR.
 fn good_ttr(ttr: u32, all: u32) -> bool
     ensures { result ≡ good_ttr ttr all }
 {
-    if ttr >= 16777216 {
-        return false;
-    }
-    if ttr / 256 + 1 > all {
-        return false;
-    }
-    if ttr % 256 >= 1 {
-        return true;
-    }
-    ttr / 256 == 0
+    ttr < 16777216 && ttr / 256 < all && (ttr % 256 >= 1 || ttr / 256 == 0)
 }
 
 // Whether no more than three extents stay: then the format 3 is freed.
 fn few_stay(k: Kept) -> bool
     ensures { ((es : List Extent) → k.whole ≤ length es → result ≡ leb (length (take k.whole es ++ part_of k.type_byte k.start k.count)) 3) }
 {
-    if k.count == 0 {
-        return k.whole <= 3;
-    }
-    k.whole <= 2
+    k.whole <= if k.count == 0 { 3 } else { 2 }
 }
 
 // What stays of a data set, whether that needs no format 3, and the plan.
@@ -123,7 +110,8 @@ pub struct Cut {
     pub plan: Plan,
 }
 
-// Plans that the first `keep` tracks of a data set stay. A format 3 that goes is free before new format 5s are placed.
+// Plans that the first `keep` tracks of a data set stay. A format 3 that goes is free before new format 5s are placed. There is no
+// plan where too few slots are free.
 pub fn plan_release(
     table: &[u8],
     g: Geometry,
@@ -132,58 +120,38 @@ pub fn plan_release(
     chain: &mut [u16],
     set: Measured,
     keep: u32,
-) -> Cut
-    requires limits { Limits (geometry_of g) × (length table.now ≡ 140 * slots (geometry_of g)) × (tracks (geometry_of g) ≤ 64 * length free_tracks.old) × (length free_slots.old ≡ 8) × (length chain.old ≡ 468) × (set.slot < slots (geometry_of g)) × (set.slot3 < slots (geometry_of g)) }
+) -> Option<Cut>
+    requires limits { (length table.now ≡ 140 * slots (geometry_of g)) × (tracks (geometry_of g) ≤ 64 * length free_tracks.old) × (length free_slots.old ≡ 8) × (length chain.old ≡ 468) × (set.slot < slots (geometry_of g)) × (set.slot3 < slots (geometry_of g)) }
     requires set_in { SetIn (geometry_of g) (slot_bytes table.now set.slot) (slot_bytes table.now set.slot3) set.count }
-    ensures { CutPlans (geometry_of g) table.now free_tracks.old free_tracks.new free_slots.old free_slots.new chain.new set keep result }
+    ensures { CutPlanning (geometry_of g) table.now free_tracks.old free_tracks.new free_slots.old free_slots.new chain.new set keep result }
 {
     let kept = give_back(table, g, set, keep, free_tracks);
     let few = few_stay(kept);
     free_slot(free_slots, update::if_few(few, set.slot3));
     let asked = update::asked_for(set.slot, set.slot3, few);
     let lo = set.lowest as usize;
-    let plan = update::plan_slots(table, g, free_tracks, free_slots, chain, asked, lo);
-    Cut { kept, few, plan }
+    let plan = update::plan_slots(table, g, free_tracks, free_slots, chain, asked, lo)?;
+    Some(Cut { kept, few, plan })
 }
 
 // Makes the records of a data set those of what stays of it, with TTR as its last block.
 fn cut_set(f1: &mut [u8; 140], f3: &mut [u8; 140], g: Geometry, kept: Kept, ttr: u32)
-    requires { (length f1.old ≡ 140) × (length f3.old ≡ 140) × (kept.whole ≤ 16) × (1 ≤ kept.count → kept.whole < 16) × (kept.start + kept.count ≤ 65535) × Limits (geometry_of g) × (ttr < 16777216) }
+    requires { (length f1.old ≡ 140) × (length f3.old ≡ 140) × (kept.whole ≤ 16) × (1 ≤ kept.count → kept.whole < 16) × (kept.start + kept.count ≤ 65535) × (ttr < 16777216) }
     ensures { Shortens (geometry_of g) ttr kept.whole kept.type_byte kept.start kept.count f1.old f3.old f1.new f3.new }
 {
     set_extents::cut_records(f1, f3, g, kept);
     dscb_write::set_ttr(f1, ttr);
 }
 
-// What is decided of a release: the refusal, 0 for none; where it is 0, the data set, what stays of it and a plan that fits. Where it
-// is not, these are any numbers.
+// What is decided of a release that is not refused: the data set, and what stays of it with a plan.
 #[derive(Clone, Copy)]
 pub struct Decision {
-    pub refusal: u32,
     pub set: Measured,
     pub cut: Cut,
 }
 
-// A release that is refused before there is a plan.
-fn refused(refusal: u32, set: Measured) -> Decision
-    ensures { result.refusal ≡ refusal }
-{
-    let kept = Kept {
-        whole: 0,
-        type_byte: 0,
-        start: 0,
-        count: 0,
-    };
-    let cut = Cut {
-        kept,
-        few: false,
-        plan: update::no_plan(),
-    };
-    Decision { refusal, set, cut }
-}
-
-// Decides what the data set in slot k gives back behind the block TTR: 11, 12, or 0 with the answer. The table is only read: a preview
-// ends here, and its call has only to write.
+// Decides what the data set in slot k gives back behind the block TTR: refused with 11 or 12, or the answer is there. The table is only
+// read: a preview ends here, and its call has only to write.
 pub fn decide(
     table: &[u8],
     g: Geometry,
@@ -193,31 +161,24 @@ pub fn decide(
     k: usize,
     ttr: u32,
     answer: &mut [u8],
-) -> Decision
-    requires limits { Limits (geometry_of g) × (length table.now ≡ 140 * slots (geometry_of g)) × (tracks (geometry_of g) ≤ 64 * length free_tracks.old) × (length free_slots.old ≡ 8) × (length chain.old ≡ 468) × (k < slots (geometry_of g)) × (length answer.old ≡ 24) }
+) -> Result<Decision, Refusal>
+    requires limits { (length table.now ≡ 140 * slots (geometry_of g)) × (tracks (geometry_of g) ≤ 64 * length free_tracks.old) × (length free_slots.old ≡ 8) × (length chain.old ≡ 468) × (k < slots (geometry_of g)) × (length answer.old ≡ 24) }
     requires at { At (geometry_of g) table.now free_tracks.old free_slots.old k }
     ensures { ((d : At (geometry_of g) table.now free_tracks.old free_slots.old k) → Decides d ttr answer.old free_tracks.new chain.new answer.new result) }
 {
     let set = measure(table, g, k);
-    if good_ttr(ttr, set.tracks) {} else {
-        return refused(E_TTR, set);
+    if !good_ttr(ttr, set.tracks) {
+        return Err(Refusal::Ttr);
     }
     let keep = kept_of(table, g, set, ttr);
-    let cut = plan_release(table, g, free_tracks, free_slots, chain, set, keep);
-    let plan = cut.plan;
-    if plan.fits {} else {
-        return refused(E_VTOC_FULL, set);
-    }
-    let back = set.tracks - keep;
-    answers::put_back(answer, back);
-    Decision {
-        refusal: 0,
-        set,
-        cut,
-    }
+    let Some(cut) = plan_release(table, g, free_tracks, free_slots, chain, set, keep) else {
+        return Err(Refusal::VtocFull);
+    };
+    answers::put_back(answer, set.tracks - keep);
+    Ok(Decision { set, cut })
 }
 
-// Cuts the data set in slot k behind the block TTR and writes it: 0, 11 or 12.
+// Cuts the data set in slot k behind the block TTR and writes it: refused with 11 or 12.
 pub fn release_set(
     table: &mut [u8],
     g: Geometry,
@@ -226,13 +187,13 @@ pub fn release_set(
     k: usize,
     ttr: u32,
     answer: &mut [u8],
-) -> u32
-    requires limits { Limits (geometry_of g) × (length table.old ≡ 140 * slots (geometry_of g)) × (tracks (geometry_of g) ≤ 64 * length free_tracks.old) × (length free_slots.old ≡ 8) × (k < slots (geometry_of g)) × (length answer.old ≡ 24) }
+) -> Result<(), Refusal>
+    requires limits { (length table.old ≡ 140 * slots (geometry_of g)) × (tracks (geometry_of g) ≤ 64 * length free_tracks.old) × (length free_slots.old ≡ 8) × (k < slots (geometry_of g)) × (length answer.old ≡ 24) }
     requires at { At (geometry_of g) table.old free_tracks.old free_slots.old k }
-    ensures { ((d : At (geometry_of g) table.old free_tracks.old free_slots.old k) → result_of result (lent table.new answer.new []) ≡ written (lent table.old answer.old []) (release_set d.volume d.name ttr d.it.label)) }
+    ensures { ((d : At (geometry_of g) table.old free_tracks.old free_slots.old k) → result_of (number_of result) (lent table.new answer.new []) ≡ written (lent table.old answer.old []) (release_set d.volume d.name ttr d.it.label)) }
 {
     let mut chain = [0u16; 468];
-    let decision = decide(
+    let Decision { set, cut } = decide(
         table,
         g,
         free_tracks,
@@ -241,12 +202,7 @@ pub fn release_set(
         k,
         ttr,
         answer,
-    );
-    if decision.refusal != 0 {
-        return decision.refusal;
-    }
-    let set = decision.set;
-    let cut = decision.cut;
+    )?;
     let mut f1 = dscb_write::record_of(dscb::record_at(table, k));
     let mut f3 = data_set::third_record(table, set.slot3);
     cut_set(&mut f1, &mut f3, g, cut.kept, ttr);
@@ -256,7 +212,7 @@ pub fn release_set(
         few: cut.few,
     };
     update::write_set(table, g, free_tracks, &chain, cut.plan, home, &mut f1, &f3);
-    0
+    Ok(())
 }
 
 // The same without writing the table.
@@ -268,13 +224,13 @@ pub fn preview_release(
     k: usize,
     ttr: u32,
     answer: &mut [u8],
-) -> u32
-    requires limits { Limits (geometry_of g) × (length table.now ≡ 140 * slots (geometry_of g)) × (tracks (geometry_of g) ≤ 64 * length free_tracks.old) × (length free_slots.old ≡ 8) × (k < slots (geometry_of g)) × (length answer.old ≡ 24) }
+) -> Result<(), Refusal>
+    requires limits { (length table.now ≡ 140 * slots (geometry_of g)) × (tracks (geometry_of g) ≤ 64 * length free_tracks.old) × (length free_slots.old ≡ 8) × (k < slots (geometry_of g)) × (length answer.old ≡ 24) }
     requires at { At (geometry_of g) table.now free_tracks.old free_slots.old k }
-    ensures { ((d : At (geometry_of g) table.now free_tracks.old free_slots.old k) → ForeseesAt d (release_of d ttr) answer.old result answer.new) }
+    ensures { ((d : At (geometry_of g) table.now free_tracks.old free_slots.old k) → ForeseesAt d (release_of d ttr) answer.old (number_of result) answer.new) }
 {
     let mut chain = [0u16; 468];
-    let decision = decide(
+    decide(
         table,
         g,
         free_tracks,
@@ -283,8 +239,8 @@ pub fn preview_release(
         k,
         ttr,
         answer,
-    );
-    decision.refusal
+    )?;
+    Ok(())
 }
 
 // A data set that is to go, and the plan of what is left.
@@ -294,7 +250,8 @@ pub struct Leaving {
     pub plan: Plan,
 }
 
-// Plans that the data set in slot k goes. Its tracks and slots are free before new format 5s are placed.
+// Plans that the data set in slot k goes. Its tracks and slots are free before new format 5s are placed. There is no plan where too few
+// slots are free.
 pub fn plan_scratch(
     table: &[u8],
     g: Geometry,
@@ -302,21 +259,21 @@ pub fn plan_scratch(
     free_slots: &mut [u64],
     chain: &mut [u16],
     k: usize,
-) -> Leaving
-    requires limits { Limits (geometry_of g) × (length table.now ≡ 140 * slots (geometry_of g)) × (tracks (geometry_of g) ≤ 64 * length free_tracks.old) × (length free_slots.old ≡ 8) × (length chain.old ≡ 468) × (k < slots (geometry_of g)) }
+) -> Option<Leaving>
+    requires limits { (length table.now ≡ 140 * slots (geometry_of g)) × (tracks (geometry_of g) ≤ 64 * length free_tracks.old) × (length free_slots.old ≡ 8) × (length chain.old ≡ 468) × (k < slots (geometry_of g)) }
     requires at { At (geometry_of g) table.now free_tracks.old free_slots.old k }
-    ensures { ((d : At (geometry_of g) table.now free_tracks.old free_slots.old k) → GoingPlans (geometry_of g) table.now free_tracks.old free_tracks.new free_slots.old free_slots.new chain.new k d.it.label result) }
+    ensures { ((d : At (geometry_of g) table.now free_tracks.old free_slots.old k) → GoingPlanning (geometry_of g) table.now free_tracks.old free_tracks.new free_slots.old free_slots.new chain.new k d.it.label result) }
 {
     let set = measure(table, g, k);
     give_back(table, g, set, 0, free_tracks);
     free_slot(free_slots, k);
     free_slot(free_slots, set.slot3);
     let lo = set.lowest as usize;
-    let plan = update::plan_slots(table, g, free_tracks, free_slots, chain, 0, lo);
-    Leaving { set, plan }
+    let plan = update::plan_slots(table, g, free_tracks, free_slots, chain, 0, lo)?;
+    Some(Leaving { set, plan })
 }
 
-// Takes out the data set in slot k: 0, or 11 for a full VTOC.
+// Takes out the data set in slot k: refused with 11 for a full VTOC.
 pub fn scratch_set(
     table: &mut [u8],
     g: Geometry,
@@ -324,30 +281,27 @@ pub fn scratch_set(
     free_slots: &mut [u64],
     k: usize,
     answer: &mut [u8],
-) -> u32
-    requires limits { Limits (geometry_of g) × (length table.old ≡ 140 * slots (geometry_of g)) × (tracks (geometry_of g) ≤ 64 * length free_tracks.old) × (length free_slots.old ≡ 8) × (k < slots (geometry_of g)) × (length answer.old ≡ 24) }
+) -> Result<(), Refusal>
+    requires limits { (length table.old ≡ 140 * slots (geometry_of g)) × (tracks (geometry_of g) ≤ 64 * length free_tracks.old) × (length free_slots.old ≡ 8) × (k < slots (geometry_of g)) × (length answer.old ≡ 24) }
     requires at { At (geometry_of g) table.old free_tracks.old free_slots.old k }
-    ensures { ((d : At (geometry_of g) table.old free_tracks.old free_slots.old k) → result_of result (lent table.new answer.new []) ≡ written (lent table.old answer.old []) (remove_set d.volume d.name d.it.label)) }
+    ensures { ((d : At (geometry_of g) table.old free_tracks.old free_slots.old k) → result_of (number_of result) (lent table.new answer.new []) ≡ written (lent table.old answer.old []) (remove_set d.volume d.name d.it.label)) }
 {
     let mut chain = [0u16; 468];
-    let going = plan_scratch(table, g, free_tracks, free_slots, &mut chain, k);
-    let set = going.set;
-    let plan = going.plan;
-    if plan.fits {} else {
-        return E_VTOC_FULL;
-    }
+    let Some(Leaving { set, plan }) = plan_scratch(table, g, free_tracks, free_slots, &mut chain, k)
+    else {
+        return Err(Refusal::VtocFull);
+    };
     update::write_drop(table, g, free_tracks, &chain, plan, set.slot, set.slot3);
     answers::put_back(answer, set.tracks);
-    0
+    Ok(())
 }
 
-// The same without writing the table: the tracks of the data set, which never lacks a slot to go.
-pub fn preview_scratch(table: &[u8], g: Geometry, k: usize, answer: &mut [u8]) -> u32
-    requires limits { Limits (geometry_of g) × (length table.now ≡ 140 * slots (geometry_of g)) × (k < slots (geometry_of g)) × (length answer.old ≡ 24) }
+// The same without writing the table: the tracks of the data set, which never lacks a slot to go, so nothing refuses it.
+pub fn preview_scratch(table: &[u8], g: Geometry, k: usize, answer: &mut [u8])
+    requires limits { (length table.now ≡ 140 * slots (geometry_of g)) × (k < slots (geometry_of g)) × (length answer.old ≡ 24) }
     requires by_index { (m : List ℕ) × (s : List ℕ) × At (geometry_of g) table.now m s k }
-    ensures { ((m s : List ℕ) (d : At (geometry_of g) table.now m s k) → ForeseesAt d (remove_set d.volume d.name d.it.label) answer.old result answer.new) }
+    ensures { ((m s : List ℕ) (d : At (geometry_of g) table.now m s k) → ForeseesAt d (remove_set d.volume d.name d.it.label) answer.old 0 answer.new) }
 {
     let gone = measure(table, g, k);
     answers::put_back(answer, gone.tracks);
-    0
 }

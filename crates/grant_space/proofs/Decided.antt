@@ -1,7 +1,7 @@
 -- What is decided of a data set that seeks space, once its pieces are chosen. Assumes nothing.
 use mathlib.Core.Path.{◌≡◌, refl, sym, ap, ap₂, ◌∙◌, subst}
 use mathlib.Core.Bool.{true, false}
-use mathlib.Core.Option.{Option}
+use mathlib.Core.Option as maybe
 use mathlib.Core.List.{List, [], map}
 use Prim.Native.Nat.{ℕ, ◌≤◌, ◌<◌}
 use native.Mathlib.Omega.{arith}
@@ -21,6 +21,10 @@ use Rattle.set_extents.specs.Change.{InRecords, SetIn, extents_in}
 use Rattle.update.specs.declared.Plan.{Plan}
 use Rattle.update.specs.Commit.{Leaves}
 use Rattle.update.proofs.Replies.{grant_foreseen, is_granted}
+use Rattle.std.specs.Prelude.{Option, Result, Ok, Err, Some, None}
+use Rattle.refusals.specs.Numbers.{number, number_of}
+use Rattle.refusals.specs.declared.Refusal.{Refusal}
+use Rattle.refusals.proofs.Laws.{never_none, not_both, same_value}
 use Rattle.grant_space.specs.declared.Holder.{Holder}
 use Rattle.grant_space.specs.declared.Decision.{Decision}
 use Rattle.grant_space.specs.Deciding.{Decides, Planned, Seeks, sought, with_pieces}
@@ -34,20 +38,19 @@ module _ {g : Geometry} {t m s : List ℕ} {h : Holder} {p : List (List ℕ)} (d
   abbrev l : Label
   l = d.label
 
-  abbrev chosen : Option (List Extent)
+  abbrev chosen : maybe.Option (List Extent)
   chosen = grant v.geometry v.labels d.option d.amount
 
-  rule_with : (o : Option (List Extent)) → chosen ≡ o → sought d ≡ given o 9 (with_pieces v d.others l)
-  rule_with o e = ap (λ (x : Option (List Extent)). given x 9 (with_pieces v d.others l)) e
+  rule_with : (o : maybe.Option (List Extent)) → chosen ≡ o → sought d ≡ given o 9 (with_pieces v d.others l)
+  rule_with o e = ap (λ (x : maybe.Option (List Extent)). given x 9 (with_pieces v d.others l)) e
 
   -- refused: the answer stays as it was
-  module _ (a m' c : List ℕ) (r : Decision) where
-    pub refuses : (n : ℕ) → 1 ≤ n → r.refusal ≡ n → sought d ≡ refuse n → Decides d a m' c a r
-    refuses n u e o =
-        record {
-          replied = ap (λ (k : ℕ). result_of k (lent t a [])) e ∙ sym (ap (λ (x : Outcome). written (lent t a []) (on_copy v x)) o);
-          planned = λ z. absurd (omega arith);
-        }
+  pub refuses : (a m' c : List ℕ) (e : Refusal) → sought d ≡ refuse (number e) → Decides d a m' c a (Err e)
+  refuses a m' c e o =
+      record {
+        replied = sym (ap (λ (x : Outcome). written (lent t a []) (on_copy v x)) o);
+        planned = λ x q. absurd (not_both (sym q));
+      }
 
   module _ (count sum : ℕ) (c : (count ≡ length (rows_in p)) × (sum ≡ total (rows_in p))) where
     pub no_space : count ≡ 0 → sought d ≡ refuse 9
@@ -125,24 +128,27 @@ module _ {g : Geometry} {t m s : List ℕ} {h : Holder} {p : List (List ℕ)} (d
         outcome =
             ap₂ (λ (ps : List Run) (b : Label). settled (granted ps) (settle_with v d.others b)) (sym it.runs) label_eq ∙ sym rule_done
 
-        module _ {m' s' chain : List ℕ} {plan : Plan} (x : GrantPlans g t m m' s s' chain set (take count p) plan) where
-          pub full : plan.fits ≡ false → sought d ≡ refuse 11
+        module _ {m' s' chain : List ℕ} {r : Option Plan} (planned : GrantPlans g t m m' s s' chain set (take count p) r) where
+          pub full : r ≡ None → sought d ≡ refuse 11
           unfolding grants
-          full e = sym outcome ∙ ap (settled (granted it.ps)) (grant_full grants x e)
+          full e =
+              let x = subst (GrantPlans g t m m' s s' chain set (take count p)) e planned in
+              sym outcome ∙ ap (settled (granted it.ps)) (grant_full grants x x.plan)
 
           -- the pieces are granted, and the change is planned
-          pub done : plan.fits ≡ true → (a a' : List ℕ) → ((ps : List Run) → length ps ≡ count → total ps ≡ sum → take count p ≡ map row ps → a' ≡ answer (granted ps))
-              → Decides d a m' chain a' (record { refusal = 0; set = set; plan = plan })
+          pub done : {plan : Plan} → r ≡ Some plan → (a a' : List ℕ) → ((ps : List Run) → length ps ≡ count → total ps ≡ sum → take count p ≡ map row ps → a' ≡ answer (granted ps))
+              → Decides d a m' chain a' (Ok (record { set = set; plan = plan }))
           unfolding grants
-          done ok a a' y =
+          done q a a' y =
+              let x = subst (GrantPlans g t m m' s s' chain set (take count p)) q planned in
               let e : a' ≡ answer (granted it.ps) = y it.ps it.number it.adds it.first in
-              let w = grant_there grants x ok in
+              let w = grant_there grants x x.plan in
               record {
                 replied =
                     grant_foreseen t a (grown grants) v w.0 d.ready.bytes w.1 a' it.ps e
                     ∙ ap (λ (o : Outcome). written (lent t a []) (on_copy v o)) outcome;
-                planned = λ _.
-                    record {
+                planned = λ i q.
+                    subst (Planned d m' chain a') (same_value q) (record {
                       s' = s';
                       slot_same = refl;
                       slot3_same = refl;
@@ -153,25 +159,26 @@ module _ {g : Geometry} {t m s : List ℕ} {h : Holder} {p : List (List ℕ)} (d
                       most = fits;
                       grants = grants;
                       plans = x;
-                      fits = ok;
                       label_is = refl;
                       outcome = outcome;
                       answered = e;
-                    };
+                    });
               }
 
 -- ---- refused, or written: the call
 
-module _ {g : Geometry} {t m s : List ℕ} {h : Holder} {p : List (List ℕ)} (d : Seeks g t m s h p) {a m' c a' : List ℕ} {r : Decision} (x : Decides d a m' c a' r) where
-  pub declined : (r.refusal ≡ 0 → ⊥) → result_of r.refusal (lent t a' []) ≡ written (lent t a []) (sought d)
-  declined nz = uncopied d.volume (lent t a []) (lent t a' []) r.refusal nz (sought d) x.replied
+module _ {g : Geometry} {t m s : List ℕ} {h : Holder} {p : List (List ℕ)} (d : Seeks g t m s h p) {a m' c a' : List ℕ} {r : Result Decision Refusal} (x : Decides d a m' c a' r) where
+  pub declined : (e : Refusal) → r ≡ Err e → result_of (number e) (lent t a' []) ≡ written (lent t a []) (sought d)
+  declined e z =
+      uncopied d.volume (lent t a []) (lent t a' []) (number e) (never_none e) (sought d)
+      (ap (λ (q : Result Decision Refusal). result_of (number_of q) (lent t a' [])) (sym z) ∙ x.replied)
 
-  module _ (z : r.refusal ≡ 0) {f1 f3 : List ℕ} (recs : InRecords g d.label f1 f3) (set_in_lem : SetIn g f1 f3 h.extents) (own : extents_in g f1 f3 h.extents ≡ d.label.extents) where
-    abbrev y : Planned d m' c a' r
-    y = x.planned z
+  module _ {q : Decision} (z : r ≡ Ok q) {f1 f3 : List ℕ} (recs : InRecords g d.label f1 f3) (set_in_lem : SetIn g f1 f3 h.extents) (own : extents_in g f1 f3 h.extents ≡ d.label.extents) where
+    abbrev y : Planned d m' c a' q
+    y = x.planned q z
 
     -- what `write_grant` asks
-    pub writes : GrantWrites g t m' c r.plan r.set (take r.set.count p) f1 f3
+    pub writes : GrantWrites g t m' c q.plan q.set (take q.set.count p) f1 f3
     writes =
         record {
           map_before = m;
@@ -179,13 +186,12 @@ module _ {g : Geometry} {t m s : List ℕ} {h : Holder} {p : List (List ℕ)} (d
           empty_after = y.s';
           grants = y.grants;
           plans = y.plans;
-          fits = y.fits;
           records = subst (λ (k : Label). InRecords g k f1 f3) (sym y.label_is) recs;
           set = subst (SetIn g f1 f3) (sym y.extents_same) set_in_lem;
           extents = ap (extents_in g f1 f3) y.extents_same ∙ own ∙ ap (λ (k : Label). k.extents) (sym y.label_is);
         }
 
-    pub put : (t' : List ℕ) → ((w : GrantWrites g t m' c r.plan r.set (take r.set.count p) f1 f3) → Leaves (grown w.grants) t')
+    pub put : (t' : List ℕ) → ((w : GrantWrites g t m' c q.plan q.set (take q.set.count p) f1 f3) → Leaves (grown w.grants) t')
         → result_of 0 (lent t' a' []) ≡ written (lent t a []) (sought d)
     unfolding writes
     put t' w = is_granted t a _ y.grants.pieces t' a' (w writes) y.answered ∙ ap (written (lent t a [])) y.outcome

@@ -1,5 +1,5 @@
 -- A grant, planned and ready to be written. Assumes nothing.
-use mathlib.Core.Path.{◌≡◌, refl, sym, ap, ap₂, ◌∙◌, subst}
+use mathlib.Core.Path.{◌≡◌, refl, sym, ap, ◌∙◌, subst}
 use mathlib.Core.Bool.{Bool, true, false, cond}
 use mathlib.Core.Option.{none, some}
 use mathlib.Core.List.{List, [], ◌∷◌, ◌++◌, map}
@@ -30,7 +30,8 @@ use Rattle.set_extents.specs.Change.{InRecords, PieceIn, extents_in}
 use Rattle.set_extents.proofs.Laws.{pieces_good}
 use Rattle.update.specs.declared.Home.{Home}
 use Rattle.update.specs.declared.Plan.{Plan}
-use Rattle.update.specs.Commit.{Draft, Leaves, Puts, drafted}
+use Rattle.update.specs.Commit.{Draft, Leaves, NoPlan, Plans, Puts, drafted}
+use Rattle.std.specs.Prelude.{Option}
 use Rattle.update.proofs.Put.{is_w, put_full}
 use Rattle.update.proofs.Sets.{slots_shown}
 use Rattle.grant_space.specs.Granting.{GrantPlans, GrantWrites, Grants, extents_then, first_start, grown, more}
@@ -90,6 +91,9 @@ module _ {g : Geometry} {t m s : List ℕ} {h : Holder} {rows : List (List ℕ)}
 
   -- ---- the pieces
 
+  pub rows_long : length rows ≡ h.count
+  rows_long = ap length d.rows_are ∙ length-map d.pieces row ∙ d.count_is
+
   pub pieces_in_lem : (k : ℕ) → tracks g ≤ k → All (PieceIn k) rows
   pieces_in_lem k h = pieces_good (tracks g) k d.pieces h d.good.full below rows d.rows_are
 
@@ -139,7 +143,7 @@ module _ {g : Geometry} {t m s : List ℕ} {h : Holder} {rows : List (List ℕ)}
 
   -- ---- planned
 
-  module _ {m' s' c : List ℕ} {p : Plan} (x : GrantPlans g t m m' s s' c h rows p) where
+  module _ {m' s' c : List ℕ} {r : Option Plan} (x : GrantPlans g t m m' s s' c h rows r) where
     all_shown : Shows m' (tracks g) (d.pieces ++ held g v.labels)
     all_shown = x.took.held (tracks g) d.pieces d.rows_are below room (held g v.labels) tracks_shown
 
@@ -172,21 +176,21 @@ module _ {g : Geometry} {t m s : List ℕ} {h : Holder} {rows : List (List ℕ)}
         }
 
     -- the VTOC is full
-    pub grant_full : p.fits ≡ false → grown d ≡ none
+    pub grant_full : NoPlan g t m' s s' c x.asked → grown d ≡ none
     unfolding draft
-    grant_full e = put_full (draft (leb (extents_then h) 3) refl) x.asked_is x.plan e
+    grant_full n = put_full (draft (leb (extents_then h) 3) refl) x.asked_is n
 
     -- it is not: there is a volume that the grant leaves
-    pub grant_there : p.fits ≡ true → (w : Volume) × (grown d ≡ some w)
+    pub grant_there : {p : Plan} → Plans g t m' s s' c x.lo x.asked p → (w : Volume) × (grown d ≡ some w)
     unfolding draft
-    grant_there e = (_, is_w (draft (leb (extents_then h) 3) refl) x.asked_is x.plan e)
+    grant_there n = (_, is_w (draft (leb (extents_then h) 3) refl) x.asked_is n)
 
 -- ---- written
 
 module _ {g : Geometry} {t m' c : List ℕ} {p : Plan} {h : Holder} {rows : List (List ℕ)} {old1 old3 : List ℕ} (d : GrantWrites g t m' c p h rows old1 old3) where
   -- what `put_pieces` asks
-  pub joins_first : (p : List (List ℕ)) (count : ℕ) → rows ≡ take count p → 1 ≤ count → h.joins ≡ touches (extents_in g old1 old3 h.extents) (first_start p)
-  joins_first p count e u = d.grants.joins_is ∙ ap₂ touches (sym d.extents) (ap first_start e ∙ first_taken count p u)
+  pub joins_first : h.joins ≡ touches (extents_in g old1 old3 h.extents) (first_start rows)
+  joins_first = d.grants.joins_is ∙ ap (λ (es : List Extent). touches es (first_start rows)) (sym d.extents)
 
   module _ (few : Bool) (f : few ≡ leb (extents_then h) 3) (f1 f3 : List ℕ) (recs : InRecords g (more h.type_byte d.grants.pieces d.grants.label) f1 f3) where
     abbrev home : Home
@@ -204,7 +208,6 @@ module _ {g : Geometry} {t m' c : List ℕ} {p : Plan} {h : Holder} {rows : List
           draft = draft d.grants d.plans few f;
           asked_is = d.plans.asked_is ∙ ap (λ (b : Bool). asks h.slot + cond b 0 (asks h.slot3)) (sym f);
           plan = d.plans.plan;
-          fits = d.fits;
           first = recs.one;
           third = λ _. recs.three;
         }

@@ -9,7 +9,7 @@ use borrow.Author.Tests.{le-leb, lt-leb}
 use lib.Dec.{eqb, leb}
 use lib.ListN.{length, take, get_or}
 use Rattle.model.specs.Basics.{get3}
-use Rattle.model.specs.Choice.{SpaceOption, no_option}
+use Rattle.model.specs.Choice.{SpaceOption}
 use Rattle.model.specs.Model.{Extent, Geometry, Label, Volume, free, held, overs, runs_of, slots, times, tracks}
 use Rattle.rules.specs.Calls.{Amount, Outcome, accept, extend_pieces, extend_set, given, granted, in_cylinders, in_tracks, joined, longer, on_copy, secondary_of, grant as granting}
 use Rattle.rules.specs.Entries.{lent, result_of, written}
@@ -23,7 +23,10 @@ use Rattle.rules.proofs.Kept.{Keeps}
 use Rattle.rules.proofs.Previews.{copied}
 use Rattle.bitmap.specs.Map.{Shows}
 use Rattle.choose_pieces.specs.Grant.{grant_of}
-use Rattle.request.specs.Request.{pieces_of, type_of}
+use Rattle.request.specs.declared.Request.{Request as Asked}
+use Rattle.choose_pieces.specs.Options.{to_option}
+use Rattle.request.specs.Request.{pieces_of, to_amount, type_of}
+use Rattle.refusals.proofs.Laws.{never_none}
 use Rattle.request.proofs.Laws.{secondary_asks}
 use Rattle.set_extents.proofs.Laws.{secondary_is, unit_is_lem}
 use Rattle.set_extents.specs.Change.{InRecords, SetIn, extents_in}
@@ -36,23 +39,15 @@ use Rattle.free_extents.proofs.Chain.{runs_listed}
 use Rattle.open_table.proofs.Lookup.{limits_of, table_long}
 use Rattle.update.proofs.Sets.{held_apart_lem, others_stay, slots_same}
 use Rattle.update.specs.Commit.{Leaves}
+use Rattle.std.specs.Prelude.{Result, Ok, Err}
+use Rattle.refusals.specs.Numbers.{number, number_of}
+use Rattle.refusals.specs.declared.Refusal.{Refusal}
 use Rattle.grant_space.specs.declared.Decision.{Decision}
 use Rattle.grant_space.specs.declared.Holder.{Holder}
 use Rattle.grant_space.specs.Granting.{GrantWrites, first_start, grown}
 use Rattle.grant_space.specs.Deciding.{Decides, Planned, Seeks, sought, with_pieces}
 use Rattle.grant_space.specs.Longer.{AsksMore, ExtendForeseen, Extended, Longer}
 use Rattle.grant_space.proofs.Decided.{declined, put, writes}
-
--- the cases of `asked_more`
-module _ (f1 : List ℕ) (sec : ℕ) (es : sec ≡ get3 f1 95) (unit : ℕ) (eu : unit ≡ get_or f1 94 0) (q : Amount) (eq : q ≡ cond (eqb unit 0xC0) (in_cylinders sec) (in_tracks sec)) where
-  asked_is : q ≡ cond (eqb (get_or f1 94 0) 0xC0) (in_cylinders (get3 f1 95)) (in_tracks (get3 f1 95))
-  asked_is = eq ∙ ap₂ (λ (u n : ℕ). cond (eqb u 0xC0) (in_cylinders n) (in_tracks n)) eu es
-
-  pub asks_none : sec ≡ 0 → AsksMore f1 8 q no_option
-  asks_none z = record { none = λ _. (refl, sym es ∙ z); some = λ e. absurd (omega arith); amount_is = asked_is; option_is = refl }
-
-  pub asks_some : (sec ≡ 0 → ⊥) → AsksMore f1 0 q no_option
-  asks_some n = record { none = λ e. absurd (e refl); some = λ _. omega (arith, n); amount_is = asked_is; option_is = refl }
 
 module _ {t m s a : List ℕ} {g : Geometry} {k : ℕ} (d : Longer t m s a g k) where
   abbrev v : Volume
@@ -119,33 +114,39 @@ module _ {t m s a : List ℕ} {g : Geometry} {k : ℕ} (d : Longer t m s a g k) 
     sec_is : get3 one 95 ≡ l.secondary
     sec_is = secondary_is g l good one three it.records.one.bytes it.set.long3 (λ _. it.records.three)
 
-    module _ {no : ℕ} {q : Amount} {o : SpaceOption} (more : AsksMore one no q o) where
-      pub no_secondary : (no ≡ 0 → ⊥) → Extended d no t a
-      no_secondary nz =
-          let n = more.none nz in
+    module _ {asked : Result Asked Refusal} (more : AsksMore one asked) where
+      pub no_secondary : (r : Refusal) → asked ≡ Err r → Extended d (number r) t a
+      no_secondary r z =
+          let n = more.none r z in
           let e : leb 1 l.secondary ≡ false = lt-leb 1 l.secondary (let i = sec_is in let j = n.1 in omega arith) in
           ap (λ (k : ℕ). result_of k (lent t a [])) n.0 ∙ rw e
 
-      pub no_secondary_foreseen : (no ≡ 0 → ⊥) → ExtendForeseen d no a
-      no_secondary_foreseen nz = copied v (lent t a []) (lent t a []) no nz (extend_set v name l) (no_secondary nz)
+      pub no_secondary_foreseen : (r : Refusal) → asked ≡ Err r → ExtendForeseen d (number r) a
+      no_secondary_foreseen r z = copied v (lent t a []) (lent t a []) (number r) (never_none r) (extend_set v name l) (no_secondary r z)
 
-      module _ (z : no ≡ 0) where
+      module _ {need : Asked} (z : asked ≡ Ok need) where
+        abbrev o : SpaceOption
+        o = to_option need.option
+
+        abbrev q : Amount
+        q = to_amount need.amount
+
         amount_is_lem : q ≡ secondary_of l
         amount_is_lem =
-            more.amount_is
+            more.amount_is need z
             ∙ ap₂ (λ (u n : ℕ). cond (eqb u 0xC0) (in_cylinders n) (in_tracks n))
             (unit_is_lem g l good one three it.records.one.bytes it.set.long3 (λ _. it.records.three)) sec_is
 
         pub asks : Asks g q
-        asks = subst (Asks g) (sym more.amount_is) (secondary_asks g (get_or one 94 0) (get3 one 95) (more.some z))
+        asks = subst (Asks g) (sym (more.amount_is need z)) (secondary_asks g (get_or one 94 0) (get3 one 95) (more.some need z))
 
         abbrev chosen : Option (List Extent)
         chosen = granting v.geometry v.labels o q
 
         rule_is : extend_set v name l ≡ given chosen 9 (with_pieces v others l)
         rule_is =
-            let e : leb 1 l.secondary ≡ true = le-leb 1 l.secondary (let i = sec_is in let w = more.some z in omega arith) in
-            rw e (ap₂ (λ (x : SpaceOption) (y : Amount). given (granting v.geometry v.labels x y) 9 (extend_pieces v name l)) (sym more.option_is) (sym amount_is_lem))
+            let e : leb 1 l.secondary ≡ true = le-leb 1 l.secondary (let i = sec_is in let w = more.some need z in omega arith) in
+            rw e (ap₂ (λ (x : SpaceOption) (y : Amount). given (granting v.geometry v.labels x y) 9 (extend_pieces v name l)) (sym (more.option_is need z)) (sym amount_is_lem))
 
         new_valid : (es : List Extent) → chosen ≡ some es → length (joined l.extents es) ≤ 16
             → (w : Volume) → settle_with v others (longer es l) ≡ some w → Valid w
@@ -192,16 +193,16 @@ module _ {t m s a : List ℕ} {g : Geometry} {k : ℕ} (d : Longer t m s a g k) 
 
           -- ---- what is decided, and what is written
 
-          module _ {m' c a' : List ℕ} {r : Decision} (y : (u : Seeks g t m s h p) → Decides u a m' c a' r) where
-            pub foreseen : ExtendForeseen d r.refusal a'
-            foreseen = (y seeks).replied ∙ ap₂ (λ (w : Volume) (u : Outcome). written (lent t a []) (on_copy w u)) volume_is sought_is
+          module _ {m' c a' : List ℕ} {r : Result Decision Refusal} (y : (u : Seeks g t m s h p) → Decides u a m' c a' r) where
+            pub foreseen : (n : ℕ) → n ≡ number_of r → ExtendForeseen d n a'
+            foreseen n z = ap (λ (k : ℕ). result_of k (lent t a' [])) z ∙ (y seeks).replied ∙ ap₂ (λ (w : Volume) (u : Outcome). written (lent t a []) (on_copy w u)) volume_is sought_is
 
-            pub declines : (r.refusal ≡ 0 → ⊥) → Extended d r.refusal t a'
-            declines nz = declined seeks (y seeks) nz ∙ ap (written (lent t a [])) sought_is
+            pub declines : (e : Refusal) → r ≡ Err e → Extended d (number e) t a'
+            declines e z = declined seeks (y seeks) e z ∙ ap (written (lent t a [])) sought_is
 
-            module _ (rz : r.refusal ≡ 0) where
-              pub planned : Planned seeks m' c a' r
-              planned = (y seeks).planned rz
+            module _ {w : Decision} (rz : r ≡ Ok w) where
+              pub planned : Planned seeks m' c a' w
+              planned = (y seeks).planned w rz
 
               records : InRecords g seeks.label one three
               unfolding seeks
@@ -215,8 +216,8 @@ module _ {t m s a : List ℕ} {g : Geometry} {k : ℕ} (d : Longer t m s a g k) 
               own = ap (extents_in g one three) eh.2 ∙ it.extents
 
               -- what `write_grant` asks
-              pub grant_writes_lem : GrantWrites g t m' c r.plan r.set (take r.set.count p) one three
+              pub grant_writes_lem : GrantWrites g t m' c w.plan w.set (take w.set.count p) one three
               grant_writes_lem = writes seeks (y seeks) rz records set_in_lem own
 
-              pub lengthened : (t' : List ℕ) → ((w : GrantWrites g t m' c r.plan r.set (take r.set.count p) one three) → Leaves (grown w.grants) t') → Extended d 0 t' a'
+              pub lengthened : (t' : List ℕ) → ((w : GrantWrites g t m' c w.plan w.set (take w.set.count p) one three) → Leaves (grown w.grants) t') → Extended d 0 t' a'
               lengthened t' w = put seeks (y seeks) rz records set_in_lem own t' w ∙ ap (written (lent t a [])) sought_is

@@ -12,7 +12,7 @@ use Rattle.model.specs.Choice.{SpaceOption}
 use Rattle.model.specs.Model.{Extent, Geometry, Label, Volume, free, held, overs, slots, tracks}
 use Rattle.model.proofs.Lists.{and_l, and_r, is_true}
 use Rattle.rules.specs.Calls.{Amount, Outcome, absolute, allocate_by, allocate_pieces, given, granted, in_cylinders, in_range, in_tracks, new_set, on_copy, settled, unit_of, grant as granting}
-use Rattle.rules.specs.Entries.{lent, written}
+use Rattle.rules.specs.Entries.{result_of, lent, written}
 use Rattle.rules.specs.Ledger.{adds}
 use Rattle.rules.specs.Reading.{read, read_extents}
 use Rattle.rules.specs.Slots.{settle_with}
@@ -33,6 +33,9 @@ use Rattle.free_extents.specs.FreeList.{Listed}
 use Rattle.free_extents.proofs.Chain.{runs_listed}
 use Rattle.open_table.proofs.Lookup.{limits_of, table_long}
 use Rattle.update.specs.Commit.{Leaves}
+use Rattle.std.specs.Prelude.{Result, Ok, Err}
+use Rattle.refusals.specs.Numbers.{number, number_of}
+use Rattle.refusals.specs.declared.Refusal.{Refusal}
 use Rattle.grant_space.specs.declared.Decision.{Decision}
 use Rattle.grant_space.specs.declared.Holder.{Holder}
 use Rattle.grant_space.specs.Granting.{GrantWrites, grown}
@@ -153,16 +156,16 @@ module _ {t m s name at a : List ℕ} {g : Geometry} {o : SpaceOption} {amount :
 
     -- ---- what is decided, and what is written
 
-    module _ {m' c a' : List ℕ} {r : Decision} (x : (y : Seeks g t m s h p) → Decides y a m' c a' r) where
-      pub foreseen : Foresees t name at a o amount sec r.refusal a'
-      foreseen = (x seeks).replied ∙ ap₂ (λ (w : Volume) (q : Outcome). written (lent t a []) (on_copy w q)) volume_is sought_is
+    module _ {m' c a' : List ℕ} {r : Result Decision Refusal} (x : (y : Seeks g t m s h p) → Decides y a m' c a' r) where
+      pub foreseen : (n : ℕ) → n ≡ number_of r → Foresees t name at a o amount sec n a'
+      foreseen n z = ap (λ (k : ℕ). result_of k (lent t a' [])) z ∙ (x seeks).replied ∙ ap₂ (λ (w : Volume) (q : Outcome). written (lent t a []) (on_copy w q)) volume_is sought_is
 
-      pub declines : (r.refusal ≡ 0 → ⊥) → Chooses t name at a o amount sec r.refusal t a'
-      declines nz = declined seeks (x seeks) nz ∙ ap (written (lent t a [])) sought_is
+      pub declines : (e : Refusal) → r ≡ Err e → Chooses t name at a o amount sec (number e) t a'
+      declines e z = declined seeks (x seeks) e z ∙ ap (written (lent t a [])) sought_is
 
-      module _ (z : r.refusal ≡ 0) where
-        pub planned : Planned seeks m' c a' r
-        planned = (x seeks).planned z
+      module _ {q : Decision} (z : r ≡ Ok q) where
+        pub planned : Planned seeks m' c a' q
+        planned = (x seeks).planned q z
 
         module _ (unit : ℕ) (eu : unit ≡ unit_of amount) (f1 f3 : List ℕ)
             (written1 : (g : Geometry) → Format1 g (new_label name at unit sec) f1) (written3 : (g : Geometry) (l : Label) → length l.extents ≤ 3 → Format3 g l f3)
@@ -184,8 +187,8 @@ module _ {t m s name at a : List ℕ} {g : Geometry} {o : SpaceOption} {amount :
           none_yet = ap (extents_in g f1 f3) e.2
 
           -- what `write_grant` asks
-          pub grant_writes_lem : GrantWrites g t m' c r.plan r.set (take r.set.count p) f1 f3
+          pub grant_writes_lem : GrantWrites g t m' c q.plan q.set (take q.set.count p) f1 f3
           grant_writes_lem = writes seeks (x seeks) z records set_in_lem none_yet
 
-          pub placed : (t' : List ℕ) → ((w : GrantWrites g t m' c r.plan r.set (take r.set.count p) f1 f3) → Leaves (grown w.grants) t') → Chooses t name at a o amount sec 0 t' a'
+          pub placed : (t' : List ℕ) → ((w : GrantWrites g t m' c q.plan q.set (take q.set.count p) f1 f3) → Leaves (grown w.grants) t') → Chooses t name at a o amount sec 0 t' a'
           placed t' w = put seeks (x seeks) z records set_in_lem none_yet t' w ∙ ap (written (lent t a [])) sought_is

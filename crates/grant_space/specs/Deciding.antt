@@ -1,7 +1,10 @@
 -- A data set that seeks space, new or found: what is known of it when its pieces are chosen, and what is then decided. Nothing is
 -- written so far but the answer. Assumes nothing.
-use Rattle.std.specs.Prelude.{◌≡◌, ℕ, ◌≤◌, true, List, [], ◌∷◌, ◌++◌, leb, length, take}
+use Rattle.std.specs.Prelude.{◌≡◌, ℕ, ◌≤◌, List, [], ◌∷◌, ◌++◌, leb, length, take}
 use Rattle.std.proofs.Math.Option.{some}
+use Rattle.std.specs.Prelude.{Result, Ok, Some}
+use Rattle.refusals.specs.Numbers.{number_of}
+use Rattle.refusals.specs.declared.Refusal.{Refusal}
 use Rattle.grant_space.specs.declared.Decision.{Decision}
 use Rattle.grant_space.specs.declared.Holder.{Holder}
 use Rattle.model.specs.Choice.{SpaceOption}
@@ -66,13 +69,12 @@ pub record Planned {g : Geometry} {t m s : List ℕ} {h : Holder} {p : List (Lis
   pub few : r.set.count ≤ 5
   pub most : extents_then r.set ≤ 16
   pub grants : Grants g t m s r.set (take r.set.count p)
-  pub plans : GrantPlans g t m m' s s' c r.set (take r.set.count p) r.plan
-  pub fits : r.plan.fits ≡ true
+  pub plans : GrantPlans g t m m' s s' c r.set (take r.set.count p) (Some r.plan)
   pub label_is : grants.label ≡ d.label
   pub outcome : settled (granted grants.pieces) (grown grants) ≡ sought d
   pub answered : a' ≡ answer (granted grants.pieces)
 
--- a is the answer before: result and answer are those of the rule, on a copy; and where it is 0 the change is planned
-pub record Decides {g : Geometry} {t m s : List ℕ} {h : Holder} {p : List (List ℕ)} (d : Seeks g t m s h p) (a m' c a' : List ℕ) (r : Decision) : Type 0 where
-  pub replied : result_of r.refusal (lent t a' []) ≡ written (lent t a []) (on_copy d.volume (sought d))
-  pub planned : r.refusal ≡ 0 → Planned d m' c a' r
+-- a is the answer before: result and answer are those of the rule, on a copy; and where nothing refuses it the change is planned
+pub record Decides {g : Geometry} {t m s : List ℕ} {h : Holder} {p : List (List ℕ)} (d : Seeks g t m s h p) (a m' c a' : List ℕ) (r : Result Decision Refusal) : Type 0 where
+  pub replied : result_of (number_of r) (lent t a' []) ≡ written (lent t a []) (on_copy d.volume (sought d))
+  pub planned : (x : Decision) → r ≡ Ok x → Planned d m' c a' x

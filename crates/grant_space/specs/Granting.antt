@@ -1,6 +1,7 @@
 -- A data set that is granted pieces: planned, and ready to be written. Assumes nothing.
-use Rattle.std.specs.Prelude.{◌≡◌, ℕ, ◌+◌, ◌-◌, ◌≤◌, true, cond, List, [], ◌∷◌, ◌++◌, map, leb, get_or, length}
-use Rattle.std.proofs.Math.Option.{Option, some}
+use Rattle.std.specs.Prelude.{◌≡◌, ℕ, ◌+◌, ◌-◌, ◌≤◌, cond, List, [], ◌∷◌, ◌++◌, map, leb, get_or, length, Option, Some}
+use Rattle.std.proofs.Math.Option as maybe
+use Rattle.std.proofs.Math.Option.{some}
 use Rattle.grant_space.specs.declared.Holder.{Holder}
 use Rattle.model.specs.Basics.{bit}
 use Rattle.model.specs.Model.{Geometry, Label, Run, Volume, extent, held, runs_of, slots_of, tally, times, tracks, used}
@@ -15,7 +16,7 @@ use Rattle.check_table.specs.Check.{Shown}
 use Rattle.open_table.specs.Opening.{Ready}
 use Rattle.update.specs.Pending.{Alike}
 use Rattle.update.specs.declared.Plan.{Plan}
-use Rattle.update.specs.Commit.{Plans}
+use Rattle.update.specs.Commit.{Planning}
 
 -- a label with pieces of this type
 abbrev pub more : (kind : ℕ) → List Run → Label → Label
@@ -54,27 +55,26 @@ pub record Grants (g : Geometry) (t m s : List ℕ) (h : Holder) (rows : List (L
   pub valid : (w : Volume) → settle_with volume others (more h.type_byte pieces label) ≡ some w → Valid w
 
 -- what the volume becomes
-abbrev pub grown : {g : Geometry} {t m s : List ℕ} {h : Holder} {rows : List (List ℕ)} → Grants g t m s h rows → Option Volume
+abbrev pub grown : {g : Geometry} {t m s : List ℕ} {h : Holder} {rows : List (List ℕ)} → Grants g t m s h rows → maybe.Option Volume
 grown {h = h} d = settle_with d.volume d.others (more h.type_byte d.pieces d.label)
 
--- the pieces have left the map m, which is m' then, and the slots are planned
-pub record GrantPlans (g : Geometry) (t m m' s s' c : List ℕ) (h : Holder) (rows : List (List ℕ)) (p : Plan) : Type 0 where
+-- the pieces have left the map m, which is m' then, and the slots are planned, or too few are free
+pub record GrantPlans (g : Geometry) (t m m' s s' c : List ℕ) (h : Holder) (rows : List (List ℕ)) (r : Option Plan) : Type 0 where
   pub lo : ℕ
   pub asked : ℕ
   pub low_in : lo ≤ tracks g
   pub lowest : (ps : List Run) → rows ≡ map row ps → NoneBelow lo ps
   pub took : TookPieces rows m m'
   pub asked_is : asked ≡ asks h.slot + cond (leb (extents_then h) 3) 0 (asks h.slot3)
-  pub plan : Plans g t m' s s' c lo asked p
+  pub plan : Planning g t m' s s' c lo asked r
 
--- a grant that is planned, the plan fits, and f1 and f3 are the records of the label without the pieces
+-- a grant that is planned, and f1 and f3 are the records of the label without the pieces
 pub record GrantWrites (g : Geometry) (t m' c : List ℕ) (p : Plan) (h : Holder) (rows : List (List ℕ)) (f1 f3 : List ℕ) : Type 0 where
   pub map_before : List ℕ
   pub empty_before : List ℕ
   pub empty_after : List ℕ
   pub grants : Grants g t map_before empty_before h rows
-  pub plans : GrantPlans g t map_before m' empty_before empty_after c h rows p
-  pub fits : p.fits ≡ true
+  pub plans : GrantPlans g t map_before m' empty_before empty_after c h rows (Some p)
   pub records : InRecords g grants.label f1 f3
   pub set : SetIn g f1 f3 h.extents
   pub extents : extents_in g f1 f3 h.extents ≡ grants.label.extents

@@ -1,9 +1,15 @@
 -- A data set that is found and is to be extended. Assumes nothing.
 use Rattle.std.specs.Prelude.{◌≡◌, cond, ℕ, ◌*◌, ◌≤◌, List, [], T, eqb, get_or, length}
+use Rattle.std.specs.Prelude.{Result, Ok, Err}
+use Rattle.refusals.specs.Numbers.{number}
+use Rattle.refusals.specs.declared.Refusal.{Refusal}
+use Rattle.request.specs.declared.Request.{Request as Asked}
+use Rattle.choose_pieces.specs.Options.{to_option}
+use Rattle.model.specs.Choice.{no_option}
+use Rattle.request.specs.Request.{to_amount}
 use Rattle.model.specs.Basics.{get3}
-use Rattle.model.specs.Choice.{SpaceOption, no_option}
 use Rattle.model.specs.Model.{Geometry, tracks}
-use Rattle.rules.specs.Calls.{Amount, extend_set, in_cylinders, in_tracks, on_copy}
+use Rattle.rules.specs.Calls.{extend_set, in_cylinders, in_tracks, on_copy}
 use Rattle.rules.specs.Entries.{lent, result_of, written}
 use Rattle.rules.specs.Reading.{read}
 use Rattle.rules.specs.Table.{taken}
@@ -32,8 +38,8 @@ ExtendForeseen {t = t} {a = a} d r a' =
     result_of r (lent t a' []) ≡ written (lent t a []) (on_copy (read t) (extend_set (read t) d.name d.there.label))
 
 -- what a format 1 says of the secondary amount: refused with 8 where it is 0, else the amount, in the unit of the set and without an option
-pub record AsksMore (f1 : List ℕ) (refusal : ℕ) (amount : Amount) (option : SpaceOption) : Type 0 where
-  pub none : (refusal ≡ 0 → ⊥) → (refusal ≡ 8) × (get3 f1 95 ≡ 0)
-  pub some : refusal ≡ 0 → 1 ≤ get3 f1 95
-  pub amount_is : amount ≡ cond (eqb (get_or f1 94 0) 0xC0) (in_cylinders (get3 f1 95)) (in_tracks (get3 f1 95))
-  pub option_is : option ≡ no_option
+pub record AsksMore (f1 : List ℕ) (r : Result Asked Refusal) : Type 0 where
+  pub none : (e : Refusal) → r ≡ Err e → (number e ≡ 8) × (get3 f1 95 ≡ 0)
+  pub some : (q : Asked) → r ≡ Ok q → 1 ≤ get3 f1 95
+  pub option_is : (q : Asked) → r ≡ Ok q → to_option q.option ≡ no_option
+  pub amount_is : (q : Asked) → r ≡ Ok q → to_amount q.amount ≡ cond (eqb (get_or f1 94 0) 0xC0) (in_cylinders (get3 f1 95)) (in_tracks (get3 f1 95))

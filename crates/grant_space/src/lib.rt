@@ -2,10 +2,10 @@
 // set's records get the pieces and the table is written.
 #![tactic(auto)]
 
-ghost use Rattle.std.specs.Prelude.{◌≡◌, ℕ, ◌+◌, ◌*◌, ◌≤◌, ◌<◌, List, leb, length, take};
+ghost use Rattle.std.specs.Prelude.{◌≡◌, ℕ, ◌+◌, ◌*◌, ◌≤◌, ◌<◌, List, leb, length};
 ghost use Rattle.model.specs.Model.{slots, tracks};
-ghost use Rattle.rules.specs.Predicates.{Limits};
 ghost use Rattle.dscb.specs.Forms.{geometry_of};
+ghost use Rattle.refusals.specs.Numbers.{number_of};
 ghost use Rattle.update.specs.Commit.{Leaves};
 ghost use Rattle.grant_space.specs.Granting.{GrantPlans, GrantWrites, Grants, extents_then, grown};
 ghost use Rattle.choose_pieces.specs.Options.{to_option};
@@ -17,7 +17,7 @@ ghost use Rattle.grant_space.specs.Deciding.{Decides, Seeks};
 use choose_pieces::SpaceOption;
 use dscb::Geometry;
 use dscb::places::*;
-use refusals::*;
+use refusals::Refusal;
 use request::{Amount, Request};
 use update::{Home, Plan};
 
@@ -38,10 +38,7 @@ fn extents_then(set: Holder) -> usize
     requires { (set.extents ≤ 16) × (set.count ≤ 5) × (1 ≤ set.count) }
     ensures { result ≡ extents_then set }
 {
-    if set.joins {
-        return set.extents + set.count - 1;
-    }
-    set.extents + set.count
+    set.extents + set.count - usize::from(set.joins)
 }
 
 // Whether it needs no format 3 then.
@@ -60,16 +57,15 @@ pub fn plan_grant(
     free_slots: &mut [u64],
     chain: &mut [u16],
     set: Holder,
-    pieces: [[u16; 2]; 5],
-) -> Plan
-    requires limits { Limits (geometry_of g) × (length table.now ≡ 140 * slots (geometry_of g)) × (tracks (geometry_of g) ≤ 64 * length free_tracks.old) × (length free_slots.old ≡ 8) × (length chain.old ≡ 468) × (set.extents ≤ 16) × (1 ≤ set.count) × (set.count ≤ 5) }
-    requires grants { Grants (geometry_of g) table.now free_tracks.old free_slots.old set (take set.count pieces) }
-    ensures { GrantPlans (geometry_of g) table.now free_tracks.old free_tracks.new free_slots.old free_slots.new chain.new set (take set.count pieces) result }
+    pieces: &[[u16; 2]],
+) -> Option<Plan>
+    requires limits { (length table.now ≡ 140 * slots (geometry_of g)) × (tracks (geometry_of g) ≤ 64 * length free_tracks.old) × (length free_slots.old ≡ 8) × (length chain.old ≡ 468) × (set.extents ≤ 16) × (1 ≤ set.count) × (set.count ≤ 5) }
+    requires grants { Grants (geometry_of g) table.now free_tracks.old free_slots.old set pieces.now }
+    ensures { GrantPlans (geometry_of g) table.now free_tracks.old free_tracks.new free_slots.old free_slots.new chain.new set pieces.now result }
 {
-    let lo = set_extents::lowest_piece(pieces, set.count, dscb::tracks(g) as u32);
-    set_extents::take_pieces(free_tracks, pieces, set.count);
-    let small = few(set);
-    let asked = update::asked_for(set.slot, set.slot3, small);
+    let lo = set_extents::lowest_piece(pieces, u32::from(g.tracks()));
+    set_extents::take_pieces(free_tracks, pieces);
+    let asked = update::asked_for(set.slot, set.slot3, few(set));
     update::plan_slots(table, g, free_tracks, free_slots, chain, asked, lo as usize)
 }
 
@@ -81,24 +77,15 @@ pub fn write_grant(
     chain: &[u16],
     plan: Plan,
     set: Holder,
-    pieces: [[u16; 2]; 5],
+    pieces: &[[u16; 2]],
     f1: &mut [u8; 140],
     f3: &mut [u8; 140],
 )
-    requires limits { Limits (geometry_of g) × (length table.old ≡ 140 * slots (geometry_of g)) × (tracks (geometry_of g) ≤ 64 * length free_tracks.now) × (set.slot < slots (geometry_of g)) × (set.slot3 < slots (geometry_of g)) × (set.extents ≤ 16) × (1 ≤ set.count) × (set.count ≤ 5) × (extents_then set ≤ 16) × (length f1.old ≡ 140) × (length f3.old ≡ 140) }
-    requires grant_writes { GrantWrites (geometry_of g) table.old free_tracks.now chain.now plan set (take set.count pieces) f1.old f3.old }
-    ensures { (d : GrantWrites (geometry_of g) table.old free_tracks.now chain.now plan set (take set.count pieces) f1.old f3.old) → Leaves (grown d.grants) table.new }
+    requires limits { (length table.old ≡ 140 * slots (geometry_of g)) × (tracks (geometry_of g) ≤ 64 * length free_tracks.now) × (set.slot < slots (geometry_of g)) × (set.slot3 < slots (geometry_of g)) × (set.extents ≤ 16) × (1 ≤ set.count) × (set.count ≤ 5) × (extents_then set ≤ 16) × (length f1.old ≡ 140) × (length f3.old ≡ 140) }
+    requires grant_writes { GrantWrites (geometry_of g) table.old free_tracks.now chain.now plan set pieces.now f1.old f3.old }
+    ensures { (d : GrantWrites (geometry_of g) table.old free_tracks.now chain.now plan set pieces.now f1.old f3.old) → Leaves (grown d.grants) table.new }
 {
-    set_extents::put_pieces(
-        f1,
-        f3,
-        g,
-        set.extents,
-        set.joins,
-        set.type_byte,
-        pieces,
-        set.count,
-    );
+    set_extents::put_pieces(f1, f3, g, set.extents, set.joins, set.type_byte, pieces);
     let home = Home {
         slot: set.slot,
         slot3: set.slot3,
@@ -107,28 +94,15 @@ pub fn write_grant(
     update::write_set(table, g, free_tracks, chain, plan, home, f1, f3);
 }
 
-// What is decided of a grant: the refusal, 0 for none; where it is 0, the data set with its pieces and a plan that fits. Where it is
-// not, these are any numbers.
+// What is decided of a grant that is not refused: the data set with its pieces, and a plan.
 #[derive(Clone, Copy)]
 pub struct Decision {
-    pub refusal: u32,
     pub set: Holder,
     pub plan: Plan,
 }
 
-// A grant that is refused.
-fn refused(refusal: u32, set: Holder) -> Decision
-    ensures { result.refusal ≡ refusal }
-{
-    Decision {
-        refusal,
-        set,
-        plan: update::no_plan(),
-    }
-}
-
-// Decides what a data set gets that seeks space, once the pieces are chosen: 9, 10, 11, or 0 with the answer. The table is only read:
-// a preview ends here, and its call has only to write.
+// Decides what a data set gets that seeks space, once the pieces are chosen: refused with 9, 10 or 11, or the answer is there. The table
+// is only read: a preview ends here, and its call has only to write.
 pub fn decide(
     table: &[u8],
     g: Geometry,
@@ -138,36 +112,28 @@ pub fn decide(
     seeker: Holder,
     pieces: [[u16; 2]; 5],
     answer: &mut [u8],
-) -> Decision
-    requires limits { Limits (geometry_of g) × (length table.now ≡ 140 * slots (geometry_of g)) × (tracks (geometry_of g) ≤ 64 * length free_tracks.old) × (length free_slots.old ≡ 8) × (length chain.old ≡ 468) × (seeker.extents ≤ 16) × (length answer.old ≡ 24) }
+) -> Result<Decision, Refusal>
+    requires limits { (length table.now ≡ 140 * slots (geometry_of g)) × (tracks (geometry_of g) ≤ 64 * length free_tracks.old) × (length free_slots.old ≡ 8) × (length chain.old ≡ 468) × (seeker.extents ≤ 16) × (length answer.old ≡ 24) }
     requires seeks { Seeks (geometry_of g) table.now free_tracks.old free_slots.old seeker pieces }
     ensures { (d : Seeks (geometry_of g) table.now free_tracks.old free_slots.old seeker pieces) → Decides d answer.old free_tracks.new chain.new answer.new result }
 {
     let got = choose_pieces::count_pieces(pieces);
     if got.count == 0 {
-        return refused(E_NO_SPACE, seeker);
+        return Err(Refusal::NoSpace);
     }
     let set = Holder {
-        slot: seeker.slot,
-        slot3: seeker.slot3,
-        extents: seeker.extents,
         count: got.count,
-        type_byte: seeker.type_byte,
-        joins: seeker.joins,
+        ..seeker
     };
     if extents_then(set) > 16 {
-        return refused(E_EXTENTS, set);
+        return Err(Refusal::Extents);
     }
-    let plan = plan_grant(table, g, free_tracks, free_slots, chain, set, pieces);
-    if plan.fits {} else {
-        return refused(E_VTOC_FULL, set);
-    }
+    let granted = &pieces[..got.count];
+    let Some(plan) = plan_grant(table, g, free_tracks, free_slots, chain, set, granted) else {
+        return Err(Refusal::VtocFull);
+    };
     answers::put_granted(answer, pieces, got.count, got.tracks);
-    Decision {
-        refusal: 0,
-        set,
-        plan,
-    }
+    Ok(Decision { set, plan })
 }
 
 // A data set that seeks an amount: the slots of its format 1 and its format 3, 0 for none, how many extents it has, and whether the
@@ -187,7 +153,7 @@ fn seeker_of(slot: usize, slot3: usize, extents: usize, joins: bool, amount: Amo
 
 // ---- allocate
 
-// Chooses the pieces of a request that is not refused so far, and grants them to a new data set: 0, 9 or 11.
+// Chooses the pieces of a request that is not refused so far, and grants them to a new data set: refused with 9 or 11.
 pub fn place(
     table: &mut [u8],
     g: Geometry,
@@ -197,14 +163,12 @@ pub fn place(
     attributes: &[u8],
     request: Request,
     answer: &mut [u8],
-) -> u32
+) -> Result<(), Refusal>
     requires { Asking table.old free_tracks.old free_slots.old name.now attributes.now answer.old (geometry_of g) (to_option request.option) (to_amount request.amount) request.secondary }
-    ensures { Chooses table.old name.now attributes.now answer.old (to_option request.option) (to_amount request.amount) request.secondary result table.new answer.new }
+    ensures { Chooses table.old name.now attributes.now answer.old (to_option request.option) (to_amount request.amount) request.secondary (number_of result) table.new answer.new }
 {
-    let amount = request.amount;
-    let option = request.option;
-    let pieces = request::fulfil(table, free_tracks, g, option, amount);
-    let seeker = seeker_of(0, 0, 0, false, amount);
+    let pieces = request::fulfil(table, free_tracks, g, request.option, request.amount);
+    let seeker = seeker_of(0, 0, 0, false, request.amount);
     let mut chain = [0u16; 468];
     let decision = decide(
         table,
@@ -215,13 +179,8 @@ pub fn place(
         seeker,
         pieces,
         answer,
-    );
-    if decision.refusal != 0 {
-        return decision.refusal;
-    }
-    let unit = request::unit_byte(amount);
-    let f1 = &mut dscb_write::new_label(name, attributes, unit, request.secondary);
-    let f3 = &mut dscb_write::empty_three();
+    )?;
+    let unit = request::unit_byte(request.amount);
     write_grant(
         table,
         g,
@@ -229,11 +188,11 @@ pub fn place(
         &chain,
         decision.plan,
         decision.set,
-        pieces,
-        f1,
-        f3,
+        &pieces[..decision.set.count],
+        &mut dscb_write::new_label(name, attributes, unit, request.secondary),
+        &mut dscb_write::empty_three(),
     );
-    0
+    Ok(())
 }
 
 // The same without writing the table. Whatever its name and attributes, the pieces are the same.
@@ -244,16 +203,14 @@ pub fn preview_place(
     free_slots: &mut [u64],
     request: Request,
     answer: &mut [u8],
-) -> u32
+) -> Result<(), Refusal>
     requires { (name : List ℕ) × (at : List ℕ) × Asking table.now free_tracks.old free_slots.old name at answer.old (geometry_of g) (to_option request.option) (to_amount request.amount) request.secondary }
-    ensures { (name at : List ℕ) → Asking table.now free_tracks.old free_slots.old name at answer.old (geometry_of g) (to_option request.option) (to_amount request.amount) request.secondary → Foresees table.now name at answer.old (to_option request.option) (to_amount request.amount) request.secondary result answer.new }
+    ensures { (name at : List ℕ) → Asking table.now free_tracks.old free_slots.old name at answer.old (geometry_of g) (to_option request.option) (to_amount request.amount) request.secondary → Foresees table.now name at answer.old (to_option request.option) (to_amount request.amount) request.secondary (number_of result) answer.new }
 {
-    let amount = request.amount;
-    let option = request.option;
-    let pieces = request::fulfil(table, free_tracks, g, option, amount);
-    let seeker = seeker_of(0, 0, 0, false, amount);
+    let pieces = request::fulfil(table, free_tracks, g, request.option, request.amount);
+    let seeker = seeker_of(0, 0, 0, false, request.amount);
     let mut chain = [0u16; 468];
-    let decision = decide(
+    decide(
         table,
         g,
         free_tracks,
@@ -262,44 +219,29 @@ pub fn preview_place(
         seeker,
         pieces,
         answer,
-    );
-    decision.refusal
+    )?;
+    Ok(())
 }
 
 // ---- extend
 
-// What an extend asks for, by the format 1: the refusal, 8 or 0 for none, and where it is 0 the secondary amount. No label keeps an
-// option.
-#[derive(Clone, Copy)]
-pub struct More {
-    pub refusal: u32,
-    pub amount: Amount,
-    pub option: SpaceOption,
-}
-
-// Reads it off the record.
-fn asked_more(f1: &[u8; 140]) -> More
+// What an extend asks for, by the format 1: its secondary amount, refused with 8 where that is 0. No label keeps an option.
+fn asked_more(f1: &[u8; 140]) -> Result<Request, Refusal>
     requires { length f1.now ≡ 140 }
-    ensures { AsksMore f1.now result.refusal (to_amount result.amount) (to_option result.option) }
+    ensures { AsksMore f1.now result }
 {
     let secondary = rows::three(f1, SECONDARY);
-    let amount = request::secondary_of(f1[DS1SCALO], secondary);
-    let option = SpaceOption::NoOption;
     if secondary == 0 {
-        return More {
-            refusal: E_NO_SECONDARY,
-            amount,
-            option,
-        };
+        return Err(Refusal::NoSecondary);
     }
-    More {
-        refusal: 0,
-        amount,
-        option,
-    }
+    Ok(Request {
+        amount: request::secondary_of(f1[DS1SCALO], secondary),
+        option: SpaceOption::NoOption,
+        secondary,
+    })
 }
 
-// Grants the data set whose format 1 is in slot k its secondary amount: 0, 8, 9, 10 or 11.
+// Grants the data set whose format 1 is in slot k its secondary amount: refused with 8, 9, 10 or 11.
 pub fn lengthen(
     table: &mut [u8],
     g: Geometry,
@@ -307,22 +249,15 @@ pub fn lengthen(
     free_slots: &mut [u64],
     k: usize,
     answer: &mut [u8],
-) -> u32
+) -> Result<(), Refusal>
     requires { Longer table.old free_tracks.old free_slots.old answer.old (geometry_of g) k }
-    ensures { (d : Longer table.old free_tracks.old free_slots.old answer.old (geometry_of g) k) → Extended d result table.new answer.new }
+    ensures { (d : Longer table.old free_tracks.old free_slots.old answer.old (geometry_of g) k) → Extended d (number_of result) table.new answer.new }
 {
-    let held = data_set::set_at(table, g, k);
-    let mut f1 = held.f1;
-    let mut f3 = held.f3;
-    let more = asked_more(&f1);
-    if more.refusal != 0 {
-        return more.refusal;
-    }
-    let amount = more.amount;
-    let option = more.option;
-    let pieces = request::fulfil(table, free_tracks, g, option, amount);
-    let joins = set_extents::joins_last(&f1, &f3, held.count, g, pieces);
-    let seeker = seeker_of(k, held.slot3, held.count, joins, amount);
+    let mut held = data_set::set_at(table, g, k);
+    let more = asked_more(&held.f1)?;
+    let pieces = request::fulfil(table, free_tracks, g, more.option, more.amount);
+    let joins = set_extents::joins_last(&held.f1, &held.f3, held.count, g, pieces);
+    let seeker = seeker_of(k, held.slot3, held.count, joins, more.amount);
     let mut chain = [0u16; 468];
     let decision = decide(
         table,
@@ -333,12 +268,7 @@ pub fn lengthen(
         seeker,
         pieces,
         answer,
-    );
-    if decision.refusal != 0 {
-        return decision.refusal;
-    }
-    let f1 = &mut f1;
-    let f3 = &mut f3;
+    )?;
     write_grant(
         table,
         g,
@@ -346,11 +276,11 @@ pub fn lengthen(
         &chain,
         decision.plan,
         decision.set,
-        pieces,
-        f1,
-        f3,
+        &pieces[..decision.set.count],
+        &mut held.f1,
+        &mut held.f3,
     );
-    0
+    Ok(())
 }
 
 // The same without writing the table.
@@ -361,24 +291,17 @@ pub fn preview_longer(
     free_slots: &mut [u64],
     k: usize,
     answer: &mut [u8],
-) -> u32
+) -> Result<(), Refusal>
     requires { Longer table.now free_tracks.old free_slots.old answer.old (geometry_of g) k }
-    ensures { (d : Longer table.now free_tracks.old free_slots.old answer.old (geometry_of g) k) → ExtendForeseen d result answer.new }
+    ensures { (d : Longer table.now free_tracks.old free_slots.old answer.old (geometry_of g) k) → ExtendForeseen d (number_of result) answer.new }
 {
     let held = data_set::set_at(table, g, k);
-    let f1 = held.f1;
-    let f3 = held.f3;
-    let more = asked_more(&f1);
-    if more.refusal != 0 {
-        return more.refusal;
-    }
-    let amount = more.amount;
-    let option = more.option;
-    let pieces = request::fulfil(table, free_tracks, g, option, amount);
-    let joins = set_extents::joins_last(&f1, &f3, held.count, g, pieces);
-    let seeker = seeker_of(k, held.slot3, held.count, joins, amount);
+    let more = asked_more(&held.f1)?;
+    let pieces = request::fulfil(table, free_tracks, g, more.option, more.amount);
+    let joins = set_extents::joins_last(&held.f1, &held.f3, held.count, g, pieces);
+    let seeker = seeker_of(k, held.slot3, held.count, joins, more.amount);
     let mut chain = [0u16; 468];
-    let decision = decide(
+    decide(
         table,
         g,
         free_tracks,
@@ -387,6 +310,6 @@ pub fn preview_longer(
         seeker,
         pieces,
         answer,
-    );
-    decision.refusal
+    )?;
+    Ok(())
 }

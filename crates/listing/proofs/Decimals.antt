@@ -1,11 +1,14 @@
 -- A number written digit by digit. Assumes nothing.
-use mathlib.Core.Path.{◌≡◌, subst}
-use mathlib.Core.List.{List, [], ◌∷◌, ◌++◌}
+use mathlib.Core.Path.{◌≡◌, refl, sym, ap, ◌∙◌, subst}
+use mathlib.Core.List.{List, [], ◌∷◌, ◌++◌, append_assoc, append-nil}
 use Prim.Native.Nat.{ℕ, ◌+◌, ◌/◌, ◌%◌, ◌≤◌, ◌<◌}
 use native.Mathlib.Omega.{arith}
 use native.Mathlib.Nat.{lt_of_not-le}
 use native.Mathlib.Decide.{dec_le}
 use borrow.Author.Tests.{lt-ltb, le-ltb}
+use lib.ListN.{length, take}
+use lib.Seq.{take_all}
+use Rattle.model.specs.Basics.{flat}
 use Rattle.rules.specs.Listing.{decimal}
 use Rattle.rows.specs.Text.{Written}
 use Rattle.rows.proofs.Text.{then}
@@ -49,7 +52,27 @@ digits v h =
           ])
     ])
 
-module _ {i a b d e r : ℕ} {o₀ o₁ o₂ o₃ o₄ o₅ : List ℕ} (v : ℕ) (h : v < 100000) where
-  pub five : Written i (digit 10000 v) 1 o₀ o₁ a → Written a (digit 1000 v) 1 o₁ o₂ b → Written b (digit 100 v) 1 o₂ o₃ d
-      → Written d (digit 10 v) 1 o₃ o₄ e → Written e ((0x30 + v % 10) ∷ []) 1 o₄ o₅ r → Written i (decimal v) 5 o₀ o₅ r
-  five p q s t u = subst (λ (x : List ℕ). Written i x 5 o₀ o₅ r) (digits v h) (then p (then q (then s (then t u))))
+-- the units of the digits that may be missing
+abbrev pub units : List ℕ
+units = 10000 ∷ 1000 ∷ 100 ∷ 10 ∷ []
+
+-- the digits that count these units
+abbrev pub digits_of : ℕ → List ℕ → List ℕ
+digits_of v us = flat (λ u. digit u v) us
+
+digits_append : (v : ℕ) (xs ys : List ℕ) → digits_of v (xs ++ ys) ≡ digits_of v xs ++ digits_of v ys
+digits_append v [] ys = refl
+digits_append v (x ∷ xs) ys = ap (λ (t : List ℕ). digit x v ++ t) (digits_append v xs ys) ∙ sym (append_assoc (digit x v) (digits_of v xs) (digits_of v ys))
+
+pub all_digits : {i p r : ℕ} {o₀ o₁ o₂ : List ℕ} (v : ℕ) (us : List ℕ) (k : ℕ) → v < 100000 → us ≡ units → k ≤ length us → length us ≤ k
+    → Written i (digits_of v (take k us)) k o₀ o₁ p → Written p ((0x30 + v % 10) ∷ []) 1 o₁ o₂ r → Written i (decimal v) 5 o₀ o₂ r
+all_digits {i} {p} {r} {o₀} {o₁} {o₂} v us k h e l m a b =
+    let q : length us ≡ 4 = ap length e in
+    let n : k ≡ 4 = omega arith in
+    let t : digits_of v (take k us) ≡ digits_of v units = ap (digits_of v) (take_all k us m ∙ e) in
+    let d : digits_of v (take k us) ++ ((0x30 + v % 10) ∷ []) ≡ decimal v = ap (λ (x : List ℕ). x ++ ((0x30 + v % 10) ∷ [])) t ∙ regroup ∙ digits v h in
+    let w : Written i (digits_of v (take k us) ++ ((0x30 + v % 10) ∷ [])) 5 o₀ o₂ r = subst (λ (m : ℕ). Written i (digits_of v (take k us) ++ ((0x30 + v % 10) ∷ [])) m o₀ o₂ r) (let s : k + 1 ≡ 5 = omega arith in s) (then a b) in
+    subst (λ (x : List ℕ). Written i x 5 o₀ o₂ r) d w
+  where
+    regroup : digits_of v units ++ ((0x30 + v % 10) ∷ []) ≡ digit 10000 v ++ (digit 1000 v ++ (digit 100 v ++ (digit 10 v ++ ((0x30 + v % 10) ∷ []))))
+    regroup = simp (append_assoc, append-nil)

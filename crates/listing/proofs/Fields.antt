@@ -7,7 +7,7 @@ use native.Mathlib.Numerals.{add-one}
 use borrow.Author.Tests.{eq-eqb, ne_eqb}
 use lib.Dec.{eqb}
 use lib.ListN.{length, take, get_or}
-use lib.Seq.{length-take-le, take-suc, take_all}
+use lib.Seq.{length-take-le, take-suc}
 use Rattle.model.specs.Basics.{flat}
 use Rattle.model.proofs.Lists.{by}
 use Rattle.rules.specs.Listing.{line, printable}
@@ -61,7 +61,3 @@ pub name_next : {at p r : ℕ} {o₀ o₁ o₂ : List ℕ} (name : List ℕ) (i 
 name_next {at} {p} {r} {o₀} {o₁} {o₂} name i h a b =
     let e : take (i + 1) name ≡ take i name ++ (get_or name i 0 ∷ []) = rw add-one (take-suc name i 0 h) in
     subst (λ (t : List ℕ). Written at t (i + 1) o₀ o₂ r) (sym (ap name_text e ∙ name_append (take i name) (get_or name i 0 ∷ []))) (then a b)
-
-pub name_done : {at r : ℕ} {o₀ o₁ : List ℕ} (name : List ℕ) (i : ℕ) → length name ≡ i → Written at (name_text (take i name)) i o₀ o₁ r
-    → Written at (name_text name) i o₀ o₁ r
-name_done {at} {r} {o₀} {o₁} name i h a = subst (λ (t : List ℕ). Written at (name_text t) i o₀ o₁ r) (take_all i name (omega arith)) a

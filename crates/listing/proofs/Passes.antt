@@ -1,25 +1,21 @@
 -- The lines of a listing, one behind the other. Assumes nothing.
 use mathlib.Core.Path.{◌≡◌, refl, sym, ap, ap₂, ◌∙◌, subst}
-use mathlib.Core.Bool.{true, false}
 use mathlib.Core.List.{List, [], ◌∷◌, ◌++◌, append_assoc, append-nil}
 use Prim.Native.Nat.{ℕ, zero, suc, ◌+◌, ◌-◌, ◌*◌, ◌/◌, ◌%◌, ◌≤◌, ◌<◌}
 use native.Mathlib.Omega.{arith}
 use native.Mathlib.Decide.{dec_le}
 use native.Mathlib.Nat.{lt_of_not-le}
-use borrow.Author.Tests.{eq-eqb, ne_eqb, lt-ltb, le-ltb}
+use borrow.Author.Tests.{lt-ltb, le-ltb}
 use borrow.Rule.Slice.PartMut.{put_mid, mid_of}
 use lib.Dec.{ltb}
-use lib.ListN.{length, take, drop, get_or, length-append, length-drop, drop_of_length-le}
+use lib.ListN.{length, take, drop, length-append, length-drop, drop_of_length-le}
 use lib.Seq.{length-take-le, take_all, take-append-add}
 use Rattle.model.specs.Basics.{flat, up_from}
-use Rattle.model.specs.Model.{Geometry, Label, Run, run, runs, slots}
+use Rattle.model.specs.Model.{Geometry, Label, Run, run, runs}
 use Rattle.model.proofs.Lists.{All_range, All_unflat, by}
 use Rattle.model.specs.Predicates.{All}
 use Rattle.rules.specs.Listing.{data_line, decimal, decimal_to, free_line, line}
 use Rattle.bitmap.specs.Map.{NextRun, free_from, is_free}
-use Rattle.dscb.specs.Records.{slot_bytes}
-use Rattle.names.specs.Find.{is_label}
-use Rattle.check_label.specs.Marks.{label_at}
 use Rattle.check_table.specs.Labels.{at_slot, labels_below}
 use Rattle.check_table.proofs.Scan.{below_next}
 use Rattle.rows.specs.Text.{Written}
@@ -151,9 +147,6 @@ pub record FreeSoFar (m : List ℕ) (n at : ℕ) (o o' : List ℕ) (p t : ℕ) :
   pub done : Written at so (14 * t) o o' p
   pub rest : so ++ free_text m n t ≡ free_text m n 0
 
-pub free_start : (m : List ℕ) (n at : ℕ) (o : List ℕ) → FreeSoFar m n at o o at 0
-free_start m n at o = record { so = []; done = write_none o at (14 * 0); rest = refl }
-
 pub free_next : {m : List ℕ} {n at p q t a b : ℕ} {o o₁ o₂ : List ℕ} → FreeSoFar m n at o o₁ p t → t < n → NextRun m n t a b → Written p (span_line a b) 14 o₁ o₂ q → FreeSoFar m n at o o₂ q b
 free_next {m} {n} {at} {p} {q} {t} {a} {b} x u y w =
     record {
@@ -192,26 +185,3 @@ module _ (g : Geometry) (t : List ℕ) where
   pub slot_labels : (P : Label → Type 0) (n k : ℕ) → All P (labels_below g t n) → k < n → All P (at_slot g t k)
   unfolding labels_below
   slot_labels P n k a u = All_range (λ i. All P (at_slot g t i)) 0 n (All_unflat P (at_slot g t) (up_from 0 n) a) k (omega arith) (omega arith)
-
-  module _ (k : ℕ) (rec : List ℕ) (e : rec ≡ slot_bytes t k) where
-    pub not_label : (get_or rec 44 0 ≡ 0xF1 → ⊥) → is_label (slot_bytes t k) ≡ false
-    not_label f = ne_eqb (get_or (slot_bytes t k) 44 0) 0xF1 (λ q. f (ap (λ (r : List ℕ). get_or r 44 0) e ∙ q))
-
-    pub is_label_lem : get_or rec 44 0 ≡ 0xF1 → is_label (slot_bytes t k) ≡ true
-    is_label_lem q = eq-eqb (get_or (slot_bytes t k) 44 0) 0xF1 (ap (λ (r : List ℕ). get_or r 44 0) (sym e) ∙ q)
-
-  pub none_at : (k at : ℕ) (o : List ℕ) → is_label (slot_bytes t k) ≡ false → Written at (flat data_line (at_slot g t k)) 64 o o at
-  none_at k at o e = rw e (write_none o at 64)
-
-  pub one_at : {at r : ℕ} {o o' : List ℕ} (k : ℕ) → is_label (slot_bytes t k) ≡ true → Written at (data_line (label_at g t k)) 64 o o' r
-      → Written at (flat data_line (at_slot g t k)) 64 o o' r
-  one_at k e w = rw e (reads (data_line (label_at g t k) ++ []) (sym (append-nil (data_line (label_at g t k)))) w)
-
-  pub label_of : (P : Label → Type 0) (k : ℕ) → is_label (slot_bytes t k) ≡ true → All P (at_slot g t k) → P (label_at g t k)
-  label_of P k e a = (rw e at a).0
-
-  pub data_done : {at p : ℕ} {o o' : List ℕ} (k n : ℕ) → n ≡ slots g → k ≤ n → n ≤ k → n ≤ 468 → Written at (flat data_line (labels_below g t k)) (64 * k) o o' p
-      → Written at (flat data_line (labels_below g t (slots g))) 29952 o o' p
-  data_done k n all u v h w =
-      let e : k ≡ slots g = omega arith in
-      reads (flat data_line (labels_below g t (slots g))) (ap (λ (x : ℕ). flat data_line (labels_below g t x)) e) (widen 29952 (omega arith) w)

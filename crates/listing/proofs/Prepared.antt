@@ -4,24 +4,24 @@ use mathlib.Core.Bool.{true, false}
 use mathlib.Core.List.{List, [], ◌∷◌}
 use Prim.Native.Nat.{ℕ, zero, suc, ◌*◌, ◌≤◌, ◌<◌, ◌/◌}
 use native.Mathlib.Omega.{arith}
-use lib.Dec.{T}
 use lib.ListN.{length}
+use Rattle.std.specs.Prelude.{Option, Some, IfSome, is_some}
+use Rattle.check_table.specs.declared.Verdict.{Verdict}
 use Rattle.model.specs.Basics.{flat}
 use Rattle.model.specs.Model.{Geometry, Label, Volume, format0s, free, runs_of, slots, total, tracks}
 use Rattle.model.specs.Predicates.{All}
-use Rattle.rules.specs.Demand3.{sound}
+use Rattle.model.proofs.Lists.{true_is}
 use Rattle.rules.specs.Layout.{link}
 use Rattle.rules.specs.Listing.{data_line, free_line, listing, listing_of, refusal_line, slot_line, volume_line}
 use Rattle.rules.specs.Reading.{read}
-use Rattle.rules.specs.Table.{good_length, taken, valid}
-use Rattle.rules.proofs.Keyed.{count}
+use Rattle.rules.specs.Table.{good_length, taken}
 use Rattle.rules.proofs.LabelBack.{length_1}
 use Rattle.rules.proofs.Taken.{taken_is}
 use Rattle.rules.specs.Predicates.{Limits, Valid}
 use Rattle.rules.specs.Sound.{LabelOk, Sound}
 use Rattle.rules.proofs.Meaning.{records_of, taken_sound}
 use Rattle.bitmap.specs.Map.{free_from}
-use Rattle.dscb.specs.Forms.{linked_slot}
+use Rattle.dscb.specs.Forms.{geometry_of, linked_slot}
 use Rattle.dscb.specs.Records.{slot_bytes}
 use Rattle.dscb.specs.Tests.{slot_named}
 use Rattle.dscb.proofs.Links.{slot_found, slot_none}
@@ -33,7 +33,7 @@ use Rattle.rows.proofs.Text.{then}
 use Rattle.listing.specs.Text.{volume_text}
 use Rattle.listing.proofs.Extents.{good_proper, tracks_most_lem}
 use Rattle.listing.proofs.Volumes.{volume_text_lem}
-use Rattle.check_table.specs.Check.{Shown, TellsVolume, volume_at}
+use Rattle.check_table.specs.Check.{Checked, Shown, TellsVolume, volume_at}
 use Rattle.check_table.proofs.Free.{free_shown}
 use Rattle.check_table.proofs.Pieces.{in_table, third_below}
 use Rattle.check_table.proofs.Read.{volume_is}
@@ -87,8 +87,14 @@ module _ (g : Geometry) (t m s : List ℕ) (len : length t ≡ 140 * slots g) (v
         count_most = tells.count_most;
       }
 
-pub ready_to_list : (t m s : List ℕ) (g : Geometry) (count top : ℕ) → T (taken t) → Shown (read t) m s → TellsVolume (read t) g count top → ReadyToList g count t m
-ready_to_list t m s g count top x w tells =
+-- what the check tells of it
+pub ready_to_list : (t : List ℕ) {m m' s s' : List ℕ} {r : Option Verdict} → Checked t m m' s s' r → (o : Verdict) → r ≡ Some o → ReadyToList (geometry_of o.geometry) o.format0s t m'
+ready_to_list t {m' = m'} {s' = s'} c o e =
+    let g = geometry_of o.geometry in
+    let there = ap is_some e in
+    let tells : TellsVolume (read t) g o.format0s o.highest
+    = subst (λ (u : Option Verdict). IfSome u (λ k. TellsVolume (read t) (geometry_of k.geometry) k.format0s k.highest)) e c.tells in
+    let x = true_is (sym c.told ∙ there) in
     let p = taken_is t x in
     let y = taken_sound t x in
     let l = taken_long t x in
@@ -97,8 +103,8 @@ ready_to_list t m s g count top x w tells =
     let z : slots g ≡ slots (read t).geometry = ap slots q in
     let len : length t ≡ 140 * slots g = omega arith in
     let v : read t ≡ volume_at g t = volume_is g t len (omega arith) (q ∙ geometry_read t (omega arith)) in
-    ready_so g t m s len v (subst Valid v p.0) (subst (Sound (records_of t)) v y) (subst (λ (u : Volume). Shown u m s) v w) count top
-    (subst (λ (u : Volume). TellsVolume u g count top) v tells)
+    ready_so g t m' s' len v (subst Valid v p.0) (subst (Sound (records_of t)) v y) (subst (λ (u : Volume). Shown u m' s') v (c.shown there)) o.format0s o.highest
+    (subst (λ (u : Volume). TellsVolume u g o.format0s o.highest) v tells)
 
 -- ---- its listing
 

@@ -4,7 +4,6 @@ use Rattle.model.specs.Model.{Geometry, Label, format0s, free, run, runs_of, slo
 use Rattle.model.specs.Predicates.{All}
 use Rattle.rules.specs.Listing.{free_line}
 use Rattle.rules.specs.Reading.{read}
-use Rattle.rules.proofs.Keyed.{count}
 use Rattle.rules.specs.Predicates.{Limits}
 use Rattle.bitmap.specs.Map.{free_from}
 use Rattle.dscb.specs.Forms.{linked_slot}

@@ -8,7 +8,6 @@ ghost use Rattle.rules.specs.Listing.{decimal, line, free_line, refusal_line, sl
 ghost use Rattle.rules.specs.Reading.{read_extent, read_extents, read};
 ghost use Rattle.listing.specs.Text.{Line, Proper, data_text, digit, name_text, volume_text};
 ghost use Rattle.model.specs.Basics.{flat};
-ghost use Rattle.rules.specs.Predicates.{Limits};
 ghost use Rattle.bitmap.specs.Map.{free_from};
 ghost use Rattle.rows.specs.Text.{Written};
 ghost use Rattle.dscb.specs.Forms.{geometry_of};
@@ -19,6 +18,7 @@ ghost use Rattle.listing.specs.Whole.{Listable, ReadyToList, span_line};
 
 use dscb::Geometry;
 use dscb::places::*;
+use refusals::Refusal;
 
 // ---- fields; each function gives back the place behind what it wrote
 
@@ -38,11 +38,11 @@ pub fn put_decimal(out: &mut [u8], at: usize, v: u32) -> usize
     requires { (at + 5 ≤ length out.old) × (v < 100000) }
     ensures { Written at (decimal v) 5 out.old out.new result }
 {
-    let a = put_digit(out, at, v, 10000);
-    let b = put_digit(out, a, v, 1000);
-    let c = put_digit(out, b, v, 100);
-    let d = put_digit(out, c, v, 10);
-    rows::put_byte(out, d, (0x30 + v % 10) as u8)
+    let mut p = at;
+    for unit in [10000, 1000, 100, 10] {
+        p = put_digit(out, p, v, unit);
+    }
+    rows::put_byte(out, p, (0x30 + v % 10) as u8)
 }
 
 // Writes a blank and a number.
@@ -72,10 +72,8 @@ pub fn put_name(out: &mut [u8], at: usize, name: &[u8]) -> usize
     ensures { Written at (name_text name.now) 44 out.old out.new result }
 {
     let mut p = at;
-    let mut i: usize = 0;
-    while i < 44 {
-        p = put_printed(out, p, name[i]);
-        i += 1;
+    for &b in name {
+        p = put_printed(out, p, b);
     }
     p
 }
@@ -153,7 +151,7 @@ fn tracks_in(x: &[u8], heads: u16) -> u32
 {
     let first = dscb::track_at(x, 2, heads);
     let last = dscb::track_at(x, 6, heads);
-    (last - first) as u32 + 1
+    u32::from(last - first) + 1
 }
 
 // How many tracks the first n extents of a format 1 with its format 3 have. A data set without a format 3 has at most 3
@@ -164,10 +162,8 @@ pub fn tracks_of<'a>(f1: &'a [u8], f3: &'a [u8], n: usize, heads: u16) -> u32
     ensures { result ≡ total (overs (read_extents heads f1.now f3.now n)) }
 {
     let mut sum: u32 = 0;
-    let mut e: usize = 0;
-    while e < n {
+    for e in 0..n {
         sum += tracks_in(dscb::extent_part(f1, f3, e), heads);
-        e += 1;
     }
     sum
 }
@@ -182,11 +178,11 @@ fn put_free(out: &mut [u8], at: usize, from: u16, to: u16) -> usize
     if from >= to {
         return at;
     }
-    let n = free_line(&mut out[at..], from as u32, (to - from) as u32);
+    let n = free_line(&mut out[at..], u32::from(from), u32::from(to - from));
     at + n
 }
 
-// Writes the lines of the free extents among the n tracks of the map.
+// Writes the lines of the free extents among the n tracks of the map. A turn goes on by a run of free tracks, so no range counts the turns.
 fn free_lines(free_tracks: &[u64], n: u16, out: &mut [u8], at: usize) -> usize
     requires { (n ≤ 65535) × (n ≤ 64 * length free_tracks.now) × (at + 14 * n + 64 ≤ length out.old) }
     ensures { Written at (flat free_line (free_from free_tracks.now n 0)) (14 * n) out.old out.new result }
@@ -215,20 +211,20 @@ fn put_data(f1: &[u8], many: u32, n: u32, out: &mut [u8], at: usize) -> usize
 
 // Writes the line of the data set in slot k.
 fn put_label(table: &[u8], k: usize, g: Geometry, out: &mut [u8], at: usize) -> usize
-    requires { Limits (geometry_of g) × (length table.now ≡ 140 * slots (geometry_of g)) × (k < slots (geometry_of g)) × Listable (geometry_of g) table.now (label_at (geometry_of g) table.now k) × (at + 64 ≤ length out.old) }
+    requires { (length table.now ≡ 140 * slots (geometry_of g)) × (k < slots (geometry_of g)) × Listable (geometry_of g) table.now (label_at (geometry_of g) table.now k) × (at + 64 ≤ length out.old) }
     ensures { Written at (data_line (label_at (geometry_of g) table.now k)) 64 out.old out.new result }
 {
     let f1 = dscb::record_at(table, k);
     let slot3 = dscb::link(f1, g);
     let f3 = dscb::record_at(table, slot3);
-    let n = rows::wide(f1[DS1NOEPV]);
-    let many = tracks_of(f1, f3, n as usize, g.heads);
-    put_data(f1, many, n, out, at)
+    let n = f1[DS1NOEPV];
+    let many = tracks_of(f1, f3, usize::from(n), g.heads);
+    put_data(f1, many, u32::from(n), out, at)
 }
 
 // Writes the line of slot k, if it has a label.
 fn put_slot(table: &[u8], k: usize, g: Geometry, out: &mut [u8], at: usize) -> usize
-    requires { Limits (geometry_of g) × (length table.now ≡ 140 * slots (geometry_of g)) × (k < slots (geometry_of g)) × All (Listable (geometry_of g) table.now) (at_slot (geometry_of g) table.now k) × (at + 64 ≤ length out.old) }
+    requires { (length table.now ≡ 140 * slots (geometry_of g)) × (k < slots (geometry_of g)) × All (Listable (geometry_of g) table.now) (at_slot (geometry_of g) table.now k) × (at + 64 ≤ length out.old) }
     ensures { Written at (flat data_line (at_slot (geometry_of g) table.now k)) 64 out.old out.new result }
 {
     let rec = dscb::record_at(table, k);
@@ -240,15 +236,12 @@ fn put_slot(table: &[u8], k: usize, g: Geometry, out: &mut [u8], at: usize) -> u
 
 // Writes the lines of the data sets, by slot.
 fn data_lines(table: &[u8], g: Geometry, out: &mut [u8], at: usize) -> usize
-    requires { Limits (geometry_of g) × (length table.now ≡ 140 * slots (geometry_of g)) × All (Listable (geometry_of g) table.now) (labels_below (geometry_of g) table.now (slots (geometry_of g))) × (at + 29952 ≤ length out.old) }
+    requires { (length table.now ≡ 140 * slots (geometry_of g)) × All (Listable (geometry_of g) table.now) (labels_below (geometry_of g) table.now (slots (geometry_of g))) × (at + 29952 ≤ length out.old) }
     ensures { Written at (flat data_line (labels_below (geometry_of g) table.now (slots (geometry_of g)))) 29952 out.old out.new result }
 {
-    let n = dscb::slots(g);
     let mut p = at;
-    let mut k: usize = 0;
-    while k < n {
+    for k in 0..g.slots() {
         p = put_slot(table, k, g, out, p);
-        k += 1;
     }
     p
 }
@@ -275,9 +268,9 @@ fn list_taken(
     requires { ReadyToList (geometry_of g) format0s table.now free_tracks.now × (length free_tracks.now ≡ 1024) × (1000000 ≤ length out.old) }
     ensures { Written 0 (listing_of (read table.now)) 1000000 out.old out.new result }
 {
-    let a = volume_line(out, g.cylinders as u32, g.heads as u32);
+    let a = volume_line(out, u32::from(g.cylinders), u32::from(g.heads));
     let b = data_lines(table, g, out, a);
-    let c = free_lines(free_tracks, dscb::tracks(g), out, b);
+    let c = free_lines(free_tracks, g.tracks(), out, b);
     put_slots(out, c, format0s)
 }
 
@@ -287,12 +280,11 @@ pub fn list(table: &[u8], free_tracks: &mut [u64], free_slots: &mut [u64], out: 
     requires { (free_tracks.old ≡ ones 1024) × (length free_slots.old ≡ 8) × (1000000 ≤ length out.old) }
     ensures { (length out.new ≡ length out.old) × (take result out.new ≡ listing table.now) × (result ≤ 1000000) }
 {
-    if check_table::good_length(table) {} else {
-        return refusal_line(out, 2);
+    if !check_table::good_length(table) {
+        return refusal_line(out, Refusal::Length as u32);
     }
-    let verdict = check_table::check(table, free_tracks, free_slots);
-    if verdict.taken {} else {
-        return refusal_line(out, 3);
-    }
+    let Some(verdict) = check_table::check(table, free_tracks, free_slots) else {
+        return refusal_line(out, Refusal::Unsound as u32);
+    };
     list_taken(table, verdict.geometry, verdict.format0s, free_tracks, out)
 }

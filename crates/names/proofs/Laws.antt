@@ -8,11 +8,9 @@ use native.Mathlib.Nat.{lt_of_not-le, mul-le-mul, sub-zero}
 use native.Mathlib.Decide.{dec_le, ℕ_discrete}
 use native.Mathlib.Omega.{arith}
 use native.Mathlib.Numerals.{add-one}
-use lib.Bits.{bit_xor}
 use lib.Dec.{eqb}
 use lib.ListN.{length, get_or, take, set, drop, drop_of_length-le, length-set}
-use Rattle.names.specs.declared.Found.{Found}
-use Rattle.names.specs.declared.Found.TheVariants.{Slot, Nothing}
+use Rattle.std.specs.Prelude.{Option, Some, None}
 use lib.Seq.{get_or-set_other, get_or-take, get_or-set_same, drop-cons}
 use borrow.Author.Tests.{eq-eqb, ne_eqb}
 use Rattle.model.specs.Basics.{same}
@@ -21,9 +19,8 @@ use Rattle.bitmap.specs.Map.{Given, free_bit, is_free}
 use Rattle.bitmap.proofs.Bits.{le_or_lt}
 use Rattle.bitmap.proofs.Walk.{is_free_lem}
 use Rattle.dscb.specs.Records.{slot_bytes}
-use Rattle.rows.specs.Words.{word8}
 use Rattle.rows.proofs.Rows.{and_false, and_true}
-use Rattle.names.specs.Find.{Answer, Entered, Seen, Tagged, answer_of, distinct, distinct_from, find_slot, first_named, has_tag, is_label, is_named, in_slot, is_nothing, keyed, mixed, name_of, new_at, not_found, tag_of}
+use Rattle.names.specs.Find.{Answer, Entered, Seen, Tagged, answer_of, distinct, distinct_from, find_slot, first_named, has_tag, is_label, is_named, in_slot, is_nothing, name_of, new_at, not_found, tag_of}
 
 -- ---- a record: its name first
 
@@ -102,12 +99,12 @@ unfolding find_slot
 nothing_at t name n e j u = none_named t name 0 n e j (omega arith) (omega arith)
 
 -- one of the two
-some_answer : (t name : List ℕ) (k n : ℕ) → (f : Found) × (answer_of f ≡ first_named t name k n)
+some_answer : (t name : List ℕ) (k n : ℕ) → (f : Option ℕ) × (answer_of f ≡ first_named t name k n)
 unfolding first_named
-some_answer t name k zero = (Nothing, refl)
-some_answer t name k (suc n) = by (is_named (slot_bytes t k) name) (λ p. (Slot k, rw p)) (λ p. let i = some_answer t name (suc k) n in (i.0, rw p i.1))
+some_answer t name k zero = (None, refl)
+some_answer t name k (suc n) = by (is_named (slot_bytes t k) name) (λ p. (Some k, rw p)) (λ p. let i = some_answer t name (suc k) n in (i.0, rw p i.1))
 
-pub answered : (t name : List ℕ) (n : ℕ) → (f : Found) × (answer_of f ≡ find_slot t name n)
+pub answered : (t name : List ℕ) (n : ℕ) → (f : Option ℕ) × (answer_of f ≡ find_slot t name n)
 unfolding find_slot
 answered t name n = some_answer t name 0 n
 
@@ -145,9 +142,9 @@ named_label r name e =
 pub no_tag : (t tags : List ℕ) (k : ℕ) → length tags ≡ k → Tagged t k tags → (name : List ℕ) → has_tag tags (tag_of name) ≡ false → find_slot t name k ≡ not_found
 no_tag t tags k l g name e = go (answered t name k).0 (answered t name k).1
   where
-    go : (f : Found) → answer_of f ≡ find_slot t name k → find_slot t name k ≡ not_found
-    go Nothing q = sym q
-    go (Slot j) q =
+    go : (f : Option ℕ) → answer_of f ≡ find_slot t name k → find_slot t name k ≡ not_found
+    go None q = sym q
+    go (Some j) q =
         let a = found_at t name k j (sym q) in
         let b = named_label (slot_bytes t j) name a.here in
         let u = a.high in
@@ -214,20 +211,6 @@ halves_fit x h =
     = mul-le-mul {n₁ = x % 4294967296} {n₂ = 4294967295} {m₂ = 4294967295} (omega arith) (omega arith) in
     omega arith
 
-pub keyed_is : (s : List ℕ) (i key x : ℕ) → x ≡ word8 s i → (bit_xor x key % 4294967296) * (bit_xor x key / 4294967296) ≡ keyed s i key
-unfolding keyed
-keyed_is s i key x e = rw e
-
-module _ (s : List ℕ) (a b c d e f : ℕ) (ea : a ≡ keyed s 0 0x243F6A8885A308D3) (eb : b ≡ keyed s 8 0x13198A2E03707344) (ec : c ≡ keyed s 16 0xA4093822299F31D0)
-    (ed : d ≡ keyed s 24 0x082EFA98EC4E6C89) (ee : e ≡ keyed s 32 0x452821E638D01377) (ef : f ≡ keyed s 36 0xBE5466CF34E90C6C) where
-  pub mixed_is : bit_xor (bit_xor (bit_xor a b) (bit_xor c d)) (bit_xor e f) ≡ mixed s
-  unfolding mixed
-  mixed_is = rw (ea, eb, ec, ed, ee, ef)
-
-pub tag_value : (name : List ℕ) (x : ℕ) → x ≡ mixed name → bit_xor x (x / 4294967296) % 4294967296 * 2654435769 / 65536 % 65536 ≡ tag_of name
-unfolding tag_of
-tag_value name x e = ap (λ (y : ℕ). bit_xor y (y / 4294967296) % 4294967296 * 2654435769 / 65536 % 65536) e
-
 pub tag_first : (t tags : List ℕ) (k : ℕ) → Tagged t k tags → Tagged t k (take k tags)
 tag_first t tags k g j u e = get_or-take k tags j 0 u ∙ g j u e
 
@@ -237,9 +220,9 @@ tag_first t tags k g j u e = get_or-take k tags j 0 u ∙ g j u e
 pub no_mark : (t seen : List ℕ) (k x : ℕ) → Seen t k seen → (name : List ℕ) → x ≡ tag_of name → is_free seen (x % 4096) ≡ false → find_slot t name k ≡ not_found
 no_mark t seen k x g name q e = go (answered t name k).0 (answered t name k).1
   where
-    go : (f : Found) → answer_of f ≡ find_slot t name k → find_slot t name k ≡ not_found
-    go Nothing p = sym p
-    go (Slot j) p =
+    go : (f : Option ℕ) → answer_of f ≡ find_slot t name k → find_slot t name k ≡ not_found
+    go None p = sym p
+    go (Some j) p =
         let a = found_at t name k j (sym p) in
         let b = named_label (slot_bytes t j) name a.here in
         let u = a.high in

@@ -5,8 +5,7 @@ use mathlib.Core.Bool.{true, false}
 use mathlib.Core.List.{List, [], ◌∷◌}
 use Prim.Native.Nat.{ℕ, zero, suc, ◌+◌, ◌≤◌, ◌<◌}
 use native.Mathlib.Omega.{arith}
-use Rattle.names.specs.declared.Found.{Found}
-use Rattle.names.specs.declared.Found.TheVariants.{Slot, Nothing}
+use Rattle.std.specs.Prelude.{Option, Some, None}
 use native.Mathlib.Decide.{dec_le}
 use native.Mathlib.Nat.{le_refl, lt_of_not-le}
 use lib.ListN.{length, get_or}
@@ -104,17 +103,17 @@ distinct→ t n e j k u w p q =
     false_named (slot_bytes t j) (name_of (slot_bytes t k)) p
     (go (answered t (name_of (slot_bytes t k)) k).0 (answered t (name_of (slot_bytes t k)) k).1 (sym (label_at t k q) ∙ a))
   where
-    go : (f : Found) → answer_of f ≡ find_slot t (name_of (slot_bytes t k)) k → is_nothing (find_slot t (name_of (slot_bytes t k)) k) ≡ true → is_named (slot_bytes t j) (name_of (slot_bytes t k)) ≡ false
-    go Nothing e n = nothing_at t (name_of (slot_bytes t k)) k (sym e) j u
-    go (Slot i) e n = clash n (sym (ap is_nothing e))
+    go : (f : Option ℕ) → answer_of f ≡ find_slot t (name_of (slot_bytes t k)) k → is_nothing (find_slot t (name_of (slot_bytes t k)) k) ≡ true → is_named (slot_bytes t j) (name_of (slot_bytes t k)) ≡ false
+    go None e n = nothing_at t (name_of (slot_bytes t k)) k (sym e) j u
+    go (Some i) e n = clash n (sym (ap is_nothing e))
 
 pub →distinct : (t : List ℕ) (n : ℕ) → Apart (slot_bytes t) n → distinct t n ≡ true
 unfolding distinct
 →distinct t n a = at_new t n 0 (λ k u w. new k (omega arith))
   where
-    found : (k : ℕ) → k < n → is_label (slot_bytes t k) ≡ true → (f : Found) → answer_of f ≡ find_slot t (name_of (slot_bytes t k)) k → is_nothing (find_slot t (name_of (slot_bytes t k)) k) ≡ true
-    found k w l Nothing e = sym (ap is_nothing e)
-    found k w l (Slot j) e =
+    found : (k : ℕ) → k < n → is_label (slot_bytes t k) ≡ true → (f : Option ℕ) → answer_of f ≡ find_slot t (name_of (slot_bytes t k)) k → is_nothing (find_slot t (name_of (slot_bytes t k)) k) ≡ true
+    found k w l None e = sym (ap is_nothing e)
+    found k w l (Some j) e =
         let x = found_at t (name_of (slot_bytes t k)) k j (sym e) in
         let h = x.high in
         let y = label_named (slot_bytes t j) (name_of (slot_bytes t k)) x.here in

@@ -1,8 +1,6 @@
 -- The lookup of a name in a table's slots, and that names differ, as the code goes. Assumes nothing.
-use Rattle.std.specs.Prelude.{ℕ, zero, suc, ◌+◌, ◌*◌, ◌/◌, ◌%◌, ◌<◌, Bool, true, cond, ◌&&◌, List, ◌≡◌, get_or, length, eqb}
+use Rattle.std.specs.Prelude.{ℕ, zero, suc, ◌+◌, ◌*◌, ◌/◌, ◌%◌, ◌<◌, Bool, true, cond, ◌&&◌, List, Option, Some, None, ◌≡◌, get_or, length, eqb}
 use Rattle.std.specs.Int.Bits.{bit_xor}
-use Rattle.names.specs.declared.Found.{Found}
-use Rattle.names.specs.declared.Found.TheVariants.{Slot, Nothing}
 use Rattle.model.specs.Basics.{any, part, same}
 use Rattle.bitmap.specs.Map.{free_bit}
 use Rattle.dscb.specs.Records.{slot_bytes}
@@ -33,9 +31,9 @@ abbrev pub not_found : Answer
 not_found = record { number = 5; slot = 0 }
 
 -- "A lookup answers with a slot or with nothing"
-abbrev pub answer_of : Found → Answer
-answer_of (Slot k) = in_slot k
-answer_of Nothing = not_found
+abbrev pub answer_of : Option ℕ → Answer
+answer_of (Some k) = in_slot k
+answer_of None = not_found
 
 -- the first of the n slots from k on that has the name
 unfoldable pub first_named : List ℕ → List ℕ → ℕ → ℕ → Answer

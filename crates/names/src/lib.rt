@@ -8,41 +8,30 @@ use dscb::places::*;
 use dscb::*;
 use rows::*;
 
-// A lookup's answer.
-#[derive(Clone, Copy)]
-pub enum Found {
-    Slot(usize),
-    Nothing,
-}
-
 // Whether the record is a format 1 under this name. The name is asked first: few records have it, and a processor foresees that
 // branch. It cannot foresee one on the identifier, where labels stand among other records.
 pub fn is_named(rec: &[u8], name: &[u8]) -> bool
     requires { length rec.now ≡ 140 }
     ensures { result ≡ is_named rec.now name.now }
 {
-    if rows::same(&rec[..DS1FMTID], name) {} else {
-        return false;
-    }
-    rec[DS1FMTID] == FORMAT1
+    rows::same(&rec[..DS1FMTID], name) && rec[DS1FMTID] == FORMAT1
 }
 
-// The first of the n slots that has a format 1 under this name. Its number is 0, or document 01's 5 where there is none.
-pub fn find(table: &[u8], n: usize, name: &[u8]) -> Found
+// The first of the n slots that has a format 1 under this name. `None` is document 01's 5, not found.
+pub fn find(table: &[u8], n: usize, name: &[u8]) -> Option<usize>
     requires { 140 * n ≤ length table.now }
     ensures { answer_of result ≡ find_slot table.now name.now n }
 {
-    let mut k: usize = 0;
-    while k < n {
+    for k in 0..n {
         if is_named(dscb::record_at(table, k), name) {
-            return Found::Slot(k);
+            return Some(k);
         }
-        k += 1;
     }
-    Found::Nothing
+    None
 }
 
 // The eight characters from place i on, changed by a key: the product of both halves, in which changes do not cancel but by chance.
+#[tactic(auto, unfolding(crate::specs::Find::keyed))]
 fn keyed(name: &[u8], i: usize, key: u64) -> u64
     requires { i + 7 < length name.now }
     ensures { result ≡ keyed name.now i key }
@@ -53,6 +42,7 @@ fn keyed(name: &[u8], i: usize, key: u64) -> u64
 
 // A number made of a name's 44 characters, eight by eight, the last of which overlap, each eight by a key of their own. The keys are the
 // digits of pi: no half of them is made of characters of names, so that no factor is 0.
+#[tactic(auto, unfolding(crate::specs::Find::mixed))]
 fn mixed(name: &[u8]) -> u64
     requires { length name.now ≡ 44 }
     ensures { result ≡ mixed name.now }
@@ -65,6 +55,7 @@ fn mixed(name: &[u8]) -> u64
 
 // 16 bits that differ for most names that do, so that most are told apart by one comparison: the number's halves one upon the other,
 // times a prime, and the middle of that.
+#[tactic(auto, unfolding(crate::specs::Find::tag_of))]
 fn tag(name: &[u8]) -> u16
     requires { length name.now ≡ 44 }
     ensures { result ≡ tag_of name.now }
@@ -79,46 +70,34 @@ fn has_tag(tags: &[u16], t: u16) -> bool
     ensures { result ≡ has_tag tags.now t }
 {
     let mut hit = false;
-    let mut i = 0;
-    while i < tags.len() {
-        if tags[i] == t {
+    for x in tags {
+        if *x == t {
             hit = true;
         }
-        i += 1;
     }
     hit
 }
 
-// Whether no slot before k has this name, whose tag is t: only those with the tag are looked at.
-fn is_other(table: &[u8], k: usize, tags: &[u16], t: u16, name: &[u8]) -> bool
-    requires { (140 * k ≤ length table.now) × (length tags.now ≡ k) × Tagged table.now k tags.now × (t ≡ tag_of name.now) }
-    ensures { result ≡ is_nothing (find_slot table.now name.now k) }
+// Whether no slot that has its tag here has this name, whose tag is t: only those with the tag are looked at.
+fn is_other(table: &[u8], tags: &[u16], t: u16, name: &[u8]) -> bool
+    requires { (140 * length tags.now ≤ length table.now) × Tagged table.now (length tags.now) tags.now × (t ≡ tag_of name.now) }
+    ensures { result ≡ is_nothing (find_slot table.now name.now (length tags.now)) }
 {
-    let mut j: usize = 0;
-    while j < k {
-        if tags[j] == t {
-            if is_named(dscb::record_at(table, j), name) {
-                return false;
-            }
+    for (j, x) in tags.iter().enumerate() {
+        if *x == t && is_named(dscb::record_at(table, j), name) {
+            return false;
         }
-        j += 1;
     }
     true
 }
 
-// Whether no slot before k has this name, whose tag is t; the tags of the labels before k are at hand, and a mark for each
+// Whether none of the first slots has this name, whose tag is t; the tags of their labels are at hand, and a mark for each
 // remainder of them by 4,096. The marks are bits, in a map of crate bitmap, where what is marked is called free.
-fn is_new<'a>(table: &[u8], k: usize, tags: &'a [u16], seen: &'a [u64], t: u16, name: &[u8]) -> bool
-    requires { (140 * k ≤ length table.now) × (length tags.now ≡ k) × Tagged table.now k tags.now × (t ≡ tag_of name.now) × (length seen.now ≡ 64) × Seen table.now k seen.now }
-    ensures { result ≡ is_nothing (find_slot table.now name.now k) }
+fn is_new(table: &[u8], tags: &[u16], seen: &[u64], t: u16, name: &[u8]) -> bool
+    requires { (140 * length tags.now ≤ length table.now) × Tagged table.now (length tags.now) tags.now × (t ≡ tag_of name.now) × (length seen.now ≡ 64) × Seen table.now (length tags.now) seen.now }
+    ensures { result ≡ is_nothing (find_slot table.now name.now (length tags.now)) }
 {
-    if bitmap::is_free(seen, t % 4096) {} else {
-        return true;
-    }
-    if has_tag(tags, t) {
-        return is_other(table, k, tags, t, name);
-    }
-    true
+    !bitmap::is_free(seen, t % 4096) || !has_tag(tags, t) || is_other(table, tags, t, name)
 }
 
 // Whether slot k has no label, or one with a new name; its tag joins the others then, and its mark.
@@ -132,11 +111,11 @@ pub fn enter(table: &[u8], k: usize, tags: &mut [u16], seen: &mut [u64]) -> bool
     }
     let name = &rec[..DS1FMTID];
     let t = tag(name);
-    if is_new(table, k, &tags[..k], seen, t, name) {
-        tags[k] = t;
-        let at = t % 4096;
-        bitmap::give_range(seen, at, at + 1);
-        return true;
+    if !is_new(table, &tags[..k], seen, t, name) {
+        return false;
     }
-    false
+    tags[k] = t;
+    let at = t % 4096;
+    bitmap::give_range(seen, at, at + 1);
+    true
 }

@@ -1,9 +1,11 @@
 -- What a call knows when it has opened a table. Assumes nothing.
-use Rattle.std.specs.Prelude.{◌≡◌, ℕ, zero, suc, ◌*◌, ◌≤◌, ◌<◌, Bool, true, cond, ◌&&◌, List, T, length}
+use Rattle.std.specs.Prelude.{◌≡◌, ℕ, zero, suc, ◌*◌, ◌≤◌, ◌<◌, Bool, true, cond, ◌&&◌, List, T, length, Result, Ok, Err}
 use Rattle.std.proofs.Math.Option.{Option, none, some}
-use Rattle.open_table.specs.declared.Opening.{Opening}
+use Rattle.check_table.specs.declared.Verdict.{Verdict}
 use Rattle.open_table.specs.declared.SetOpening.{SetOpening}
-use Rattle.model.specs.Model.{Geometry, Label, Volume, format0s, label, slots, tracks}
+use Rattle.refusals.specs.Numbers.{number, number_of}
+use Rattle.refusals.specs.declared.Refusal.{Refusal}
+use Rattle.model.specs.Model.{Geometry, Label, Volume, format0s, slots, tracks}
 use Rattle.rules.specs.Layout.{encode, format1, format3}
 use Rattle.rules.specs.Reading.{chop, read, read_geometry}
 use Rattle.rules.specs.Slots.{found}
@@ -32,20 +34,20 @@ open_number t ok good = first_refusal (cond (good_length t && ok) (table_refusal
 
 -- ---- what the functions tell
 
-pub record Opened (t : List ℕ) (ok good : Bool) (o : Opening) : Type 0 where
-  pub number : o.refusal ≡ open_number t ok good
-  pub tells : o.refusal ≡ 0 → TellsVolume (read t) (geometry_of o.geometry) o.format0s o.highest
+-- nothing refuses it so far, and o tells of the volume
+pub record OpenedAs (t : List ℕ) (ok good : Bool) (o : Verdict) : Type 0 where
+  pub none : open_number t ok good ≡ 0
+  pub tells : TellsVolume (read t) (geometry_of o.geometry) o.format0s o.highest
+
+pub record Opened (t : List ℕ) (ok good : Bool) (r : Result Verdict Refusal) : Type 0 where
+  pub refused : (e : Refusal) → r ≡ Err e → number e ≡ open_number t ok good
+  pub opened : (o : Verdict) → r ≡ Ok o → OpenedAs t ok good o
 
 -- the maps m of free tracks and s of free slots show what the volume holds, where nothing refuses the call
 pub record Mapped (t m m' s s' : List ℕ) (refusal : ℕ) : Type 0 where
   pub long_map : length m' ≡ length m
   pub long_slots : length s' ≡ length s
   pub shown : refusal ≡ 0 → Shown (read t) m' s'
-
--- a name more, which obeys the rule or not
-pub record AndNamed (o : Opening) (good : Bool) (r : Opening) : Type 0 where
-  pub number : r.refusal ≡ first_refusal o.refusal (name_refusal good)
-  pub same : r.refusal ≡ 0 → r ≡ o
 
 -- ---- what a call knows then
 
@@ -59,7 +61,7 @@ pub record Ready (t : List ℕ) (v : Volume) : Type 0 where
   pub slot0 : read_geometry (slot_bytes t 0) ≡ v.geometry
 
 -- NOTHING HAS REFUSED the call: table t is taken, the opening's numbers are those of the volume, lengths and names are right
-pub record Known (t : List ℕ) (ok good : Bool) (o : Opening) : Type 0 where
+pub record Known (t : List ℕ) (ok good : Bool) (o : Verdict) : Type 0 where
   pub is_taken : T (taken t)
   pub ready : Ready t (read t)
   pub geometry_is : geometry_of o.geometry ≡ (read t).geometry
@@ -101,14 +103,15 @@ found_slot (some l) = in_slot l.slot
 
 -- ---- a call on one data set
 
--- the table was opened, as `opening` tells, and then the name was looked up
-pub record OpenedSet (t : List ℕ) (ok good : Bool) (name m m' s s' : List ℕ) (r : SetOpening) : Type 0 where
-  pub opening : Opening
+-- The table was opened and the name looked up: refused where it could not be opened, or with 5 where no data set has the name; or the
+-- data set is in the slot that is told.
+pub record OpenedSet (t : List ℕ) (ok good : Bool) (name m m' s s' : List ℕ) (r : Result SetOpening Refusal) : Type 0 where
+  pub opening : Result Verdict Refusal
   pub opened : Opened t ok good opening
-  pub mapped : Mapped t m m' s s' opening.refusal
-  pub early : (opening.refusal ≡ 0 → ⊥) → r.refusal ≡ opening.refusal
-  pub absent : opening.refusal ≡ 0 → (r.refusal ≡ 0 → ⊥) → (r.refusal ≡ 5) × (not_found ≡ find_slot t name (slots (geometry_of opening.geometry)))
-  pub there : r.refusal ≡ 0 → (opening.refusal ≡ 0) × (r.geometry ≡ opening.geometry) × (in_slot r.slot ≡ find_slot t name (slots (geometry_of opening.geometry)))
+  pub mapped : Mapped t m m' s s' (number_of opening)
+  pub early : (e : Refusal) → opening ≡ Err e → r ≡ Err e
+  pub absent : (o : Verdict) → opening ≡ Ok o → (e : Refusal) → r ≡ Err e → (number e ≡ 5) × (not_found ≡ find_slot t name (slots (geometry_of o.geometry)))
+  pub there : (x : SetOpening) → r ≡ Ok x → (o : Verdict) × (opening ≡ Ok o) × (x.geometry ≡ o.geometry) × (in_slot x.slot ≡ find_slot t name (slots (geometry_of o.geometry)))
 
 -- NOTHING HAS REFUSED the call: the data set of this name is in the slot that is told, in a table of the geometry that is told
 pub record KnownAt (t name m s : List ℕ) (r : SetOpening) : Type 0 where

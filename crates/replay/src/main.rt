@@ -2,28 +2,15 @@
 // make: the table that the last record left is written there. START is a file with the table before the first record.
 #![tactic(auto)]
 
-ghost use Rattle.std.specs.Prelude.{◌≡◌, ◌<◌, ◌≤◌, length};
+ghost use Rattle.std.specs.Prelude.{◌≡◌, ◌<◌, IfOk, IfSome, length};
 
+use full_read::read_full;
 use std::env::FillError;
 use std::fmt::InlineText;
 use std::fs::{File, OpenOptions};
 use std::io::{Read, Write};
 use std::rt::{Env, Files};
 use std::{io, str};
-
-// Reads until buf is full, the input ends or a read fails; answers how many bytes came.
-fn read_full(input: &mut impl Read, buf: &mut [u8]) -> usize
-    ensures { result ≤ length buf.new }
-{
-    let mut done = 0;
-    while done < buf.len() {
-        match input.read(&mut buf[done..]) {
-            Ok(0) | Err(_) => break,
-            Ok(n) => done += n,
-        }
-    }
-    done
-}
 
 // Says on standard error why nothing is played. Where that fails too, nobody can be told.
 fn complain(rt: &HostRuntime, why: &str) {
@@ -45,40 +32,38 @@ fn fail(rt: &HostRuntime, what: &str, error: io::Error) {
     let _ = eprintln!(rt; "{what}: {why}");
 }
 
-// Reads a record, plays it and prints its line; answers whether to go on. A record cut short at the end is left out. `lent` is how
-// many bytes of the table the last record lends; 0 where its line could not be printed, since the run then ends too early.
-fn play_one(rt: &HostRuntime, input: &mut impl Read, table: &mut [u8], lent: &mut usize) -> bool
-    requires { (length table.old ≡ 65536) × (lent.old < 65536) }
-    ensures { lent.new < 65536 }
+// Reads a record, plays it and prints its line; answers how many bytes of the table it lends, none where the input ends. A record
+// cut short at the end is left out.
+fn play_one(rt: &HostRuntime, input: &mut impl Read, table: &mut [u8]) -> io::Result<Option<usize>>
+    requires { length table.old ≡ 65536 }
+    ensures { IfOk result (λ lent. IfSome lent (λ n. n < 65536)) }
 {
     let mut asked = [0u8; 136];
     let mut line = [0u8; 73];
-    let n = read_full(input, &mut asked);
-    if n < 136 {
-        return false;
+    if read_full(input, &mut asked) < asked.len() {
+        return Ok(None);
     }
     replay_step::step(&asked, table, &mut line);
-    *lent = replay_record::table_lent(&asked);
-    match rt.write_all(&line) {
-        Ok(()) => true,
-        Err(e) => {
-            fail(rt, "replay: a line", e);
-            *lent = 0;
-            false
-        }
-    }
+    rt.write_all(&line)?;
+    Ok(Some(replay_record::table_lent(&asked)))
 }
 
-// Plays the whole input; answers how many bytes of the table the last record lent, 0 where there is none. A proved loop has to
-// end, and nothing says that the input does: so there is a number of turns, one that no run uses up.
+// Plays the whole input; answers how many bytes of the table the last record lent: 0 where there is none, and where a line could
+// not be printed, since the run then ends too early. A proved loop has to end, and nothing says that the input does: so there is
+// a number of turns, one that no run uses up.
 fn play_all(rt: &HostRuntime, input: &mut impl Read, table: &mut [u8]) -> usize
     requires { length table.old ≡ 65536 }
     ensures { result < 65536 }
 {
     let mut lent = 0;
     for _ in 0..u64::MAX {
-        if !play_one(rt, input, table, &mut lent) {
-            break;
+        match play_one(rt, input, table) {
+            Ok(Some(n)) => lent = n,
+            Ok(None) => break,
+            Err(e) => {
+                fail(rt, "replay: a line", e);
+                return 0;
+            }
         }
     }
     lent
@@ -86,11 +71,7 @@ fn play_all(rt: &HostRuntime, input: &mut impl Read, table: &mut [u8]) -> usize
 
 // Whether there is an argument i.
 fn has_word(rt: &HostRuntime, i: usize) -> bool {
-    match rt.arg(i, &mut []) {
-        Ok(_) => true,
-        Err(FillError::TooLong) => true,
-        Err(FillError::NotPresent) => false,
-    }
+    !matches!(rt.arg(i, &mut []), Err(FillError::NotPresent))
 }
 
 // Puts argument i, the path of a file, into buf; none, with a complaint, where it is not UTF-8: std takes no other. One that does

@@ -4,22 +4,17 @@ use mathlib.Core.List.{List, [], ◌∷◌, ◌++◌, append-nil}
 use Prim.Native.Nat.{ℕ, suc, ◌+◌, ◌-◌, ◌*◌, ◌/◌, ◌%◌, ◌≤◌, ◌<◌, min}
 use native.Mathlib.Omega.{arith}
 use native.Mathlib.Numerals.{add-one}
-use borrow.Author.Tests.{lt-ltb, le-ltb}
-use Rattle.model.specs.Basics.{part}
 use lib.ListN.{length, take, drop, get_or, length-drop, length-append, drop_of_length-le}
 use lib.Seq.{drop-cons, drop-drop, length-take-le, take-suc, take_all}
 use borrow.Rule.Slice.PartMut.{mid_of, put_mid}
 use Rattle.rows.specs.Text.{Written}
 use Rattle.rows.proofs.Text.{then, write_none, written_whole}
 use Rattle.dscb.proofs.Records.{copied_in}
+use Rattle.std.specs.Int.{w32, to_be_bytes}
 use Rattle.replay_record.specs.Asked.{over, over_at}
-use Rattle.replay_record.specs.Line.{be4, digest, digest_from, hex, hex_byte, hex_digit, line_of, two_digits}
+use Rattle.replay_record.specs.Line.{be4, digest, digest_from, hex, hex_byte, line_of, two_digits}
 
 -- ---- writing
-
-pub two_hexes : {at p r : ℕ} {o₀ o₁ o₂ : List ℕ} (v a b : ℕ) → a ≡ hex_digit (v / 16) → b ≡ hex_digit (v % 16) → Written at (a ∷ []) 1 o₀ o₁ p
-    → Written p (b ∷ []) 1 o₁ o₂ r → Written at (hex_byte v) 2 o₀ o₂ r
-two_hexes {at} {p} {r} {o₀} {o₁} {o₂} v a b e f x y = subst (λ (s : List ℕ). Written at s 2 o₀ o₂ r) (ap₂ (λ (m n : ℕ). m ∷ n ∷ []) e f) (then x y)
 
 hex_append : (xs ys : List ℕ) → hex (xs ++ ys) ≡ hex xs ++ hex ys
 unfolding hex
@@ -42,18 +37,14 @@ hex_next {at} {p} {r} {o₀} {o₁} {o₂} s i h a b =
     let g : 2 * i + 2 ≡ 2 * (i + 1) = omega arith in
     subst (λ (n : ℕ). Written at (hex (take (i + 1) s)) n o₀ o₂ r) g (subst (λ (t : List ℕ). Written at t (2 * i + 2) o₀ o₂ r) f (then a b))
 
-pub hex_done : {at r : ℕ} {o₀ o₁ : List ℕ} (s : List ℕ) (i : ℕ) → i ≤ length s → length s ≤ i → Written at (hex (take i s)) (2 * i) o₀ o₁ r
-    → Written at (hex s) (2 * length s) o₀ o₁ r
-hex_done {at} {r} {o₀} {o₁} s i h k a =
-    let e : i ≡ length s = omega arith in
-    let w : Written at (hex (take (length s) s)) (2 * length s) o₀ o₁ r = subst (λ (n : ℕ). Written at (hex (take n s)) (2 * n) o₀ o₁ r) e a in
-    subst (λ (t : List ℕ). Written at (hex t) (2 * length s) o₀ o₁ r) (take_all (length s) s (omega arith)) w
+bytes_be4 : (v : ℕ) → v < 4294967296 → to_be_bytes w32 v ≡ be4 v
+bytes_be4 v h = let e : v / 16777216 % 256 ≡ v / 16777216 = omega arith in rw e refl
 
-pub four_hexes : {at p a b c r : ℕ} {o₀ o₁ o₂ o₃ o₄ o₅ : List ℕ} (v : ℕ) → Written at (0x20 ∷ []) 1 o₀ o₁ p → Written p (hex_byte (v / 16777216)) 2 o₁ o₂ a
-    → Written a (hex_byte (v / 65536 % 256)) 2 o₂ o₃ b → Written b (hex_byte (v / 256 % 256)) 2 o₃ o₄ c → Written c (hex_byte (v % 256)) 2 o₄ o₅ r
-    → Written at (0x20 ∷ hex (be4 v)) 9 o₀ o₅ r
-unfolding hex
-four_hexes v p a b c d = then p (then a (then b (then c d)))
+pub four_hexes : {at p r : ℕ} {o₀ o₁ o₂ b : List ℕ} (v : ℕ) → v < 4294967296 → Written at (0x20 ∷ []) 1 o₀ o₁ p → b ≡ to_be_bytes w32 v
+    → Written p (hex b) (2 * length b) o₁ o₂ r → Written at (0x20 ∷ hex (be4 v)) 9 o₀ o₂ r
+four_hexes {at} {p} {r} {o₀} {o₁} {o₂} {b} v h w e x =
+    let y : Written p (hex (be4 v)) 8 o₁ o₂ r = subst (λ (t : List ℕ). Written p (hex t) (2 * length t) o₁ o₂ r) (e ∙ bytes_be4 v h) x in
+    then w y
 
 hex_long : (s : List ℕ) → length (hex s) ≡ 2 * length s
 unfolding hex
@@ -125,17 +116,3 @@ digest_done s i a b h = rw (drop_of_length-le s {i = i} h)
 pub digest_start : (s : List ℕ) → digest s ≡ digest_from 1 0 (drop 0 s)
 unfolding digest
 digest_start s = refl
-
--- ---- lengths, and a part cut to a length
-
-pub capped : (x y m r : ℕ) → x ≡ y → r ≡ min x m → (r ≡ min y m) × (r ≤ m)
-capped x y m r e h = (omega arith, omega arith)
-
-pub part_capped : (s : List ℕ) (i x y m r : ℕ) → x ≡ y → r ≡ min x m → take (i + r - i) (drop i s) ≡ part i (min y m) s
-part_capped s i x y m r e h = let k : i + r - i ≡ min y m = omega arith in rw k
-
-pub digit_low : (v : ℕ) → v < 10 → 0x30 + v ≡ hex_digit v
-digit_low v h = rw (lt-ltb v 10 h)
-
-pub digit_high : (v : ℕ) → 10 ≤ v → 0x37 + v ≡ hex_digit v
-digit_high v h = rw (le-ltb v 10 h)

@@ -1,7 +1,8 @@
 // Recorded calls (docs/REPLAY.md): the fields of a record, the digest of a buffer, and the line that is printed.
 #![tactic(auto)]
 
-ghost use Rattle.std.specs.Prelude.{◌≡◌, ◌+◌, ◌*◌, ◌≤◌, ◌<◌, ◌∷◌, length};
+ghost use Rattle.std.specs.Prelude.{◌≡◌, ◌+◌, ◌*◌, ◌≤◌, ◌<◌, ◌∷◌, get_or, length, min};
+ghost use Rattle.model.specs.Basics.{part};
 ghost use Rattle.rows.specs.Text.{Written};
 ghost use Rattle.replay_record.specs.Line.{be4, digest, hex, hex_byte, hex_digit, line_of, two_digits};
 ghost use Rattle.replay_record.specs.Asked.{answer_lent, bytes_of, date_asked, get4, labels_lent, name_asked, other_of, over_at, table_lent};
@@ -13,69 +14,79 @@ pub fn four(s: &[u8], i: usize) -> u32
     requires { i + 3 < length s.now }
     ensures { result ≡ get4 s.now i }
 {
-    let hi = rows::wide16(rows::two(s, i));
-    let lo = rows::wide16(rows::two(s, i + 2));
-    hi * 65536 + lo
+    u32::from_be_bytes([s[i], s[i + 1], s[i + 2], s[i + 3]])
 }
 
 // How many bytes of the answer buffer are lent.
+#[tactic(auto, unfolding(crate::specs::Asked::answer_lent))]
 pub fn answer_lent(asked: &[u8]) -> usize
     requires { length asked.now ≡ 136 }
     ensures { (result ≡ answer_lent asked.now) × (result ≤ 32) }
 {
-    rows::at_most(rows::wide(asked[3]) as usize, 32)
+    usize::from(asked[3]).min(32)
 }
 
 // How many bytes of the labels buffer are lent.
+#[tactic(auto, unfolding(crate::specs::Asked::labels_lent))]
 pub fn labels_lent(asked: &[u8]) -> usize
     requires { length asked.now ≡ 136 }
     ensures { (result ≡ labels_lent asked.now) × (result ≤ 288) }
 {
-    rows::at_most(rows::two(asked, 4) as usize, 288)
+    usize::from(rows::two(asked, 4)).min(288)
 }
 
 // How many bytes of the table buffer are lent.
+#[tactic(auto, unfolding(crate::specs::Asked::table_lent))]
 pub fn table_lent(asked: &[u8]) -> usize
     requires { length asked.now ≡ 136 }
     ensures { (result ≡ table_lent asked.now) × (result < 65536) }
 {
-    rows::two(asked, 6) as usize
+    usize::from(rows::two(asked, 6))
+}
+
+// The lent bytes from a place on: as many as byte `counted` tells, but no more than are meant.
+fn lent_part(asked: &[u8], at: usize, counted: usize, most: usize) -> &[u8]
+    requires { (counted < length asked.now) × (at + most ≤ length asked.now) }
+    ensures { result.now ≡ part at (min (get_or asked.now counted 0) most) asked.now }
+{
+    let n = usize::from(asked[counted]).min(most);
+    &asked[at..at + n]
 }
 
 // The lent bytes of the name.
+#[tactic(auto, unfolding(crate::specs::Asked::name_asked))]
 pub fn name_of(asked: &[u8]) -> &[u8]
     requires { length asked.now ≡ 136 }
     ensures { result.now ≡ name_asked asked.now }
 {
-    let e = 28 + rows::at_most(rows::wide(asked[1]) as usize, 46);
-    &asked[28..e]
+    lent_part(asked, 28, 1, 46)
 }
 
 // The lent bytes of the second name or the attributes.
+#[tactic(auto, unfolding(crate::specs::Asked::other_of))]
 pub fn other_of(asked: &[u8]) -> &[u8]
     requires { length asked.now ≡ 136 }
     ensures { result.now ≡ other_of asked.now }
 {
-    let e = 74 + rows::at_most(rows::wide(asked[2]) as usize, 54);
-    &asked[74..e]
+    lent_part(asked, 74, 2, 54)
 }
 
 // The lent bytes of the date.
+#[tactic(auto, unfolding(crate::specs::Asked::date_asked))]
 pub fn date_of(asked: &[u8]) -> &[u8]
     requires { length asked.now ≡ 136 }
     ensures { result.now ≡ date_asked asked.now }
 {
-    let e = 129 + rows::at_most(rows::wide(asked[128]) as usize, 7);
-    &asked[129..e]
+    lent_part(asked, 129, 128, 7)
 }
 
 // The bytes that are put.
+#[tactic(auto, unfolding(crate::specs::Asked::bytes_of))]
 pub fn bytes_of(asked: &[u8]) -> &[u8]
     requires { length asked.now ≡ 136 }
     ensures { result.now ≡ bytes_of asked.now }
 {
-    let e = 28 + rows::at_most(rows::wide(asked[1]) as usize, 100);
-    &asked[28..e]
+    lent_part(asked, 28, 1, 100)
 }
 
 // Puts bytes from a place on, as far as there are places.
@@ -83,7 +94,7 @@ pub fn put_over(table: &mut [u8], place: usize, s: &[u8])
     ensures { table.new ≡ over_at place s.now table.old }
 {
     if place < table.len() {
-        let n = rows::at_most(s.len(), table.len() - place);
+        let n = s.len().min(table.len() - place);
         rows::copy(&s[..n], &mut table[place..]);
     }
 }
@@ -96,11 +107,9 @@ pub fn digest(s: &[u8]) -> u32
 {
     let mut a: u32 = 1;
     let mut b: u32 = 0;
-    let mut i = 0;
-    while i < s.len() {
-        a = (a + rows::wide(s[i])) % 65521;
+    for &x in s {
+        a = (a + u32::from(x)) % 65521;
         b = (b + a) % 65521;
-        i += 1;
     }
     b * 65536 + a
 }
@@ -108,19 +117,19 @@ pub fn digest(s: &[u8]) -> u32
 // ---- parts of the line; each function gives back the place behind what it wrote
 
 // The hexadecimal digit of a number.
-fn digit(v: u32) -> u8
+fn digit(v: u8) -> u8
     requires { v < 16 }
     ensures { result ≡ hex_digit v }
 {
-    if v < 10 {
-        return (0x30 + v) as u8;
+    match v {
+        0..=9 => b'0' + v,
+        _ => b'A' + (v - 10),
     }
-    (0x37 + v) as u8
 }
 
 // Writes a byte in hexadecimal.
-fn put_hex(out: &mut [u8], at: usize, v: u32) -> usize
-    requires { (at + 2 ≤ length out.old) × (v < 256) }
+fn put_hex(out: &mut [u8], at: usize, v: u8) -> usize
+    requires { at + 2 ≤ length out.old }
     ensures { Written at (hex_byte v) 2 out.old out.new result }
 {
     let p = rows::put_byte(out, at, digit(v / 16));
@@ -143,10 +152,8 @@ fn put_hexes(out: &mut [u8], at: usize, s: &[u8]) -> usize
     ensures { Written at (hex s.now) (2 * length s.now) out.old out.new result }
 {
     let mut p = at;
-    let mut i = 0;
-    while i < s.len() {
-        p = put_hex(out, p, rows::wide(s[i]));
-        i += 1;
+    for &x in s {
+        p = put_hex(out, p, x);
     }
     p
 }
@@ -157,10 +164,7 @@ fn put_four(out: &mut [u8], at: usize, v: u32) -> usize
     ensures { Written at (0x20 ∷ hex (be4 v)) 9 out.old out.new result }
 {
     let p = rows::put_byte(out, at, b' ');
-    let a = put_hex(out, p, v / 16777216);
-    let b = put_hex(out, a, v / 65536 % 256);
-    let c = put_hex(out, b, v / 256 % 256);
-    put_hex(out, c, v % 256)
+    put_hexes(out, p, &v.to_be_bytes())
 }
 
 // Writes the line of a record.
@@ -168,7 +172,7 @@ pub fn put_line(out: &mut [u8], op: u8, res: u32, answer: &[u8], table: u32, lab
     requires { (length out.old ≡ 73) × (length answer.now ≡ 24) }
     ensures { out.new ≡ line_of op res answer.now table labels }
 {
-    let a = put_hex(out, 0, rows::wide(op));
+    let a = put_hex(out, 0, op);
     let b = put_result(out, a, res);
     let c = rows::put_byte(out, b, b' ');
     let d = put_hexes(out, c, answer);

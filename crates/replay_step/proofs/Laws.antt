@@ -3,19 +3,22 @@ use mathlib.Core.Path.{◌≡◌, refl, sym, ap, ap₂, ◌∙◌}
 use mathlib.Core.List.{List, [], ◌++◌}
 use Prim.Native.Nat.{ℕ, ◌+◌, ◌≤◌}
 use native.Mathlib.Omega.{arith}
-use borrow.Author.Tests.{ne_eqb}
-use lib.Dec.{leb, leb→le}
-use mathlib.Core.Bool.{true}
+use borrow.Author.Tests.{le-leb, ne_eqb}
+use lib.Dec.{eqb, leb, leb→le}
+use mathlib.Core.Bool.{Bool, true, false, ◌&&◌, true≢false}
 use Rattle.model.proofs.Lists.{and_l, and_r, by, true_is}
 use lib.ListN.{length, take, drop, get_or, take-append-drop}
 use lib.Seq.{length-take-le}
-use Rattle.rules.specs.Calls.{Call, DateCall, allocate, date_to_packed, date_to_stored, extend, lspace, obtain, preview, release, rename, request, scratch}
+use Rattle.rules.specs.Calls.{Call, DateCall, allocate, obtain, request, scratch}
 use Rattle.rules.specs.Promises.{ConvertsDate, geometry}
 use Rattle.rules.specs.Entries.{Lent, Result, convert_date, initialise, lent, perform, result_of}
 use Rattle.rules.proofs.DateCalls.{beside_any_table}
-use Rattle.replay_record.specs.Asked.{answer_lent, bytes_of, date_asked, get4, labels_lent, name_asked, other_of, over_at, table_lent}
+use Rattle.replay_record.specs.Asked.{answer_lent, bytes_of, get4, labels_lent, name_asked, over_at, table_lent}
 use Rattle.replay_record.specs.Line.{digest, line_of}
-use Rattle.replay_step.specs.Play.{Does, Loads, Tells, both_lent, called, play_done, fresh_answer, fresh_labels, initialised, is_date, is_preview, later_op, lent_of, line_for, loaded, obtained, operated, played, preview_op, reading_op, request_of, scratch_of, told, whole_table}
+use Rattle.replay_step.specs.declared.Operation.{Operation}
+use Rattle.replay_step.specs.Operations.{Unused, number_of}
+use Rattle.model.specs.Basics.{within}
+use Rattle.replay_step.specs.Play.{Does, Loads, Tells, both_lent, called, play_done, fresh_answer, fresh_labels, initialised, is_date, later_op, lent_of, line_for, loaded, obtained, operated, played, preview_op, reading_op, told, whole_table}
 
 -- whatever call was made with the first n bytes of the table and k of the answer
 put_back : {r : ℕ} {t' a' : List ℕ} {p : Result} (asked t a l : List ℕ) (n k : ℕ) → n ≡ table_lent asked → k ≡ answer_lent asked
@@ -76,98 +79,35 @@ initialises {r} {t'} {a'} asked t a n k c h d s v e f g₁ g₂ g₃ g₄ g₅ w
 pub beyond : (k n : ℕ) → k ≤ n → (n ≡ k → ⊥) → k + 1 ≤ n
 beyond k n h e = omega (arith, e)
 
-not_both : (n : ℕ) → n ≤ 133 → 134 ≤ n → ⊥
-not_both n a b = absurd (omega arith)
+-- a number outside a range is none of those in it
+outside : (lo hi n k : ℕ) → within lo hi n ≡ false → lo ≤ k → k ≤ hi → eqb n k ≡ false
+outside lo hi n k h a b =
+    ne_eqb n k
+    (λ q.
+    let l : leb lo n ≡ true = le-leb lo n (let x : lo ≤ n = omega arith in x) in
+    let m : leb n hi ≡ true = le-leb n hi (let x : n ≤ hi = omega arith in x) in
+    true≢false (sym (ap₂ (λ (x y : Bool). x && y) l m) ∙ h))
 
-not_twelve : (n : ℕ) → n ≤ 11 → 12 ≤ n → ⊥
-not_twelve n a b = absurd (omega arith)
+-- no date and no preview
+no_date : (n : ℕ) → within 1 11 n ≡ false → is_date n ≡ false
+no_date n h =
+    by (is_date n)
+    (λ k.
+    let l : 10 ≤ n = leb→le 10 n (and_l (leb 10 n) (leb n 11) (true_is k)) in
+    let m : n ≤ 11 = leb→le n 11 (and_r (leb 10 n) (leb n 11) (true_is k)) in
+    absurd (true≢false (sym (ap₂ (λ (x y : Bool). x && y) (le-leb 1 n (let x : 1 ≤ n = omega arith in x)) (le-leb n 11 m)) ∙ h)))
+    (λ k. k)
 
-module _ (r : List ℕ) (b : Lent) {x : Result} (op : ℕ) where
-  pub op_1 : op ≡ 1 → x ≡ initialised r b → x ≡ operated op r b
-  unfolding operated
-  op_1 e h = rw e h
+module _ (r : List ℕ) (b : Lent) {x : Result} where
+  -- what is done for operation k is done for its number
+  pub numbered : {op : Operation} {n : ℕ} (k : Operation) → number_of op ≡ n → op ≡ k → x ≡ operated (number_of k) r b → x ≡ operated n r b
+  numbered k e d h = h ∙ ap (λ (o : Operation). operated (number_of o) r b) (sym d) ∙ ap (λ (i : ℕ). operated i r b) e
 
-  pub op_2 : op ≡ 2 → x ≡ called r b (allocate (request_of r)) → x ≡ operated op r b
-  unfolding operated
-  op_2 e h = rw e h
-
-  pub op_3 : op ≡ 3 → x ≡ called r b (extend (name_asked r)) → x ≡ operated op r b
-  unfolding operated
-  op_3 e h = rw e h
-
-  pub op_4 : op ≡ 4 → x ≡ called r b (release (name_asked r) (get4 r 8)) → x ≡ operated op r b
-  unfolding operated
-  op_4 e h = rw e h
-
-  pub op_5 : op ≡ 5 → x ≡ called r b (scratch_of r) → x ≡ later_op op r b
-  unfolding later_op
-  op_5 e h = rw e h
-
-  pub op_6 : op ≡ 6 → x ≡ called r b (rename (name_asked r) (other_of r)) → x ≡ later_op op r b
-  unfolding later_op
-  op_6 e h = rw e h
-
-  pub op_7 : op ≡ 7 → x ≡ obtained r b → x ≡ later_op op r b
-  unfolding later_op
-  op_7 e h = rw e h
-
-  pub op_8 : op ≡ 8 → x ≡ called r b lspace → x ≡ later_op op r b
-  unfolding later_op
-  op_8 e h = rw e h
-
-  pub op_9 : op ≡ 9 → x ≡ loaded r b → x ≡ later_op op r b
-  unfolding later_op
-  op_9 e h = rw e h
-
-  pub op_later : (op ≡ 1 → ⊥) → (op ≡ 2 → ⊥) → (op ≡ 3 → ⊥) → (op ≡ 4 → ⊥) → x ≡ later_op op r b → x ≡ operated op r b
-  unfolding operated
-  op_later e₁ e₂ e₃ e₄ h = rw (ne_eqb op 1 e₁, ne_eqb op 2 e₂, ne_eqb op 3 e₃, ne_eqb op 4 e₄) h
-
-  pub op_reading : (op ≡ 5 → ⊥) → (op ≡ 6 → ⊥) → (op ≡ 7 → ⊥) → (op ≡ 8 → ⊥) → (op ≡ 9 → ⊥) → x ≡ reading_op op r b → x ≡ later_op op r b
-  unfolding later_op
-  op_reading e₁ e₂ e₃ e₄ e₅ h = rw (ne_eqb op 5 e₁, ne_eqb op 6 e₂, ne_eqb op 7 e₃, ne_eqb op 8 e₄, ne_eqb op 9 e₅) h
-
-  pub op_10 : op ≡ 10 → x ≡ told r b (date_to_stored (date_asked r)) → x ≡ reading_op op r b
-  unfolding reading_op
-  op_10 e h = rw e h
-
-  pub op_11 : op ≡ 11 → x ≡ told r b (date_to_packed (date_asked r)) → x ≡ reading_op op r b
-  unfolding reading_op
-  op_11 e h = rw e h
-
-  pub op_preview : (op ≡ 10 → ⊥) → (op ≡ 11 → ⊥) → x ≡ preview_op op r b → x ≡ reading_op op r b
-  unfolding reading_op
-  op_preview e₁ e₂ h = by (is_date op) (λ k. absurd (none k)) (λ k. rw k h)
-    where
-      none : is_date op ≡ true → ⊥
-      none k =
-          not_twelve op (leb→le op 11 (and_r (leb 10 op) (leb op 11) (true_is k)))
-          (beyond 11 op (beyond 10 op (leb→le 10 op (and_l (leb 10 op) (leb op 11) (true_is k))) e₁) e₂)
-
-  pub op_130 : op ≡ 130 → x ≡ called r b (preview (allocate (request_of r))) → x ≡ preview_op op r b
-  unfolding preview_op
-  op_130 e h = rw e h
-
-  pub op_131 : op ≡ 131 → x ≡ called r b (preview (extend (name_asked r))) → x ≡ preview_op op r b
-  unfolding preview_op
-  op_131 e h = rw e h
-
-  pub op_132 : op ≡ 132 → x ≡ called r b (preview (release (name_asked r) (get4 r 8))) → x ≡ preview_op op r b
-  unfolding preview_op
-  op_132 e h = rw e h
-
-  pub op_133 : op ≡ 133 → x ≡ called r b (preview (scratch_of r)) → x ≡ preview_op op r b
-  unfolding preview_op
-  op_133 e h = rw e h
-
-  pub op_other : (op ≡ 130 → ⊥) → (op ≡ 131 → ⊥) → (op ≡ 132 → ⊥) → (op ≡ 133 → ⊥) → x ≡ result_of 99 b → x ≡ preview_op op r b
-  unfolding preview_op
-  op_other e₁ e₂ e₃ e₄ h = by (is_preview op) (λ k. absurd (none k)) (λ k. rw k h)
-    where
-      none : is_preview op ≡ true → ⊥
-      none k =
-          not_both op (leb→le op 133 (and_r (leb 130 op) (leb op 133) (true_is k)))
-          (beyond 133 op (beyond 132 op (beyond 131 op (beyond 130 op (leb→le 130 op (and_l (leb 130 op) (leb op 133) (true_is k))) e₁) e₂) e₃) e₄)
+  pub unused : (n : ℕ) → Unused n → x ≡ result_of 99 b → x ≡ operated n r b
+  unfolding operated later_op reading_op preview_op
+  unused n u h =
+      let none : (k : ℕ) → 1 ≤ k → k ≤ 11 → eqb n k ≡ false = λ k. outside 1 11 n k u.0 in
+      rw (none 1 (omega arith) (omega arith), none 2 (omega arith) (omega arith), none 3 (omega arith) (omega arith), none 4 (omega arith) (omega arith), none 5 (omega arith) (omega arith), none 6 (omega arith) (omega arith), none 7 (omega arith) (omega arith), none 8 (omega arith) (omega arith), none 9 (omega arith) (omega arith), no_date n u.0, u.1) h
 
 -- ---- put, and the line
 

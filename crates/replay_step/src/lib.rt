@@ -5,7 +5,8 @@ ghost use Rattle.std.specs.Prelude.{◌≡◌, get_or, length};
 ghost use Rattle.rules.specs.Calls.{allocate, date_to_packed, date_to_stored, extend, lspace, preview, release, rename};
 ghost use Rattle.rules.specs.Entries.{lent, result_of};
 ghost use Rattle.replay_record.specs.Asked.{date_asked, get4, name_asked, other_of};
-ghost use Rattle.replay_step.specs.Play.{Does, Loads, Tells, both_lent, called, fresh_answer, fresh_labels, initialised, later_op, line_for, obtained, operated, played, preview_op, reading_op, request_of, scratch_of};
+ghost use Rattle.replay_step.specs.Play.{Does, Loads, Tells, both_lent, called, initialised, line_for, obtained, operated, played, request_of, scratch_of};
+ghost use Rattle.replay_step.specs.Operations.{Decodes};
 
 // ---- the calls, each with the lent first bytes of the buffers
 
@@ -221,84 +222,82 @@ fn do_date_to_packed(asked: &[u8], answer: &mut [u8]) -> u32
 
 // ---- by the operation
 
-// The previews: 128 more than the operation of their call.
-fn play_preview(asked: &[u8], table: &[u8], answer: &mut [u8]) -> u32
-    requires { (length asked.now ≡ 136) × (length table.now ≡ 65536) × (length answer.old ≡ 32) }
-    ensures { Does (preview_op (get_or asked.now 0 0) asked.now) table.now answer.old result table.now answer.new }
-{
-    let op = asked[0];
-    if op == 130 {
-        return do_preview_allocate(asked, table, answer);
-    }
-    if op == 131 {
-        return do_preview_extend(asked, table, answer);
-    }
-    if op == 132 {
-        return do_preview_release(asked, table, answer);
-    }
-    if op == 133 {
-        return do_preview_scratch(asked, table, answer);
-    }
-    99
+// What a record asks for. The previews have 128 more than the number of their call.
+#[derive(Clone, Copy, PartialEq, Eq)]
+enum Operation {
+    Initialise,
+    Allocate,
+    Extend,
+    Release,
+    Scratch,
+    Rename,
+    Obtain,
+    Lspace,
+    Put,
+    DateToStored,
+    DateToPacked,
+    PreviewAllocate,
+    PreviewExtend,
+    PreviewRelease,
+    PreviewScratch,
 }
 
-// The conversions of dates, and previews.
-fn play_reading(asked: &[u8], table: &[u8], answer: &mut [u8]) -> u32
-    requires { (length asked.now ≡ 136) × (length table.now ≡ 65536) × (length answer.old ≡ 32) }
-    ensures { Does (reading_op (get_or asked.now 0 0) asked.now) table.now answer.old result table.now answer.new }
-{
-    let op = asked[0];
-    if op == 10 {
-        return do_date_to_stored(asked, answer);
+// A number that no operation has.
+#[derive(Clone, Copy, PartialEq, Eq)]
+struct NoOperation;
+
+impl TryFrom<u8> for Operation {
+    type Error = NoOperation;
+
+    ghost try_from_gives = { Decodes };
+
+    fn try_from(number: u8) -> Result<Self, NoOperation> {
+        match number {
+            1 => Ok(Operation::Initialise),
+            2 => Ok(Operation::Allocate),
+            3 => Ok(Operation::Extend),
+            4 => Ok(Operation::Release),
+            5 => Ok(Operation::Scratch),
+            6 => Ok(Operation::Rename),
+            7 => Ok(Operation::Obtain),
+            8 => Ok(Operation::Lspace),
+            9 => Ok(Operation::Put),
+            10 => Ok(Operation::DateToStored),
+            11 => Ok(Operation::DateToPacked),
+            130 => Ok(Operation::PreviewAllocate),
+            131 => Ok(Operation::PreviewExtend),
+            132 => Ok(Operation::PreviewRelease),
+            133 => Ok(Operation::PreviewScratch),
+            _ => Err(NoOperation),
+        }
     }
-    if op == 11 {
-        return do_date_to_packed(asked, answer);
-    }
-    play_preview(asked, table, answer)
 }
 
-// The operations from 5 on.
-fn play_later(asked: &[u8], table: &mut [u8], answer: &mut [u8], labels: &mut [u8]) -> u32
-    requires { (length asked.now ≡ 136) × (length table.old ≡ 65536) × (length answer.old ≡ 32) × (length labels.old ≡ 288) }
-    ensures { result_of result (lent table.new answer.new labels.new) ≡ later_op (get_or asked.now 0 0) asked.now (lent table.old answer.old labels.old) }
-{
-    let op = asked[0];
-    if op == 5 {
-        return do_scratch(asked, table, answer);
-    }
-    if op == 6 {
-        return do_rename(asked, table, answer);
-    }
-    if op == 7 {
-        return do_obtain(asked, table, answer, labels);
-    }
-    if op == 8 {
-        return do_lspace(asked, table, answer);
-    }
-    if op == 9 {
-        return do_put(asked, table);
-    }
-    play_reading(asked, table, answer)
-}
-
+// Does what the record asks for; 99 where it asks for nothing that there is.
 fn play(asked: &[u8], table: &mut [u8], answer: &mut [u8], labels: &mut [u8]) -> u32
     requires { (length asked.now ≡ 136) × (length table.old ≡ 65536) × (length answer.old ≡ 32) × (length labels.old ≡ 288) }
     ensures { result_of result (lent table.new answer.new labels.new) ≡ operated (get_or asked.now 0 0) asked.now (lent table.old answer.old labels.old) }
 {
-    let op = asked[0];
-    if op == 1 {
-        return do_initialise(asked, table, answer);
+    let Ok(operation) = Operation::try_from(asked[0]) else {
+        return 99;
+    };
+    match operation {
+        Operation::Initialise => do_initialise(asked, table, answer),
+        Operation::Allocate => do_allocate(asked, table, answer),
+        Operation::Extend => do_extend(asked, table, answer),
+        Operation::Release => do_release(asked, table, answer),
+        Operation::Scratch => do_scratch(asked, table, answer),
+        Operation::Rename => do_rename(asked, table, answer),
+        Operation::Obtain => do_obtain(asked, table, answer, labels),
+        Operation::Lspace => do_lspace(asked, table, answer),
+        Operation::Put => do_put(asked, table),
+        Operation::DateToStored => do_date_to_stored(asked, answer),
+        Operation::DateToPacked => do_date_to_packed(asked, answer),
+        Operation::PreviewAllocate => do_preview_allocate(asked, table, answer),
+        Operation::PreviewExtend => do_preview_extend(asked, table, answer),
+        Operation::PreviewRelease => do_preview_release(asked, table, answer),
+        Operation::PreviewScratch => do_preview_scratch(asked, table, answer),
     }
-    if op == 2 {
-        return do_allocate(asked, table, answer);
-    }
-    if op == 3 {
-        return do_extend(asked, table, answer);
-    }
-    if op == 4 {
-        return do_release(asked, table, answer);
-    }
-    play_later(asked, table, answer, labels)
 }
 
 // ---- the line
@@ -315,27 +314,13 @@ fn report(asked: &[u8], r: u32, table: &[u8], answer: &[u8], labels: &[u8], line
     replay_record::put_line(line, asked[0], r, &answer[..24], t, l);
 }
 
-// The answer buffer before a record.
-fn fresh_answer() -> [u8; 32]
-    ensures { (result ≡ fresh_answer) × (length result ≡ 32) }
-{
-    [0xA5; 32]
-}
-
-// The labels buffer before a record.
-fn fresh_labels() -> [u8; 288]
-    ensures { (result ≡ fresh_labels) × (length result ≡ 288) }
-{
-    [0x5A; 288]
-}
-
 // Plays one record: does what it asks for with the table, and writes its line.
 pub fn step(asked: &[u8], table: &mut [u8], line: &mut [u8])
     requires { (length asked.now ≡ 136) × (length table.old ≡ 65536) × (length line.old ≡ 73) }
     ensures { both_lent line.new table.new ≡ played asked.now table.old }
 {
-    let mut answer = fresh_answer();
-    let mut labels = fresh_labels();
+    let mut answer = [0xA5; 32];
+    let mut labels = [0x5A; 288];
     let r = play(asked, table, &mut answer, &mut labels);
     report(asked, r, table, &answer, &labels, line);
 }

@@ -1,18 +1,18 @@
 -- What a caller reads off a reply: refused or not, and what the pieces are. Assumes nothing.
 use mathlib.Core.Path.{◌≡◌, refl, sym, ap, ◌∙◌, subst}
-use mathlib.Core.Bool.{Bool, true, false, ◌&&◌, cond}
+use mathlib.Core.Bool.{Bool, true, false, cond}
 use mathlib.Core.Option.{Option, none, some}
 use mathlib.Core.List.{List, [], ◌∷◌, ◌++◌, map}
 use Prim.Native.Nat.{ℕ, zero, suc, ◌+◌, ◌≤◌}
 use native.Mathlib.Omega.{arith}
-use borrow.Author.Tests.{eq-eqb, eqb-false, eqb-true, le-leb, leb-false, lt-leb}
-use lib.Dec.{eqb, leb, leb→le}
+use borrow.Author.Tests.{leb-false}
+use lib.Dec.{eqb}
 use lib.ListN.{length, drop, take, length-map}
 use lib.Seq.{take_all, take-append-le}
 use Rattle.model.specs.Basics.{all, bit, map_option, up_from}
 use Rattle.model.specs.Choice.{SpaceOption}
 use Rattle.model.specs.Model.{Extent, Geometry, Label, Run, Volume, covers, extent, free, held, overs, run, times, total, tracks}
-use Rattle.model.proofs.Lists.{and_l, and_r, by, sum_append, true_is}
+use Rattle.model.proofs.Lists.{by, sum_append}
 use Rattle.model.specs.Predicates.{All, Once}
 use Rattle.model.proofs.Runs.{Inside, balance}
 use Rattle.rules.specs.Calls.{Amount, Outcome, absolute, amount_of, given, in_cylinders, in_tracks, option_for, option_of, refuse, grant as granting}
@@ -27,10 +27,6 @@ use Rattle.request.proofs.Granting.{runs_back}
 
 -- ---- what may be asked for
 
--- the answer about a place, where the number t of tracks was computed
-pub on_volume : (start n secondary t t' : ℕ) (r : Bool) → t ≡ t' → r ≡ (leb 1 n && leb (start + n) t && eqb secondary 0) → r ≡ (leb 1 n && leb (start + n) t' && eqb secondary 0)
-on_volume start n secondary t t' r e h = subst (λ (u : ℕ). r ≡ (leb 1 n && leb (start + n) u && eqb secondary 0)) e h
-
 -- 7 for an unknown option
 unknown_option : (option : ℕ) → 4 ≤ option → option_of option ≡ none
 unknown_option zero h = absurd (omega arith)
@@ -43,13 +39,6 @@ no_option_lem : (s n option : ℕ) → 1 ≤ option → option_for (absolute s n
 no_option_lem s n zero h = absurd (omega arith)
 no_option_lem s n (suc k) h = refl
 
--- as the code asks
-pub none_only : (option : ℕ) → eqb option 0 ≡ leb option 0
-none_only option =
-    by (eqb option 0)
-    (λ h. let e = eqb-true option 0 h in h ∙ sym (le-leb option 0 (omega arith)))
-    (λ h. let e = eqb-false option 0 h in h ∙ sym (lt-leb option 0 (omega arith)))
-
 -- 7 for a kind or an option that is not known
 pub unknown_asked : (kind start n option : ℕ) (k : Amount → SpaceOption → Outcome) → is_known kind option ≡ false
     → given (amount_of kind start n) 7 (λ a. given (option_for a option) 7 (k a)) ≡ refuse 7
@@ -57,25 +46,6 @@ unknown_asked zero start n option k e = rw (unknown_option option (leb-false opt
 unknown_asked (suc zero) start n option k e = rw (unknown_option option (leb-false option 3 e))
 unknown_asked (suc (suc zero)) start n option k e = rw (no_option_lem start n option (leb-false option 0 e))
 unknown_asked (suc (suc (suc j))) start n option k e = refl
-
--- a kind and an option that are known
-pub known_kind : (kind option : ℕ) → is_known kind option ≡ true → kind ≤ 2
-known_kind kind option e = leb→le kind 2 (and_l (leb kind 2) (leb option (cond (eqb kind 2) 0 3)) (true_is e))
-
-most_option : (kind option : ℕ) → is_known kind option ≡ true → option ≤ cond (eqb kind 2) 0 3
-most_option kind option e = leb→le option (cond (eqb kind 2) 0 3) (and_r (leb kind 2) (leb option (cond (eqb kind 2) 0 3)) (true_is e))
-
-pub known_option : (kind option : ℕ) → is_known kind option ≡ true → option ≤ 3
-known_option kind option e =
-    by (eqb kind 2)
-    (λ h. let k : option ≤ 0 = rw h at (most_option kind option e) in omega arith)
-    (λ h. rw h at (most_option kind option e))
-
--- the option of an absolute request
-pub absolute_option : (kind option : ℕ) → is_known kind option ≡ true → kind ≡ 2 → option ≡ 0
-absolute_option kind option e k =
-    let h : option ≤ 0 = rw (eq-eqb kind 2 k) at (most_option kind option e) in
-    omega arith
 
 -- a secondary amount that is not 0
 pub secondary_asks : (g : Geometry) (unit sec : ℕ) → 1 ≤ sec → Asks g (cond (eqb unit 0xC0) (in_cylinders sec) (in_tracks sec))

@@ -1,12 +1,12 @@
 // A request for space: its amount in one of three kinds, its option, the range of its numbers, and what it is granted.
 #![tactic(auto)]
 
-ghost use Rattle.std.specs.Prelude.{◌≡◌, cond, true, ◌&&◌, List, ◌+◌, ◌-◌, ◌*◌, ◌≤◌, ◌<◌, eqb, leb, length};
-ghost use Rattle.std.proofs.Math.Option.{some};
+ghost use Rattle.std.specs.Prelude.{◌≡◌, cond, ◌&&◌, List, ◌+◌, ◌-◌, ◌*◌, ◌≤◌, ◌<◌, eqb, leb, length, IfSome, MatchOption, is_some};
+ghost use Rattle.std.proofs.Math.Option.{none, some};
 ghost use Rattle.model.specs.Basics.{all, up_from, within};
 ghost use Rattle.model.specs.Model.{Label, Run, free, held, slots, tracks};
-ghost use Rattle.rules.specs.Calls.{amount_of, in_cylinders, in_range, in_tracks, option_for, option_of, unit_of};
-ghost use Rattle.rules.specs.Predicates.{Asks, Limits};
+ghost use Rattle.rules.specs.Calls.{amount_of, in_cylinders, in_range, in_tracks, option_for, unit_of};
+ghost use Rattle.rules.specs.Predicates.{Asks};
 ghost use Rattle.bitmap.specs.Map.{Shows, is_free};
 ghost use Rattle.free_extents.specs.FreeList.{Listed};
 ghost use Rattle.choose_pieces.specs.Grant.{grant_of};
@@ -18,75 +18,74 @@ use choose_pieces::SpaceOption;
 use dscb::Geometry;
 
 // An amount: how many tracks, how many cylinders, or from which track on how many.
-#[derive(Clone, Copy)]
+#[derive(Clone, Copy, Debug, PartialEq, Eq)]
 pub enum Amount {
     Tracks(u32),
     Cylinders(u32),
     Absolute(u32, u32),
 }
 
+impl Amount {
+    // The amount of that kind, by its number; none where no kind has it.
+    fn of_kind(kind: u32, start: u32, amount: u32) -> Option<Amount>
+        ensures { MatchOption result (amount_of kind start amount ≡ none) (λ a. some (to_amount a) ≡ amount_of kind start amount) }
+    {
+        match kind {
+            0 => Some(Amount::Tracks(amount)),
+            1 => Some(Amount::Cylinders(amount)),
+            2 => Some(Amount::Absolute(start, amount)),
+            _ => None,
+        }
+    }
+
+    // The option that a number tells for this amount; none where it is unknown, or where an absolute amount has one.
+    fn option(self, number: u32) -> Option<SpaceOption>
+        ensures { MatchOption result (option_for (to_amount self) number ≡ none) (λ o. some (to_option o) ≡ option_for (to_amount self) number) }
+    {
+        match self {
+            Amount::Absolute(_, _) if number != 0 => None,
+            _ => SpaceOption::try_from(number).ok(),
+        }
+    }
+}
+
 // What is asked for now, by which option, and how much each extend will ask for, in the same unit.
-#[derive(Clone, Copy)]
+#[derive(Clone, Copy, Debug, PartialEq, Eq)]
 pub struct Request {
     pub amount: Amount,
     pub option: SpaceOption,
     pub secondary: u32,
 }
 
-// Whether there is such a kind, and such an option for it: an absolute request has none.
-pub fn is_known(kind: u32, option: u32) -> bool
-    ensures { result ≡ is_known kind option }
-{
-    if kind > 2 {
-        return false;
-    }
-    if kind == 2 {
-        return option == 0;
-    }
-    option <= 3
-}
-
-// The option that the host's number tells.
-fn read_option(option: u32) -> SpaceOption
-    requires { option ≤ 3 }
-    ensures { some (to_option result) ≡ option_of option }
-{
-    if option == 0 {
-        return SpaceOption::NoOption;
-    }
-    if option == 1 {
-        return SpaceOption::Contig;
-    }
-    if option == 2 {
-        return SpaceOption::Mxig;
-    }
-    SpaceOption::Alx
-}
-
-// The request that the host's numbers make; an unknown kind or option is refused before.
-pub fn read_request(kind: u32, start: u32, amount: u32, secondary: u32, option: u32) -> Request
-    requires { is_known kind option ≡ true }
-    ensures { (some (to_amount result.amount) ≡ amount_of kind start amount) × (some (to_option result.option) ≡ option_for (to_amount result.amount) option) × (result.secondary ≡ secondary) }
-{
-    let space_option = read_option(option);
-    if kind == 0 {
-        return Request {
-            amount: Amount::Tracks(amount),
-            option: space_option,
+impl Request {
+    // The request that the host's numbers make; none where there is no such kind, or no such option for it.
+    pub fn from_numbers(
+        kind: u32,
+        start: u32,
+        amount: u32,
+        secondary: u32,
+        option: u32,
+    ) -> Option<Request>
+        ensures known { is_some result ≡ is_known kind option }
+        ensures numbers { IfSome result (λ r. (some (to_amount r.amount) ≡ amount_of kind start amount) × (some (to_option r.option) ≡ option_for (to_amount r.amount) option) × (r.secondary ≡ secondary)) }
+    {
+        let amount = Amount::of_kind(kind, start, amount)?;
+        let option = amount.option(option)?;
+        Some(Request {
+            amount,
+            option,
             secondary,
-        };
+        })
     }
-    if kind == 1 {
-        return Request {
-            amount: Amount::Cylinders(amount),
-            option: space_option,
-            secondary,
-        };
-    }
-    Request {
-        amount: Amount::Absolute(start, amount),
-        option: space_option,
-        secondary,
+
+    // Whether the amount and the secondary amount lie in their ranges on such a volume.
+    pub fn in_range(self, g: Geometry) -> bool
+        ensures { result ≡ in_range (geometry_of g) self.secondary (to_amount self.amount) }
+    {
+        match self.amount {
+            Amount::Tracks(n) | Amount::Cylinders(n) => counts_ok(n, self.secondary),
+            Amount::Absolute(start, n) => place_ok(start, n, self.secondary, u32::from(g.tracks())),
+        }
     }
 }
 
@@ -96,13 +95,7 @@ pub fn read_request(kind: u32, start: u32, amount: u32, secondary: u32, option: 
 fn counts_ok(n: u32, secondary: u32) -> bool
     ensures { result ≡ (within 1 65535 n && leb secondary 16777215) }
 {
-    if n < 1 {
-        return false;
-    }
-    if n > 65535 {
-        return false;
-    }
-    secondary <= 16777215
+    1 <= n && n <= 65535 && secondary <= 16777215
 }
 
 // Whether n tracks from `start` on lie on a volume of t tracks, and there is no secondary amount. The end of the tracks
@@ -110,43 +103,20 @@ fn counts_ok(n: u32, secondary: u32) -> bool
 fn place_ok(start: u32, n: u32, secondary: u32, t: u32) -> bool
     ensures { result ≡ (leb 1 n && leb (start + n) t && eqb secondary 0) }
 {
-    if n < 1 {
-        return false;
-    }
-    if t < start {
-        return false;
-    }
-    if t - start < n {
-        return false;
-    }
-    secondary == 0
-}
-
-// Whether the amount and the secondary amount lie in their ranges on such a volume.
-pub fn in_range(request: Request, g: Geometry) -> bool
-    requires { Limits (geometry_of g) }
-    ensures { result ≡ in_range (geometry_of g) request.secondary (to_amount request.amount) }
-{
-    let amount = request.amount;
-    match amount {
-        Amount::Tracks(n) => counts_ok(n, request.secondary),
-        Amount::Cylinders(n) => counts_ok(n, request.secondary),
-        Amount::Absolute(start, n) => {
-            place_ok(start, n, request.secondary, dscb::tracks(g) as u32)
-        }
-    }
+    1 <= n && start <= t && n <= t - start && secondary == 0
 }
 
 // ---- the bytes of a label
 
-// The unit of a data set that is asked for so: DS1SCALO.
+// The unit of a data set that is asked for so: DS1SCALO. This and the next are tables of bytes by kind: one function of three bytes would
+// be no plainer.
 pub fn unit_byte(amount: Amount) -> u8
     ensures { result ≡ unit_of (to_amount amount) }
 {
     match amount {
-        Amount::Tracks(_n) => 0x80,
-        Amount::Cylinders(_n) => 0xC0,
-        Amount::Absolute(_s, _n) => 0x00,
+        Amount::Tracks(_) => 0x80,
+        Amount::Cylinders(_) => 0xC0,
+        Amount::Absolute(_, _) => 0x00,
     }
 }
 
@@ -155,9 +125,9 @@ pub fn type_byte(amount: Amount) -> u8
     ensures { result ≡ type_of (to_amount amount) }
 {
     match amount {
-        Amount::Tracks(_n) => 0x01,
-        Amount::Cylinders(_n) => 0x81,
-        Amount::Absolute(_s, _n) => 0x01,
+        Amount::Tracks(_) => 0x01,
+        Amount::Cylinders(_) => 0x81,
+        Amount::Absolute(_, _) => 0x01,
     }
 }
 
@@ -179,10 +149,7 @@ fn all_free(free_tracks: &[u64], s: u16, e: u16) -> bool
     ensures { result ≡ all (is_free free_tracks.now) (up_from s (e - s)) }
 {
     let free = bitmap::next_run(free_tracks, s, e);
-    if free.from != s {
-        return false;
-    }
-    free.to == e
+    free.from == s && free.to == e
 }
 
 // Exactly these tracks, as one piece; none where one of them is not free.
@@ -193,26 +160,25 @@ fn exact(free_tracks: &[u64], start: u32, n: u32) -> [[u16; 2]; 5]
     let mut pieces = [[0u16; 2]; 5];
     if all_free(free_tracks, start as u16, (start + n) as u16) {
         pieces[0] = [start as u16, n as u16];
-        return pieces;
     }
     pieces
 }
 
 // The pieces that an amount is granted by an option out of the free tracks, which the table lists and the map shows, whatever
 // labels hold the others; none where there is no space.
-pub fn fulfil<'a>(
-    table: &'a [u8],
-    free_tracks: &'a [u64],
+pub fn fulfil(
+    table: &[u8],
+    free_tracks: &[u64],
     g: Geometry,
     option: SpaceOption,
     amount: Amount,
 ) -> [[u16; 2]; 5]
-    requires { Limits (geometry_of g) × (tracks (geometry_of g) ≤ 64 * length free_tracks.now) × Asks (geometry_of g) (to_amount amount) × (length table.now ≡ 140 * slots (geometry_of g)) × ((f : List Run) × Listed (geometry_of g) table.now f) }
+    requires { (tracks (geometry_of g) ≤ 64 * length free_tracks.now) × Asks (geometry_of g) (to_amount amount) × (length table.now ≡ 140 * slots (geometry_of g)) × ((f : List Run) × Listed (geometry_of g) table.now f) }
     ensures { (ls : List Label) → Shows free_tracks.now (tracks (geometry_of g)) (held (geometry_of g) ls) → Listed (geometry_of g) table.now (free (geometry_of g) ls) → result ≡ grant_of (pieces_of (geometry_of g) ls (to_option option) (to_amount amount)) }
 {
     match amount {
         Amount::Tracks(k) => choose_pieces::choose(table, g, option, 1, k),
-        Amount::Cylinders(k) => choose_pieces::choose(table, g, option, g.heads as u32, k),
+        Amount::Cylinders(k) => choose_pieces::choose(table, g, option, u32::from(g.heads), k),
         Amount::Absolute(start, k) => exact(free_tracks, start, k),
     }
 }

@@ -78,12 +78,12 @@ are_append v (x ∷ xs) ys = ap (λ (b : Bool). eqb x v && b) (are_append v xs y
 
 -- ---- two rows
 
-pub same_next : (x : ℕ) (a b : List ℕ) (i : ℕ) → i < length a → i < length b
-    → eqb x 0 && same (drop i a) (drop i b) ≡ eqb (bit_or x (bit_xor (get_or a i 0) (get_or b i 0))) 0 && same (drop (i + 1) a) (drop (i + 1) b)
-same_next x a b i h k = rw (rest a i h, rest b i k, gather_rows x (get_or a i 0) (get_or b i 0), and_assoc)
+-- from two bytes to the next, and where no more are left
+pub same_next : (u x y : ℕ) (a a' b b' : List ℕ) → a ≡ x ∷ a' → b ≡ y ∷ b' → eqb u 0 && same a b ≡ eqb (bit_or u (bit_xor x y)) 0 && same a' b'
+same_next u x y a a' b b' e f = rw (e, f, gather_rows u x y, and_assoc)
 
-pub same_end : (x : ℕ) (a b : List ℕ) (i : ℕ) → length a ≤ i → length b ≤ i → eqb x 0 && same (drop i a) (drop i b) ≡ eqb x 0
-same_end x a b i h k = rw (drop_of_length-le a {i = i} h, drop_of_length-le b {i = i} k) (and_true (eqb x 0))
+pub same_end : (u : ℕ) (a b : List ℕ) → a ≡ [] → b ≡ [] → eqb u 0 && same a b ≡ eqb u 0
+same_end u a b e f = rw (e, f) (and_true (eqb u 0))
 
 -- lists of two lengths are two lists
 pub same_long : (a b : List ℕ) → (length a ≡ length b → ⊥) → same a b ≡ false

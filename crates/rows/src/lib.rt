@@ -1,7 +1,7 @@
 // Numbers and rows of bytes: read, compared eight bytes at a time; text written into a buffer.
 #![tactic(auto)]
 
-ghost use Rattle.std.specs.Prelude.{◌≡◌, ◌+◌, ◌≤◌, ◌<◌, min, [], ◌∷◌, ◌++◌, length, take, drop};
+ghost use Rattle.std.specs.Prelude.{◌≡◌, ◌+◌, ◌≤◌, ◌<◌, [], ◌∷◌, ◌++◌, length, take, drop};
 ghost use Rattle.model.specs.Basics.{get2, get3, part, same};
 ghost use Rattle.rows.specs.Words.{all_are, word4, word8};
 ghost use Rattle.rows.specs.Text.{Written};
@@ -16,49 +16,12 @@ pub fn copy(from: &[u8], to: &mut [u8])
     to[..from.len()].copy_from_slice(from);
 }
 
-// A byte as a number.
-pub fn wide(x: u8) -> u32
-    ensures { (result ≡ x) × (result < 256) }
-{
-    x as u32
-}
-
-// A byte as a number of 16 bits.
-pub fn byte(x: u8) -> u16
-    ensures { (result ≡ x) × (result < 256) }
-{
-    x as u16
-}
-
-// A number of two bytes, wider.
-pub fn wide16(x: u16) -> u32
-    ensures { (result ≡ x) × (result < 65536) }
-{
-    x as u32
-}
-
-// A number of two bytes as an index: a slot of a chain.
-pub fn index(k: u16) -> usize
-    ensures { (result ≡ k) × (result < 65536) }
-{
-    k as usize
-}
-
-// A number, or the most that is meant where that is less.
-pub fn at_most(n: usize, most: usize) -> usize
-    ensures { result ≡ min n most }
-{
-    if n < most { n } else { most }
-}
-
 // The two bytes from place i on, the high one first.
 pub fn two(s: &[u8], i: usize) -> u16
     requires { i + 1 < length s.now }
     ensures { (result ≡ get2 s.now i) × (result < 65536) }
 {
-    let hi = byte(s[i]);
-    let lo = byte(s[i + 1]);
-    hi * 256 + lo
+    u16::from_be_bytes([s[i], s[i + 1]])
 }
 
 // The three bytes from place i on.
@@ -66,9 +29,7 @@ pub fn three(s: &[u8], i: usize) -> u32
     requires { i + 2 < length s.now }
     ensures { (result ≡ get3 s.now i) × (result < 16777216) }
 {
-    let hi = wide16(two(s, i));
-    let lo = wide(s[i + 2]);
-    hi * 256 + lo
+    u32::from_be_bytes([0, s[i], s[i + 1], s[i + 2]])
 }
 
 // Four bytes from place i on as a number, the low one first.
@@ -76,14 +37,11 @@ pub fn word4(s: &[u8], i: usize) -> u64
     requires { i + 3 < length s.now }
     ensures { (result ≡ word4 s.now i) × (result < 4294967296) }
 {
-    let a = wide(s[i]) as u64;
-    let b = wide(s[i + 1]) as u64;
-    let c = wide(s[i + 2]) as u64;
-    let d = wide(s[i + 3]) as u64;
-    a + b * 256 + c * 65536 + d * 16777216
+    u64::from(u32::from_le_bytes([s[i], s[i + 1], s[i + 2], s[i + 3]]))
 }
 
-// Eight bytes from place i on as a number, the low one first. Written as a sum it is one load in the end.
+// Eight bytes from place i on as a number, the low one first: as a sum of its halves it is one load in the end. Eight bytes named one by
+// one for `u64::from_le_bytes` would be no plainer.
 pub fn word8(s: &[u8], i: usize) -> u64
     requires { i + 7 < length s.now }
     ensures { result ≡ word8 s.now i }
@@ -97,11 +55,9 @@ pub fn word8(s: &[u8], i: usize) -> u64
 fn short_are(s: &[u8], v: u8) -> bool
     ensures { result ≡ all_are v s.now }
 {
-    let mut unlike: u8 = 0;
-    let mut i = 0;
-    while i < s.len() {
-        unlike = unlike | (s[i] ^ v);
-        i += 1;
+    let mut unlike = 0;
+    for x in s {
+        unlike |= x ^ v;
     }
     unlike == 0
 }
@@ -112,7 +68,7 @@ fn middling_are(s: &[u8], v: u8) -> bool
     ensures { result ≡ all_are v s.now }
 {
     let n = s.len();
-    let all = wide(v) as u64 * 0x0101_0101_0101_0101;
+    let all = u64::from(v) * 0x0101_0101_0101_0101;
     let last = word8(s, n - 8) ^ all;
     let ends = last | (word8(s, 0) ^ all);
     if n <= 16 {
@@ -134,12 +90,11 @@ pub fn all_are(s: &[u8], v: u8) -> bool
     if n <= 32 {
         return middling_are(s, v);
     }
-    let all = wide(v) as u64 * 0x0101_0101_0101_0101;
-    let mut unlike: u64 = word8(s, n - 8) ^ all;
-    let mut i = 0;
-    while i + 8 <= n {
-        unlike = unlike | (word8(s, i) ^ all);
-        i += 8;
+    let all = u64::from(v) * 0x0101_0101_0101_0101;
+    let last = n - 8;
+    let mut unlike = word8(s, last) ^ all;
+    for i in (0..last).step_by(8) {
+        unlike |= word8(s, i) ^ all;
     }
     unlike == 0
 }
@@ -149,8 +104,7 @@ pub fn part_is(s: &[u8], i: usize, n: usize, v: u8) -> bool
     requires { i + n ≤ length s.now }
     ensures { result ≡ all_are v (part i n s.now) }
 {
-    let e = i + n;
-    all_are(&s[i..e], v)
+    all_are(&s[i..i + n], v)
 }
 
 // Whether a and b, of one length, hold the same bytes, byte by byte: for short rows.
@@ -158,11 +112,9 @@ fn short_same(a: &[u8], b: &[u8]) -> bool
     requires { length a.now ≡ length b.now }
     ensures { result ≡ same a.now b.now }
 {
-    let mut unlike: u8 = 0;
-    let mut i = 0;
-    while i < a.len() {
-        unlike = unlike | (a[i] ^ b[i]);
-        i += 1;
+    let mut unlike = 0;
+    for (x, y) in a.iter().zip(b) {
+        unlike |= x ^ y;
     }
     unlike == 0
 }
@@ -178,11 +130,10 @@ pub fn same(a: &[u8], b: &[u8]) -> bool
     if n < 8 {
         return short_same(a, b);
     }
-    let mut unlike: u64 = word8(a, n - 8) ^ word8(b, n - 8);
-    let mut i = 0;
-    while i + 8 <= n {
-        unlike = unlike | (word8(a, i) ^ word8(b, i));
-        i += 8;
+    let last = n - 8;
+    let mut unlike = word8(a, last) ^ word8(b, last);
+    for i in (0..last).step_by(8) {
+        unlike |= word8(a, i) ^ word8(b, i);
     }
     unlike == 0
 }

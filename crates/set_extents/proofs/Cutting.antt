@@ -2,8 +2,9 @@
 use mathlib.Core.Path.{◌≡◌, refl, sym, ap, ap₂, ◌∙◌, subst}
 use mathlib.Core.Logic.{⊎_elim}
 use mathlib.Core.List.{List, [], ◌∷◌, ◌++◌, append-nil}
-use Prim.Native.Nat.{ℕ, zero, suc, ◌+◌, ◌-◌, ◌≤◌, ◌<◌, min}
-use native.Mathlib.Nat.{sub-zero}
+use Prim.Native.Nat.{ℕ, zero, suc, ◌+◌, ◌-◌, ◌≤◌, ◌<◌, max, min}
+use native.Mathlib.Decide.{dec_le}
+use native.Mathlib.Nat.{lt_of_not-le, sub-zero}
 use native.Mathlib.Numerals.{add-one}
 use native.Mathlib.Omega.{arith}
 use borrow.Author.Tests.{lt-leb, leb-true, leb-false}
@@ -245,8 +246,16 @@ few_first : (n : ℕ) (l : Label) → n ≤ 3 → length (first_extents n l).ext
 few_first n l h = let a = length-take n l.extents in omega arith
 
 -- no extent stands in the format 3 then, whichever of the first three stay
-pub three_first : (g : Geometry) (n : ℕ) (l : Label) (r : List ℕ) → n ≤ 3 → Format3 g (first_extents 3 l) r → Format3 g (first_extents n l) r
+three_first : (g : Geometry) (n : ℕ) (l : Label) (r : List ℕ) → n ≤ 3 → Format3 g (first_extents 3 l) r → Format3 g (first_extents n l) r
 three_first g n l r h f = f ∙ sym (three_none g (first_extents 3 l) (few_first 3 l (omega arith))) ∙ three_none g (first_extents n l) (few_first n l h)
+
+-- the format 3 of no fewer than three extents serves for fewer
+pub three_kept : (g : Geometry) (n k : ℕ) (l : Label) (r : List ℕ) → k ≡ max n 3 → Format3 g (first_extents k l) r → Format3 g (first_extents n l) r
+three_kept g n k l r e f =
+    elim (dec_le n 3) [
+      | yes h ↦ let q : k ≡ 3 = omega arith in three_first g n l r h (subst (λ (j : ℕ). Format3 g (first_extents j l) r) q f)
+      | no h ↦ let p = lt_of_not-le h in let q : k ≡ n = omega arith in subst (λ (j : ℕ). Format3 g (first_extents j l) r) q f
+    ]
 
 pub first_length : (n : ℕ) (l : Label) → n ≤ length l.extents → length (first_extents n l).extents ≡ n
 first_length n l h = length-take-le n l.extents h

@@ -6,12 +6,12 @@ use Prim.Native.Nat.{ℕ, zero, suc, ◌+◌, ◌-◌, ◌≤◌, ◌<◌}
 use native.Mathlib.Omega.{arith}
 use borrow.Author.Tests.{eqb-true}
 use lib.Dec.{eqb}
-use lib.ListN.{length, take, drop, get_or, length-drop}
-use lib.Seq.{take_all, take-append-le, take-suc}
+use lib.ListN.{length, take, drop, get_or}
+use Rattle.std.proofs.lemmas.List.{take_rest}
+use lib.Seq.{take_all, take-suc}
 use Rattle.model.specs.Basics.{bit}
 use Rattle.model.specs.Model.{Extent, Geometry, Label, Run, extent, run}
-use Rattle.model.specs.Predicates.{All}
-use Rattle.model.proofs.Lists.{All_drop, clash, drop_take}
+use Rattle.model.proofs.Lists.{clash}
 use Rattle.rules.specs.Calls.{joined, lengthened, longer, track_after}
 use Rattle.rules.specs.Joining.{touches}
 use Rattle.rules.specs.Layout.{extent_part}
@@ -21,7 +21,7 @@ use Rattle.rules.proofs.Joined.{as_before, count_after_joining, last_lengthened}
 use Rattle.choose_pieces.specs.Grant.{row}
 use Rattle.dscb.proofs.Blocks.{no_extent}
 use Rattle.dscb.proofs.Written.{read_at, read_length}
-use Rattle.set_extents.specs.Change.{InRecords, PieceIn, SetIn, extents_in, granted, part_of, shortened}
+use Rattle.set_extents.specs.Change.{InRecords, SetIn, extents_in, granted, part_of, shortened}
 use Rattle.set_extents.proofs.Cutting.{good_read}
 use Rattle.set_extents.proofs.Pieces.{run_is, runs_length}
 
@@ -123,19 +123,6 @@ module _ (g : Geometry) (f1 f3 : List ℕ) (n : ℕ) (d : SetIn g f1 f3 n) where
 
 -- ---- the pieces behind the first
 
-abbrev no_piece : List ℕ
-no_piece = 0 ∷ 0 ∷ []
-
-pub behind_five : (rows : List (List ℕ)) → length rows ≡ 5
-    → get_or rows 1 [] ∷ get_or rows 2 [] ∷ get_or rows 3 [] ∷ get_or rows 4 [] ∷ no_piece ∷ [] ≡ drop 1 rows ++ no_piece ∷ []
-behind_five [] h = absurd (omega arith)
-behind_five (a ∷ []) h = absurd (omega arith)
-behind_five (a ∷ b ∷ []) h = absurd (omega arith)
-behind_five (a ∷ b ∷ c ∷ []) h = absurd (omega arith)
-behind_five (a ∷ b ∷ c ∷ d ∷ []) h = absurd (omega arith)
-behind_five (a ∷ b ∷ c ∷ d ∷ e ∷ []) h = refl
-behind_five (a ∷ b ∷ c ∷ d ∷ e ∷ f ∷ rows) h = absurd (omega arith)
-
 joined_rest : (es : List Extent) (p : Extent) (ps : List Extent) → joined es (p ∷ ps) ≡ joined es (p ∷ []) ++ ps
 joined_rest [] p ps = refl
 joined_rest (e ∷ []) p ps = go (eqb p.over.start (track_after e))
@@ -145,38 +132,29 @@ joined_rest (e ∷ []) p ps = go (eqb p.over.start (track_after e))
     go false = refl
 joined_rest (e ∷ f ∷ es) p ps = ap (λ (y : List Extent). e ∷ y) (joined_rest (f ∷ es) p ps)
 
-module _ (rows : List (List ℕ)) (len : length rows ≡ 5) (count : ℕ) (some : 1 ≤ count) (most : count ≤ 5) (next : List (List ℕ)) (e : next ≡ drop 1 rows ++ no_piece ∷ []) where
-  next_is : take (count - 1) next ≡ drop 1 (take count rows)
-  next_is =
-      ap (take (count - 1)) e
-      ∙ take-append-le (count - 1) (drop 1 rows) (no_piece ∷ []) (let l = length-drop 1 rows in omega arith)
-      ∙ sym (drop_take 1 count rows)
-
-  pub next_in : (k : ℕ) → All (PieceIn k) (take count rows) → All (PieceIn k) (take (count - 1) next)
-  next_in k a = subst (All (PieceIn k)) (sym next_is) (All_drop (PieceIn k) 1 (take count rows) a)
-
+module _ (rows : List (List ℕ)) (some : 1 ≤ length rows) where
   module _ (g : Geometry) (kind n : ℕ) (l : Label) (many : length l.extents ≡ n) (s c : ℕ) (first : s ≡ get_or (get_or rows 0 []) 0 0) (size : c ≡ get_or (get_or rows 0 []) 1 0) where
     -- the first piece is in the records q1 and q3, the others are then in r1 and r3
     pub rest_joined : (q1 q3 r1 r3 : List ℕ) → touches l.extents s ≡ true
         → InRecords g (longer (extent kind (run s c) ∷ []) l) q1 q3
-        → ((m : Label) (ps : List Run) → length m.extents ≡ n → take (count - 1) next ≡ map row ps → InRecords g m q1 q3 → InRecords g (granted kind ps m) r1 r3)
-        → (ps : List Run) → take count rows ≡ map row ps → InRecords g (longer (map (extent kind) ps) l) r1 r3
-    rest_joined q1 q3 r1 r3 t x step [] own = absurd (let k = runs_length count rows len most [] own in omega arith)
+        → ((m : Label) (ps : List Run) → length m.extents ≡ n → take (length rows - 1) (drop 1 rows) ≡ map row ps → InRecords g m q1 q3 → InRecords g (granted kind ps m) r1 r3)
+        → (ps : List Run) → rows ≡ map row ps → InRecords g (longer (map (extent kind) ps) l) r1 r3
+    rest_joined q1 q3 r1 r3 t x step [] own = absurd (let k = runs_length rows [] own in omega arith)
     rest_joined q1 q3 r1 r3 t x step (p ∷ ps) own =
         let one : Extent = extent kind (run s c) in
         let m : Label = longer (one ∷ []) l in
-        let same : run s c ≡ p = run_is count rows len most (p ∷ ps) own 0 s c (omega arith) first size in
+        let same : run s c ≡ p = run_is rows (p ∷ ps) own 0 s c (omega arith) first size in
         let long : length m.extents ≡ n = let k = count_after_joining l.extents one [] in let b = ap bit t in omega arith in
         subst (λ (y : Label). InRecords g y r1 r3)
         (ap (λ (y : List Extent). with_extents y l.ttr l) (sym (joined_rest l.extents one (map (extent kind) ps)))
         ∙ ap (λ (y : Run). longer (extent kind y ∷ map (extent kind) ps) l) same)
-        (step m ps long (next_is ∙ ap (drop 1) own) x)
+        (step m ps long (take_rest rows 1 ∙ ap (drop 1) own) x)
 
--- the first piece does not touch: all follow
-pub all_follow : (g : Geometry) (kind count : ℕ) (rows : List (List ℕ)) → length rows ≡ 5 → 1 ≤ count → count ≤ 5 → (l : Label) (ps : List Run) → take count rows ≡ map row ps
-    → touches l.extents (get_or (get_or rows 0 []) 0 0) ≡ false → (r1 r3 : List ℕ) → InRecords g (granted kind ps l) r1 r3 → InRecords g (longer (map (extent kind) ps) l) r1 r3
-all_follow g kind count rows len some most l [] own t r1 r3 x = absurd (let k = runs_length count rows len most [] own in omega arith)
-all_follow g kind count rows len some most l (p ∷ ps) own t r1 r3 x =
-    let same : run (get_or (get_or rows 0 []) 0 0) (get_or (get_or rows 0 []) 1 0) ≡ p = run_is count rows len most (p ∷ ps) own 0 _ _ (omega arith) refl refl in
-    let u : touches l.extents p.start ≡ false = sym (ap (λ (r : Run). touches l.extents r.start) same) ∙ t in
-    subst (λ (es : List Extent). InRecords g (with_extents es l.ttr l) r1 r3) (sym (as_before l.extents (extent kind p) (map (extent kind) ps) u)) x
+  -- the first piece does not touch: all follow
+  pub all_follow : (g : Geometry) (kind : ℕ) (l : Label) (ps : List Run) → rows ≡ map row ps → touches l.extents (get_or (get_or rows 0 []) 0 0) ≡ false → (r1 r3 : List ℕ)
+      → InRecords g (granted kind ps l) r1 r3 → InRecords g (longer (map (extent kind) ps) l) r1 r3
+  all_follow g kind l [] own t r1 r3 x = absurd (let k = runs_length rows [] own in omega arith)
+  all_follow g kind l (p ∷ ps) own t r1 r3 x =
+      let same : run (get_or (get_or rows 0 []) 0 0) (get_or (get_or rows 0 []) 1 0) ≡ p = run_is rows (p ∷ ps) own 0 _ _ (omega arith) refl refl in
+      let u : touches l.extents p.start ≡ false = sym (ap (λ (r : Run). touches l.extents r.start) same) ∙ t in
+      subst (λ (es : List Extent). InRecords g (with_extents es l.ttr l) r1 r3) (sym (as_before l.extents (extent kind p) (map (extent kind) ps) u)) x

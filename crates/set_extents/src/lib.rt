@@ -1,7 +1,7 @@
 // The extents of one data set, granted more or cut: in its records, and in the map of free tracks.
 #![tactic(auto)]
 
-ghost use Rattle.std.specs.Prelude.{◌≡◌, ℕ, ◌+◌, ◌*◌, ◌/◌, ◌≤◌, ◌<◌, min, cond, true, List, [], ◌∷◌, ◌++◌, map, length, take, drop, get_or};
+ghost use Rattle.std.specs.Prelude.{◌≡◌, ℕ, ◌+◌, ◌*◌, ◌/◌, ◌≤◌, ◌<◌, min, cond, true, List, [], ◌∷◌, map, length, get_or};
 ghost use Rattle.model.specs.Basics.{bit};
 ghost use Rattle.model.specs.Model.{Geometry, Label, Run, extent, overs, run, total, tracks};
 ghost use Rattle.model.specs.Predicates.{All, StaysOf, kept_from, room};
@@ -10,64 +10,30 @@ ghost use Rattle.rules.specs.Calls.{longer};
 ghost use Rattle.rules.specs.Joining.{touches};
 ghost use Rattle.rules.specs.Layout.{extent_part};
 ghost use Rattle.rules.specs.Reading.{read_extent};
-ghost use Rattle.rules.specs.Predicates.{Limits};
 ghost use Rattle.dscb.specs.Forms.{geometry_of};
 ghost use Rattle.choose_pieces.specs.Grant.{row};
 ghost use Rattle.dscb_write.specs.Labels.{Format3, with_extent, first_extents};
 ghost use Rattle.set_extents.specs.Change.{GaveTail, InRecords, NoneBelow, PieceIn, SetIn, Spreads, Stays, TookPieces, extents_in, granted, shortened};
 
-// Tracks that follow each other: the first, and how many.
-#[derive(Clone, Copy)]
-struct Tracks {
-    start: u32,
-    count: u32,
-}
-
-// The lesser of two numbers.
-fn lesser(a: u32, b: u32) -> u32
-    ensures { result ≡ min a b }
-{
-    if a < b { a } else { b }
-}
-
 // ---- granted
 
-// Piece k as tracks.
-fn piece_at(pieces: [[u16; 2]; 5], k: usize) -> Tracks
-    requires { k < 5 }
-    ensures { (result.start ≡ get_or (get_or pieces k []) 0 0) × (result.count ≡ get_or (get_or pieces k []) 1 0) × (result.start < 65536) × (result.count < 65536) }
+// Takes the pieces out of the map of free tracks. That their tracks are free is known.
+pub fn take_pieces(free_tracks: &mut [u64], pieces: &[[u16; 2]])
+    requires { All (PieceIn (64 * length free_tracks.old)) pieces.now × All (PieceIn 65535) pieces.now }
+    ensures { TookPieces pieces.now free_tracks.old free_tracks.new }
 {
-    let start = rows::wide16(pieces[k][0]);
-    let count = rows::wide16(pieces[k][1]);
-    Tracks { start, count }
-}
-
-// Takes the first `count` pieces out of the map of free tracks. That their tracks are free is known.
-pub fn take_pieces(free_tracks: &mut [u64], pieces: [[u16; 2]; 5], count: usize)
-    requires { (count ≤ 5) × All (PieceIn (64 * length free_tracks.old)) (take count pieces) × All (PieceIn 65535) (take count pieces) }
-    ensures { TookPieces (take count pieces) free_tracks.old free_tracks.new }
-{
-    let mut k: usize = 0;
-    while k < count {
-        let p = piece_at(pieces, k);
-        let from = p.start as u16;
-        let to = (p.start + p.count) as u16;
-        bitmap::take_range(free_tracks, from, to);
-        k += 1;
+    for &[start, count] in pieces {
+        bitmap::take_range(free_tracks, start, start + count);
     }
 }
 
-// The lowest track of the first `count` pieces, or `most` where that is lower.
-pub fn lowest_piece(pieces: [[u16; 2]; 5], count: usize, most: u32) -> u32
-    requires { count ≤ 5 }
-    ensures { (result ≤ most) × ((ps : List Run) → take count pieces ≡ map row ps → NoneBelow result ps) }
+// The lowest track of the pieces, or `most` where that is lower.
+pub fn lowest_piece(pieces: &[[u16; 2]], most: u32) -> u32
+    ensures { (result ≤ most) × ((ps : List Run) → pieces.now ≡ map row ps → NoneBelow result ps) }
 {
     let mut lo = most;
-    let mut k: usize = 0;
-    while k < count {
-        let p = piece_at(pieces, k);
-        lo = lesser(lo, p.start);
-        k += 1;
+    for &[start, _] in pieces {
+        lo = lo.min(u32::from(start));
     }
     lo
 }
@@ -79,44 +45,47 @@ fn add_extent(
     g: dscb::Geometry,
     n: usize,
     type_byte: u8,
-    start: u32,
-    count: u32,
+    start: u16,
+    count: u16,
 )
-    requires { (length f1.old ≡ 140) × (length f3.old ≡ 140) × (n < 16) × (1 ≤ count) × (start + count ≤ 65535) × Limits (geometry_of g) }
+    requires { (length f1.old ≡ 140) × (length f3.old ≡ 140) × (n < 16) × (1 ≤ count) × (start + count ≤ 65535) }
     ensures { ((l : Label) → length l.extents ≡ n → InRecords (geometry_of g) l f1.old f3.old → InRecords (geometry_of g) (with_extent (extent type_byte (run start count)) l) f1.new f3.new) × (length f1.new ≡ 140) × (length f3.new ≡ 140) }
 {
-    dscb_write::add_extent1(f1, g, n, type_byte, start as u16, count as u16);
+    dscb_write::add_extent1(f1, g, n, type_byte, start, count);
     if n < 3 {
         return;
     }
-    dscb_write::add_extent3(f3, g, n, type_byte, start as u16, count as u16);
+    dscb_write::add_extent3(f3, g, n, type_byte, start, count);
 }
 
-// Adds the first `count` pieces to the records of a label with n extents, behind them.
+// Adds the pieces to the records of a label with n extents, behind them.
 fn add_pieces(
     f1: &mut [u8; 140],
     f3: &mut [u8; 140],
     g: dscb::Geometry,
     n: usize,
     type_byte: u8,
-    pieces: [[u16; 2]; 5],
-    count: usize,
+    pieces: &[[u16; 2]],
 )
-    requires { (length f1.old ≡ 140) × (length f3.old ≡ 140) × (count ≤ 5) × (n + count ≤ 16) × Limits (geometry_of g) × All (PieceIn 65535) (take count pieces) }
-    ensures { ((l : Label) (ps : List Run) → length l.extents ≡ n → take count pieces ≡ map row ps → InRecords (geometry_of g) l f1.old f3.old → InRecords (geometry_of g) (granted type_byte ps l) f1.new f3.new) × (length f1.new ≡ 140) }
+    requires { (length f1.old ≡ 140) × (length f3.old ≡ 140) × (n + length pieces.now ≤ 16) × All (PieceIn 65535) pieces.now }
+    ensures { ((l : Label) (ps : List Run) → length l.extents ≡ n → pieces.now ≡ map row ps → InRecords (geometry_of g) l f1.old f3.old → InRecords (geometry_of g) (granted type_byte ps l) f1.new f3.new) × (length f1.new ≡ 140) }
 {
-    let mut k: usize = 0;
-    while k < count {
-        let p = piece_at(pieces, k);
-        add_extent(f1, f3, g, n + k, type_byte, p.start, p.count);
-        k += 1;
+    for (k, &[start, count]) in pieces.iter().enumerate() {
+        add_extent(f1, f3, g, n + k, type_byte, start, count);
     }
 }
 
 // ---- its tracks
 
+// Tracks that follow each other: the first, and how many.
+#[derive(Clone, Copy)]
+struct Tracks {
+    start: u32,
+    count: u32,
+}
+
 // The tracks of extent e, with h tracks to a cylinder.
-fn extent_at<'a>(f1: &'a [u8], f3: &'a [u8], e: usize, h: u16) -> Tracks
+fn extent_at(f1: &[u8], f3: &[u8], e: usize, h: u16) -> Tracks
     requires { (length f1.now ≡ 140) × (length f3.now ≡ 140) × (e < 16) × (1 ≤ (read_extent h (extent_part f1.now f3.now e)).over.count) × ((read_extent h (extent_part f1.now f3.now e)).over.start + (read_extent h (extent_part f1.now f3.now e)).over.count ≤ 65535) }
     ensures { run result.start result.count ≡ (read_extent h (extent_part f1.now f3.now e)).over }
 {
@@ -130,7 +99,7 @@ fn extent_at<'a>(f1: &'a [u8], f3: &'a [u8], e: usize, h: u16) -> Tracks
 }
 
 // The type of extent e if it `stays`, else X'01'.
-fn type_if<'a>(f1: &'a [u8], f3: &'a [u8], e: usize, stays: bool) -> u8
+fn type_if(f1: &[u8], f3: &[u8], e: usize, stays: bool) -> u8
     requires { (length f1.now ≡ 140) × (length f3.now ≡ 140) × (e < 16) }
     ensures { (h : ℕ) → result ≡ cond stays (read_extent h (extent_part f1.now f3.now e)).type_byte 0x01 }
 {
@@ -149,18 +118,16 @@ pub struct Spread {
 }
 
 // The tracks of a data set with n extents.
-pub fn spread_of<'a>(f1: &'a [u8], f3: &'a [u8], n: usize, g: dscb::Geometry) -> Spread
+pub fn spread_of(f1: &[u8], f3: &[u8], n: usize, g: dscb::Geometry) -> Spread
     requires { SetIn (geometry_of g) f1.now f3.now n }
     ensures { Spreads (tracks (geometry_of g)) (extents_in (geometry_of g) f1.now f3.now n) result.all result.lowest }
 {
-    let mut all: u32 = 0;
-    let mut lowest = dscb::tracks(g) as u32;
-    let mut e: usize = 0;
-    while e < n {
+    let mut all = 0;
+    let mut lowest = g.tracks() as u32;
+    for e in 0..n {
         let x = extent_at(f1, f3, e, g.heads);
         all += x.count;
-        lowest = lesser(lowest, x.start);
-        e += 1;
+        lowest = lowest.min(x.start);
     }
     Spread { all, lowest }
 }
@@ -176,7 +143,7 @@ fn in_cylinder(start: u32, count: u32, h: u32) -> u32
     if past == 0 {
         return 0;
     }
-    lesser(count, h - past)
+    count.min(h - past)
 }
 
 // How many tracks of an extent stay: the first `left`, and those that go on from the last of these in its cylinder; where none
@@ -195,37 +162,28 @@ fn stays_of(left: u32, last: u32, start: u32, count: u32, h: u32) -> u32
 }
 
 // How many tracks of a data set with n extents stay where its first `keep` stay and with them the rest of their cylinder.
-fn to_cylinder_end<'a>(f1: &'a [u8], f3: &'a [u8], n: usize, g: dscb::Geometry, keep: u32) -> u32
+fn to_cylinder_end(f1: &[u8], f3: &[u8], n: usize, g: dscb::Geometry, keep: u32) -> u32
     requires { SetIn (geometry_of g) f1.now f3.now n }
     ensures { result ≡ kept_from g.heads keep 0 (tracks_of (overs (extents_in (geometry_of g) f1.now f3.now n))) }
 {
-    let mut kept: u32 = 0;
+    let mut kept = 0;
     let mut left = keep;
-    let mut last: u32 = 0;
-    let mut e: usize = 0;
-    while e < n {
+    let mut last = 0;
+    for e in 0..n {
         let x = extent_at(f1, f3, e, g.heads);
-        let stay = stays_of(left, last, x.start, x.count, g.heads as u32);
+        let stay = stays_of(left, last, x.start, x.count, u32::from(g.heads));
         kept += stay;
         if stay < x.count {
             return kept;
         }
-        left -= lesser(left, stay);
+        left = left.saturating_sub(stay);
         last = x.start + stay - 1;
-        e += 1;
     }
     kept
 }
 
 // How many tracks of a data set with this unit and n extents stay where the block TTR is its last.
-pub fn tracks_kept<'a>(
-    f1: &'a [u8],
-    f3: &'a [u8],
-    n: usize,
-    g: dscb::Geometry,
-    unit: u8,
-    ttr: u32,
-) -> u32
+pub fn tracks_kept(f1: &[u8], f3: &[u8], n: usize, g: dscb::Geometry, unit: u8, ttr: u32) -> u32
     requires { SetIn (geometry_of g) f1.now f3.now n × (ttr / 256 + 1 ≤ total (overs (extents_in (geometry_of g) f1.now f3.now n))) }
     ensures { result ≡ tracks_kept g.heads unit ttr (tracks_of (overs (extents_in (geometry_of g) f1.now f3.now n))) }
 {
@@ -248,13 +206,12 @@ pub struct Kept {
 }
 
 // Where the first `keep` tracks of a data set with this unit and n extents end.
-fn cut_at<'a>(f1: &'a [u8], f3: &'a [u8], n: usize, g: dscb::Geometry, unit: u8, keep: u32) -> Kept
+fn cut_at(f1: &[u8], f3: &[u8], n: usize, g: dscb::Geometry, unit: u8, keep: u32) -> Kept
     requires { SetIn (geometry_of g) f1.now f3.now n }
     ensures { Stays unit keep (extents_in (geometry_of g) f1.now f3.now n) (tracks (geometry_of g)) result.whole result.type_byte result.start result.count }
 {
     let mut left = keep;
-    let mut e: usize = 0;
-    while e < n {
+    for e in 0..n {
         let x = extent_at(f1, f3, e, g.heads);
         if left < x.count {
             return Kept {
@@ -265,7 +222,6 @@ fn cut_at<'a>(f1: &'a [u8], f3: &'a [u8], n: usize, g: dscb::Geometry, unit: u8,
             };
         }
         left -= x.count;
-        e += 1;
     }
     Kept {
         whole: n,
@@ -277,9 +233,9 @@ fn cut_at<'a>(f1: &'a [u8], f3: &'a [u8], n: usize, g: dscb::Geometry, unit: u8,
 
 // Makes free the tracks behind the first `keep` tracks of a data set with n extents. An extent that stays whole gives
 // back an empty range, so that there is no case to tell.
-fn give_behind<'a>(
-    f1: &'a [u8],
-    f3: &'a [u8],
+fn give_behind(
+    f1: &[u8],
+    f3: &[u8],
     n: usize,
     g: dscb::Geometry,
     keep: u32,
@@ -289,22 +245,20 @@ fn give_behind<'a>(
     ensures { GaveTail keep (extents_in (geometry_of g) f1.now f3.now n) free_tracks.old free_tracks.new }
 {
     let mut left = keep;
-    let mut e: usize = 0;
-    while e < n {
+    for e in 0..n {
         let x = extent_at(f1, f3, e, g.heads);
-        let stay = lesser(left, x.count);
+        let stay = left.min(x.count);
         let from = (x.start + stay) as u16;
         let to = (x.start + x.count) as u16;
         bitmap::give_range(free_tracks, from, to);
         left -= stay;
-        e += 1;
     }
 }
 
 // Makes free the tracks behind the first `keep` tracks of a data set with this unit and n extents, and tells what stays of it.
-pub fn give_tail<'a>(
-    f1: &'a [u8],
-    f3: &'a [u8],
+pub fn give_tail(
+    f1: &[u8],
+    f3: &[u8],
     n: usize,
     g: dscb::Geometry,
     unit: u8,
@@ -323,16 +277,12 @@ fn keep_third(rec: &mut [u8; 140], n: usize)
     requires { (length rec.old ≡ 140) × (n ≤ 16) }
     ensures { ((g : Geometry) (l : Label) → Format3 g l rec.old → Format3 g (first_extents n l) rec.new) × (length rec.new ≡ 140) }
 {
-    if n <= 3 {
-        dscb_write::keep_extents3(rec, 3);
-        return;
-    }
-    dscb_write::keep_extents3(rec, n);
+    dscb_write::keep_extents3(rec, n.max(3));
 }
 
 // Makes the records of a label those of what stays of it.
 pub fn cut_records(f1: &mut [u8; 140], f3: &mut [u8; 140], g: dscb::Geometry, k: Kept)
-    requires { (length f1.old ≡ 140) × (length f3.old ≡ 140) × (k.whole ≤ 16) × (1 ≤ k.count → k.whole < 16) × (k.start + k.count ≤ 65535) × Limits (geometry_of g) }
+    requires { (length f1.old ≡ 140) × (length f3.old ≡ 140) × (k.whole ≤ 16) × (1 ≤ k.count → k.whole < 16) × (k.start + k.count ≤ 65535) }
     ensures { ((l : Label) → k.whole ≤ length l.extents → InRecords (geometry_of g) l f1.old f3.old → InRecords (geometry_of g) (shortened k.whole k.type_byte k.start k.count l) f1.new f3.new) × (length f1.new ≡ 140) × (length f3.new ≡ 140) }
 {
     dscb_write::keep_extents1(f1, k.whole);
@@ -340,19 +290,21 @@ pub fn cut_records(f1: &mut [u8; 140], f3: &mut [u8; 140], g: dscb::Geometry, k:
     if k.count == 0 {
         return;
     }
-    add_extent(f1, f3, g, k.whole, k.type_byte, k.start, k.count);
+    add_extent(
+        f1,
+        f3,
+        g,
+        k.whole,
+        k.type_byte,
+        k.start as u16,
+        k.count as u16,
+    );
 }
 
 // ---- joined, document 02, [6]
 
 // Whether the first piece begins on the track after the last one of a data set with n extents.
-pub fn joins_last<'a>(
-    f1: &'a [u8],
-    f3: &'a [u8],
-    n: usize,
-    g: dscb::Geometry,
-    pieces: [[u16; 2]; 5],
-) -> bool
+pub fn joins_last(f1: &[u8], f3: &[u8], n: usize, g: dscb::Geometry, pieces: [[u16; 2]; 5]) -> bool
     requires { SetIn (geometry_of g) f1.now f3.now n }
     ensures { result ≡ touches (extents_in (geometry_of g) f1.now f3.now n) (get_or (get_or pieces 0 []) 0 0) }
 {
@@ -360,8 +312,7 @@ pub fn joins_last<'a>(
         return false;
     }
     let last = extent_at(f1, f3, n - 1, g.heads);
-    let first = piece_at(pieces, 0);
-    first.start == last.start + last.count
+    u32::from(pieces[0][0]) == last.start + last.count
 }
 
 // Lengthens the last extent in the records of a label with n extents by a piece of this type that begins behind it.
@@ -371,8 +322,8 @@ fn lengthen_last(
     g: dscb::Geometry,
     n: usize,
     type_byte: u8,
-    start: u32,
-    count: u32,
+    start: u16,
+    count: u16,
 )
     requires { SetIn (geometry_of g) f1.old f3.old n × (start + count ≤ 65535) × (touches (extents_in (geometry_of g) f1.old f3.old n) start ≡ true) }
     ensures { ((l : Label) → extents_in (geometry_of g) f1.old f3.old n ≡ l.extents → InRecords (geometry_of g) l f1.old f3.old → InRecords (geometry_of g) (longer (extent type_byte (run start count) ∷ []) l) f1.new f3.new) × (length f1.new ≡ 140) × (length f3.new ≡ 140) }
@@ -382,19 +333,12 @@ fn lengthen_last(
         whole: n - 1,
         type_byte: type_if(f1, f3, n - 1, type_byte == 0x81),
         start: last.start,
-        count: start + count - last.start,
+        count: u32::from(start) + u32::from(count) - last.start,
     };
     cut_records(f1, f3, g, lengthened);
 }
 
-// The pieces behind the first one.
-fn behind_first(pieces: [[u16; 2]; 5]) -> [[u16; 2]; 5]
-    ensures { result ≡ drop 1 pieces ++ (0 ∷ 0 ∷ []) ∷ [] }
-{
-    [pieces[1], pieces[2], pieces[3], pieces[4], [0, 0]]
-}
-
-// Puts the first `count` pieces into the records of a label with n extents: the first lengthens the last of these where it joins it,
+// Puts the pieces, one or more, into the records of a label with n extents: the first lengthens the last of these where it joins it,
 // the others follow.
 pub fn put_pieces(
     f1: &mut [u8; 140],
@@ -403,17 +347,16 @@ pub fn put_pieces(
     n: usize,
     joins: bool,
     type_byte: u8,
-    pieces: [[u16; 2]; 5],
-    count: usize,
+    pieces: &[[u16; 2]],
 )
-    requires { SetIn (geometry_of g) f1.old f3.old n × (joins ≡ touches (extents_in (geometry_of g) f1.old f3.old n) (get_or (get_or pieces 0 []) 0 0)) × (1 ≤ count) × (count ≤ 5) × (n + count ≤ 16 + bit joins) × All (PieceIn 65535) (take count pieces) }
-    ensures { ((l : Label) (ps : List Run) → extents_in (geometry_of g) f1.old f3.old n ≡ l.extents → take count pieces ≡ map row ps → InRecords (geometry_of g) l f1.old f3.old → InRecords (geometry_of g) (longer (map (extent type_byte) ps) l) f1.new f3.new) × (length f1.new ≡ 140) }
+    requires { SetIn (geometry_of g) f1.old f3.old n × (joins ≡ touches (extents_in (geometry_of g) f1.old f3.old n) (get_or (get_or pieces.now 0 []) 0 0)) × (1 ≤ length pieces.now) × (n + length pieces.now ≤ 16 + bit joins) × All (PieceIn 65535) pieces.now }
+    ensures { ((l : Label) (ps : List Run) → extents_in (geometry_of g) f1.old f3.old n ≡ l.extents → pieces.now ≡ map row ps → InRecords (geometry_of g) l f1.old f3.old → InRecords (geometry_of g) (longer (map (extent type_byte) ps) l) f1.new f3.new) × (length f1.new ≡ 140) }
 {
     if joins {
-        let touching = piece_at(pieces, 0);
-        lengthen_last(f1, f3, g, n, type_byte, touching.start, touching.count);
-        add_pieces(f1, f3, g, n, type_byte, behind_first(pieces), count - 1);
+        let [start, count] = pieces[0];
+        lengthen_last(f1, f3, g, n, type_byte, start, count);
+        add_pieces(f1, f3, g, n, type_byte, &pieces[1..]);
         return;
     }
-    add_pieces(f1, f3, g, n, type_byte, pieces, count);
+    add_pieces(f1, f3, g, n, type_byte, pieces);
 }

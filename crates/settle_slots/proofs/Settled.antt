@@ -1,6 +1,5 @@
 -- The change settled: what is refused and what is given is what the definition says. Assumes nothing.
 use mathlib.Core.Path.{◌≡◌, refl, sym, ap, ap₂, ◌∙◌, subst}
-use mathlib.Core.Bool.{true, false}
 use mathlib.Core.Option.{none, some}
 use mathlib.Core.List.{List, [], ◌∷◌, ◌++◌, append_assoc}
 use Prim.Native.Nat.{ℕ, zero, suc, ◌+◌, ◌-◌, ◌*◌, ◌≤◌, ◌<◌}
@@ -11,7 +10,7 @@ use lib.ListN.{length, take, drop, length-append, length-take, take-append-drop}
 use lib.Seq.{drop_at, length-slice, slice, take_all, take_at}
 use Rattle.model.specs.Basics.{bit, sum_of, up_from}
 use Rattle.model.specs.Model.{Geometry, Label, fives_for, free, slots, tally, times, total, unused, used}
-use Rattle.model.proofs.Lists.{All_append, All_drop, All_filter, All_left, All_map, All_right, All_take, clash, range_All, sum_take}
+use Rattle.model.proofs.Lists.{All_append, All_drop, All_filter, All_left, All_map, All_right, All_take, range_All, sum_take}
 use Rattle.model.specs.Predicates.{All}
 use Rattle.model.proofs.Runs.{runs_total, sum_add, times_total}
 use Rattle.rules.specs.Slots.{settle}
@@ -21,8 +20,9 @@ use Rattle.bitmap.proofs.Counting.{bit_of}
 use Rattle.bitmap.proofs.Walk.{free_from_zero}
 use Rattle.check_label.specs.Marks.{units}
 use Rattle.check_table.proofs.Scan.{unit_tally}
-use Rattle.settle_slots.specs.Settling.{Filled, Gave, Lowest, Settles, SettlesIn}
-use Rattle.settle_slots.proofs.Slots.{count_law, lowest_then, shows_order, shows_tally, sum_most, tally_append, units_inside, units_total}
+use Rattle.std.specs.Prelude.{Some, None}
+use Rattle.settle_slots.specs.Settling.{Gave, Lacks, Lowest, Settles, SettlesIn}
+use Rattle.settle_slots.proofs.Slots.{Filled, count_law, lowest_then, shows_order, shows_tally, sum_most, tally_append, units_inside, units_total}
 
 -- ---- the balance of slots
 
@@ -73,7 +73,7 @@ unused_below n us = All_filter (λ k. k < n) (λ k. eqb (tally k us) 0) (up_from
 
 -- ---- more format 5s than slots
 
-module _ (g : Geometry) (s c d : List ℕ) (was need asked : ℕ) (long : was ≤ length c) (low : All (λ k. k < slots g) (take was c)) where
+module _ (g : Geometry) (s c : List ℕ) (was need asked : ℕ) (long : was ≤ length c) (low : All (λ k. k < slots g) (take was c)) where
   module _ (over : slots g < need) (draft : List Label) (h : Shows s (slots g) (units (used draft (take was c)))) where
     all_kept : take need (take was c) ≡ take was c
     all_kept = let b = slots_balance s (slots g) draft (take was c) low h in take_all need (take was c) (omega arith)
@@ -83,21 +83,12 @@ module _ (g : Geometry) (s c d : List ℕ) (was need asked : ℕ) (long : was �
         let b = slots_balance s (slots g) draft (take was c) low h in
         subst (λ (ks : List ℕ). length (unused (slots g) (used draft ks)) < asked + (need - length ks)) (sym all_kept) (omega arith)
 
-  pub settled_over : slots g < need → Settles g s s c c d d was need asked 0 false
+  pub settled_over : slots g < need → Lacks g s s c c was need asked
   settled_over over =
       record {
         long_map = refl;
-        long_chain = refl;
-        long_given = refl;
-        tail = λ u. refl;
-        first = refl;
-        most = λ e. clash {b = false} e refl;
+        same_chain = refl;
         done = λ draft e h finish. settle_none g (take was c) draft asked finish need e (too_few over draft h);
-        shown = λ e. clash {b = false} e refl;
-        inside = λ e. clash {b = false} e refl;
-        inside_given = λ e. clash {b = false} e refl;
-        left_most = omega arith;
-        left_is = λ e. clash {b = false} e refl;
       }
 
   -- ---- the chain's end given back
@@ -125,37 +116,22 @@ module _ (g : Geometry) (s c d : List ℕ) (was need asked : ℕ) (long : was �
       count = count_law s₁ (slots g) (used draft kept) kept_shown
 
     -- too few
-    pub settled_full : total (free_from s₁ (slots g) 0) < asked + (need - was) → Settles g s s₁ c c d d was need asked 0 false
+    pub settled_full : total (free_from s₁ (slots g) 0) < asked + (need - was) → Lacks g s s₁ c c was need asked
     settled_full few =
         record {
           long_map = back.long;
-          long_chain = refl;
-          long_given = refl;
-          tail = λ u. refl;
-          first = refl;
-          most = λ e. clash {b = false} e refl;
+          same_chain = refl;
           done = λ draft e h finish. settle_none g (take was c) draft asked finish need e (let n = count draft h in let m = new_is in omega arith);
-          shown = λ e. clash {b = false} e refl;
-          inside = λ e. clash {b = false} e refl;
-          inside_given = λ e. clash {b = false} e refl;
-          left_most = omega arith;
-          left_is = λ e. clash {b = false} e refl;
         }
 
     -- enough: the slots asked for, and then those of the chain
-    module _ (s₂ s₃ c' d' : List ℕ) (y : Filled (slots g) s₁ s₂ d d' 0 asked) (z : Filled (slots g) s₂ s₃ c c' was need) (room : need ≤ length c) (places : asked ≤ length d)
+    module _ (s₂ s₃ c' asks : List ℕ) (y : Lowest (slots g) s₁ s₂ asks) (asks_long : length asks ≡ asked) (z : Filled (slots g) s₂ s₃ c c' was need) (room : need ≤ length c)
         (most : need ≤ slots g) (enough : asked + (need - was) ≤ total (free_from s₁ (slots g) 0)) (few : total (free_from s₁ (slots g) 0) ≤ slots g) where
-      abbrev asks : List ℕ
-      asks = take asked d'
-
       abbrev adds : List ℕ
       adds = slice was need c'
 
       both : Lowest (slots g) s₁ s₃ (asks ++ adds)
-      both = lowest_then (slots g) s₁ s₂ s₃ asks adds y.took z.took
-
-      asks_long : length asks ≡ asked
-      asks_long = length-take asked d' ∙ omega (arith, y.long)
+      both = lowest_then (slots g) s₁ s₂ s₃ asks adds y z.took
 
       adds_long : length adds ≡ need - was
       adds_long = length-slice was need c' (omega (arith, z.long))
@@ -221,21 +197,21 @@ module _ (g : Geometry) (s c d : List ℕ) (was need asked : ℕ) (long : was �
             let k = adds_long in
             omega arith
 
-      pub settled_yes : Settles g s s₃ c c' d d' was need asked (total (free_from s₁ (slots g) 0) - (asked + (need - was))) true
+      pub settled_yes : Settles g s s₃ c c' asks was need asked (total (free_from s₁ (slots g) 0) - (asked + (need - was)))
       settled_yes =
           record {
             long_map = both.long ∙ back.long;
             long_chain = z.long;
-            long_given = y.long;
+            long_given = asks_long;
             tail = z.none;
             first = z.first;
-            most = λ e. most;
+            most = most;
             done = λ draft e h finish. is_some draft h e finish;
-            shown = λ e. all_shown;
-            inside = λ e. all_inside;
-            inside_given = λ e draft h. All_left (λ k. k < slots g) asks (adds ++ rest draft h) (new_inside draft h);
+            shown = all_shown;
+            inside = all_inside;
+            inside_given = λ draft h. All_left (λ k. k < slots g) asks (adds ++ rest draft h) (new_inside draft h);
             left_most = omega arith;
-            left_is = λ e. rest_left;
+            left_is = rest_left;
           }
 
 -- ---- the same for any geometry of n slots: the returns of `settle`
@@ -243,26 +219,26 @@ module _ (g : Geometry) (s c d : List ℕ) (was need asked : ℕ) (long : was �
 pub give_low : (n m need was : ℕ) (c : List ℕ) → n ≤ 64 * m → All (λ k. k < n) (take was c) → All (λ k. k < 64 * m) (slice need was c)
 give_low n m need was c h a = All_map (λ k. k < n) (λ k. k < 64 * m) (λ k u. omega arith) (slice need was c) (All_drop (λ k. k < n) need (take was c) a)
 
-module _ (n : ℕ) (s c d : List ℕ) (was need asked : ℕ) (long : was ≤ length c) (low : All (λ k. k < n) (take was c)) where
+module _ (n : ℕ) (s c : List ℕ) (was need asked : ℕ) (long : was ≤ length c) (low : All (λ k. k < n) (take was c)) where
   low_in_lem : (g : Geometry) → slots g ≡ n → All (λ k. k < slots g) (take was c)
   low_in_lem g e = subst (λ (m : ℕ). All (λ k. k < m) (take was c)) (sym e) low
 
-  pub over_in : n < need → SettlesIn n s s c c d d was need asked 0 false
-  over_in u g e = settled_over g s c d was need asked long (low_in_lem g e) (omega arith)
+  pub over_in : (ks : List ℕ) → length ks ≡ asked → n < need → SettlesIn n s s c c ks was need asked None
+  over_in ks many u g e = (settled_over g s c was need asked long (low_in_lem g e) (omega arith), many)
 
   module _ (s₁ : List ℕ) (back : Gave s s₁ (slice need was c)) where
     count_in : (g : Geometry) → slots g ≡ n → total (free_from s₁ (slots g) 0) ≡ total (free_from s₁ n 0)
     count_in g e = ap (λ (m : ℕ). total (free_from s₁ m 0)) e
 
-    pub full_in : total (free_from s₁ n 0) < asked + (need - was) → SettlesIn n s s₁ c c d d was need asked 0 false
-    full_in u g e = settled_full g s c d was need asked long (low_in_lem g e) s₁ back (let q = count_in g e in omega arith)
+    pub full_in : (ks : List ℕ) → length ks ≡ asked → total (free_from s₁ n 0) < asked + (need - was) → SettlesIn n s s₁ c c ks was need asked None
+    full_in ks many u g e = (settled_full g s c was need asked long (low_in_lem g e) s₁ back (let q = count_in g e in omega arith), many)
 
-    pub yes_in : (s₂ s₃ c' d' : List ℕ) → Filled n s₁ s₂ d d' 0 asked → Filled n s₂ s₃ c c' was need → need ≤ length c → asked ≤ length d → need ≤ n
+    pub yes_in : (s₂ s₃ c' ks : List ℕ) → Lowest n s₁ s₂ ks → length ks ≡ asked → Filled n s₂ s₃ c c' was need → need ≤ length c → need ≤ n
         → (count more : ℕ) → count ≡ total (free_from s₁ n 0) → count ≤ n → more ≡ asked + (need - was) → more ≤ count
-        → SettlesIn n s s₃ c c' d d' was need asked (count - more) true
-    yes_in s₂ s₃ c' d' y z room places most count more ec few em enough g e =
+        → SettlesIn n s s₃ c c' ks was need asked (Some (count - more))
+    yes_in s₂ s₃ c' ks y many z room most count more ec few em enough g e =
         let q = count_in g e in
-        subst (λ (left : ℕ). Settles g s s₃ c c' d d' was need asked left true) (ap₂ (λ (i j : ℕ). i - j) (q ∙ sym ec) (sym em))
-        (settled_yes g s c d was need asked long (low_in_lem g e) s₁ back s₂ s₃ c' d'
-        (subst (λ (m : ℕ). Filled m s₁ s₂ d d' 0 asked) (sym e) y) (subst (λ (m : ℕ). Filled m s₂ s₃ c c' was need) (sym e) z)
-        room places (omega arith) (omega arith) (omega arith))
+        subst (λ (left : ℕ). Settles g s s₃ c c' ks was need asked left) (ap₂ (λ (i j : ℕ). i - j) (q ∙ sym ec) (sym em))
+        (settled_yes g s c was need asked long (low_in_lem g e) s₁ back s₂ s₃ c' ks
+        (subst (λ (m : ℕ). Lowest m s₁ s₂ ks) (sym e) y) many (subst (λ (m : ℕ). Filled m s₂ s₃ c c' was need) (sym e) z)
+        room (omega arith) (omega arith) (omega arith))

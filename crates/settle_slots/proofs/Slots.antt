@@ -3,18 +3,20 @@ use mathlib.Core.Path.{◌≡◌, refl, sym, ap, ap₂, ◌∙◌, subst, fun_ex
 use mathlib.Core.Bool.{Bool, true, false}
 use mathlib.Core.Logic.{⊎_elim}
 use mathlib.Core.List.{List, [], ◌∷◌, ◌++◌, append_assoc}
-use Prim.Native.Nat.{ℕ, zero, suc, ◌+◌, ◌-◌, ◌≤◌, ◌<◌, max}
+use Prim.Native.Nat.{ℕ, zero, suc, ◌+◌, ◌-◌, ◌≤◌, ◌<◌, min}
 use native.Mathlib.Nat.{le_refl}
 use native.Mathlib.Numerals.{add-one}
 use native.Mathlib.Decide.{ℕ_discrete}
 use native.Mathlib.Omega.{arith}
 use borrow.Author.Tests.{eq-eqb, ne_eqb}
 use lib.Dec.{eqb}
-use lib.ListN.{length, get_or, set, take, drop, length-append, length-take, drop_of_length-le}
-use lib.Seq.{drop-append-le, get_or-drop, get_or-take, length-slice, slice, slice_empty, take-suc, take-suc-set}
+use borrow.Rule.Slice.PartMut.{put_mid}
+use lib.ListN.{length, get_or, set, take, drop, length-append, length-drop, length-take, drop_of_length-le, take-append-drop}
+use lib.Seq.{slice, take-suc, take-suc-set}
+use Rattle.std.proofs.lemmas.Slice.{between-put_mid, take-put_mid_below}
 use Rattle.model.specs.Basics.{bit, filter, keep_if, sum_of, up_from}
 use Rattle.model.specs.Model.{run, tally, total, unused}
-use Rattle.model.proofs.Lists.{All_at, sum_append}
+use Rattle.model.proofs.Lists.{drop_take, sum_append}
 use Rattle.model.specs.Predicates.{All}
 use Rattle.model.proofs.Runs.{Inside, hit_below, hit_in}
 use Rattle.bitmap.specs.Map.{AllFree, Given, NextRun, Shows, Taken, free_bit, free_from}
@@ -25,7 +27,7 @@ use Rattle.check_label.specs.Marks.{units}
 use Rattle.check_label.proofs.Taking.{took_yes}
 use Rattle.check_table.proofs.Scan.{unit_tally}
 use Rattle.check_table.proofs.Unused.{count_unused, run_bits}
-use Rattle.settle_slots.specs.Settling.{Filled, Gave, Lowest}
+use Rattle.settle_slots.specs.Settling.{Gave, Lowest}
 
 -- ---- slots in use, counted
 
@@ -130,10 +132,7 @@ module _ {n : ℕ} {s : List ℕ} {a b : ℕ} (x : NextRun s n 0 a b) where
           shown = λ us h l. took_yes n a 1 s s' r t (taken_true s s' a (a + 1) r all_free_lem t) (units us) h;
         }
 
--- none taken, and one list after the other
-pub lowest_nil : (n : ℕ) (s : List ℕ) → Lowest n s s []
-lowest_nil n s = record { long = refl; lowest = λ us h l. refl; shown = λ us h l. h }
-
+-- one list after the other
 module _ (n : ℕ) (s s₁ s₂ ks js : List ℕ) (x : Lowest n s s₁ ks) (y : Lowest n s₁ s₂ js) where
   order : (us : List ℕ) (k : ℕ) → tally k (js ++ (ks ++ us)) ≡ tally k ((ks ++ js) ++ us)
   order us k =
@@ -165,50 +164,39 @@ module _ (n : ℕ) (s s₁ s₂ ks js : List ℕ) (x : Lowest n s s₁ ks) (y : 
   pub lowest_then : Lowest n s s₂ (ks ++ js)
   lowest_then = record { long = y.long ∙ x.long; lowest = both_lowest; shown = both_shown }
 
--- ---- places of a list, one more and all
+-- ---- places of a list, filled
 
-pub slice_more : (a i : ℕ) (c : List ℕ) → a ≤ i → i < length c → slice a (i + 1) c ≡ slice a i c ++ (get_or c i 0 ∷ [])
-slice_more a i c u w =
-    ap (λ (m : ℕ). slice a m c) (add-one i) ∙ ap (drop a) (take-suc c i 0 w)
-    ∙ drop-append-le a (take i c) (get_or c i 0 ∷ []) (omega (arith, length-take i c))
+-- the places from a up to b of the list c have been filled with the lowest free slots; what stands before them stays
+pub record Filled (n : ℕ) (s s' c c' : List ℕ) (a b : ℕ) : Type 0 where
+  pub long : length c' ≡ length c
+  pub took : Lowest n s s' (slice a b c')
+  pub first : take a c' ≡ take a c
+  pub none : b ≤ a → c' ≡ c
 
-pub slice_set : (a i : ℕ) (c : List ℕ) (r : ℕ) → a ≤ i → i < length c → slice a (i + 1) (set c i r) ≡ slice a i c ++ (r ∷ [])
-slice_set a i c r u w =
-    ap (λ (m : ℕ). slice a m (set c i r)) (add-one i) ∙ ap (drop a) (take-suc-set c i r w)
-    ∙ drop-append-le a (take i c) (r ∷ []) (omega (arith, length-take i c))
+-- `&mut c[a..]`, a part as long as it is from a up to b, was lent and is back as p, filled
+pub filled : (n : ℕ) (s s' c p : List ℕ) (a b k : ℕ) → k ≡ b - a → a + k ≤ length c → length p ≡ k → Lowest n s s' p → Filled n s s' c (put_mid a k c p) a b
+filled n s s' c p a b k e room many x =
+    record {
+      long = let i = length-append (take a c) (p ++ drop k (drop a c)) in
+          let j = length-append p (drop k (drop a c)) in
+          omega (arith, length-take a c, length-drop k (drop a c), length-drop a c);
+      took = subst (Lowest n s s') (sym (drop_take a b (put_mid a k c p) ∙ between-put_mid a k c p b (omega arith) (omega arith))) x;
+      first = take-put_mid_below a k c p a (omega arith) (omega arith);
+      none = λ u.
+          let z : k ≡ 0 = omega arith in
+          ap₂ (λ (q : List ℕ) (i : ℕ). take a c ++ (q ++ drop i (drop a c))) (none_of p (omega arith)) z ∙ take-append-drop a c;
+    }
+  where
+    none_of : (q : List ℕ) → length q ≡ 0 → q ≡ []
+    none_of [] h = refl
+    none_of (y ∷ q) h = absurd (omega arith)
 
--- the loop's end, also where b is before a
-pub slice_end : (a b i : ℕ) (c : List ℕ) → a ≤ i → i ≤ max a b → b ≤ i → slice a i c ≡ slice a b c
-slice_end a b i c u v w =
-    ⊎_elim
-    (λ h.
-    let q : i ≡ a = omega arith in
-    ap (λ (m : ℕ). slice a m c) q ∙ slice_empty a c ∙ sym (drop_of_length-le (take b c) {i = a} (omega (arith, length-take b c))))
-    (λ h. let q : i ≡ b = omega arith in ap (λ (m : ℕ). slice a m c) q)
-    (le_or_lt b a)
-
-pub in_slice : (P : ℕ → Type 0) (a b i : ℕ) (c : List ℕ) → a ≤ i → i < b → b ≤ length c → All P (slice a b c) → P (get_or c i 0)
-in_slice P a b i c u v w h =
-    let q : a + (i - a) ≡ i = omega arith in
-    subst P (get_or-drop a (take b c) (i - a) 0 ∙ ap (λ (m : ℕ). get_or (take b c) m 0) q ∙ get_or-take b c i 0 v)
-    (All_at P 0 (slice a b c) h (i - a) (omega (arith, length-slice a b c w)))
-
--- the turns of `take_slots`
-
-pub filled_none : (n : ℕ) (s c : List ℕ) (a : ℕ) → Lowest n s s (slice a a c)
-filled_none n s c a = subst (Lowest n s s) (sym (slice_empty a c)) (lowest_nil n s)
-
-pub filled_next : (n : ℕ) (s s₁ s₂ c : List ℕ) (a i r : ℕ) → a ≤ i → i < length c → Lowest n s s₁ (slice a i c) → Lowest n s₁ s₂ (r ∷ []) → Lowest n s s₂ (slice a (i + 1) (set c i r))
-filled_next n s s₁ s₂ c a i r u w x y = subst (Lowest n s s₂) (sym (slice_set a i c r u w)) (lowest_then n s s₁ s₂ (slice a i c) (r ∷ []) x y)
-
-pub filled : (n : ℕ) (s s' c c' : List ℕ) (a b i : ℕ) → a ≤ i → i ≤ max a b → b ≤ i → length c' ≡ length c → take a c' ≡ take a c → (b ≤ a → c' ≡ c)
-    → Lowest n s s' (slice a i c') → Filled n s s' c c' a b
-filled n s s' c c' a b i u v w long first none x = record { long = long; took = subst (Lowest n s s') (slice_end a b i c' u v w) x; first = first; none = none }
+-- a turn of `take_slots`
+pub lowest_next : (n : ℕ) (s s₁ s₂ c : List ℕ) (i r : ℕ) → i < length c → Lowest n s s₁ (take i c) → Lowest n s₁ s₂ (r ∷ []) → Lowest n s s₂ (take (i + 1) (set c i r))
+lowest_next n s s₁ s₂ c i r w x y =
+    subst (Lowest n s s₂) (sym (ap (λ (m : ℕ). take m (set c i r)) (add-one i) ∙ take-suc-set c i r w)) (lowest_then n s s₁ s₂ (take i c) (r ∷ []) x y)
 
 -- ---- given back
-
-pub gave_nil : (s : List ℕ) → Gave s s []
-gave_nil s = record { long = refl; shown = λ n us h. h }
 
 pub gave_one : (s s' : List ℕ) (k : ℕ) → Given s s' k (k + 1) → Gave s s' (k ∷ [])
 gave_one s s' k d = record { long = d.long; shown = λ n us h. shows_give s s' n k 1 (units (k ∷ us)) (units us) (λ t u. refl) h d }
@@ -220,13 +208,19 @@ gave_then s s₁ s₂ ks js x y =
       shown = λ n us h. y.shown n us (x.shown n (js ++ us) (subst (λ (z : List ℕ). Shows s n (units z)) (append_assoc ks js us) h));
     }
 
--- the turns of `give_slots`
-pub gave_none : (s c : List ℕ) (a : ℕ) → Gave s s (slice a a c)
-gave_none s c a = subst (Gave s s) (sym (slice_empty a c)) (gave_nil s)
+-- a turn of `give_slots`
+pub gave_next : (s s₁ s₂ c : List ℕ) (i : ℕ) → i < length c → Gave s s₁ (take i c) → Given s₁ s₂ (get_or c i 0) (get_or c i 0 + 1) → Gave s s₂ (take (i + 1) c)
+gave_next s s₁ s₂ c i w x d =
+    subst (Gave s s₂) (sym (ap (λ (m : ℕ). take m c) (add-one i) ∙ take-suc c i 0 w))
+    (gave_then s s₁ s₂ (take i c) (get_or c i 0 ∷ []) x (gave_one s₁ s₂ (get_or c i 0) d))
 
-pub gave_next : (s s₁ s₂ c : List ℕ) (a i k : ℕ) → a ≤ i → i < length c → k ≡ get_or c i 0 → Gave s s₁ (slice a i c) → Given s₁ s₂ k (k + 1) → Gave s s₂ (slice a (i + 1) c)
-gave_next s s₁ s₂ c a i k u w e x d =
-    subst (Gave s s₂) (ap (λ (y : ℕ). slice a i c ++ (y ∷ [])) e ∙ sym (slice_more a i c u w)) (gave_then s s₁ s₂ (slice a i c) (k ∷ []) x (gave_one s₁ s₂ k d))
-
-pub gave_slots : (s s' c : List ℕ) (a b i : ℕ) → a ≤ i → i ≤ max a b → b ≤ i → Gave s s' (slice a i c) → Gave s s' (slice a b c)
-gave_slots s s' c a b i u v w x = subst (Gave s s') (slice_end a b i c u v w) x
+-- the end of a chain that is not needed, as a part of its list
+pub end_part : (c : List ℕ) (was need j : ℕ) → j ≡ min was need → take (was - j) (drop j c) ≡ slice need was c
+end_part c was need j e =
+    sym (drop_take j was c)
+    ∙ ⊎_elim
+    (λ h. let q : j ≡ need = omega arith in ap (λ (i : ℕ). drop i (take was c)) q)
+    (λ h.
+    let l = length-take was c in
+    drop_of_length-le (take was c) {i = j} (omega arith) ∙ sym (drop_of_length-le (take was c) {i = need} (omega arith)))
+    (le_or_lt need was)

@@ -1,7 +1,6 @@
 -- A data set taken out: slots settled and records written make the volume that `settle` leaves. Assumes nothing.
 use mathlib.Core.Path.{◌≡◌, refl, sym, ap, ◌∙◌, subst}
-use mathlib.Core.Bool.{true, false, cond}
-use mathlib.Core.Option.{none, some}
+use mathlib.Core.Option.{Option, none, some}
 use mathlib.Core.List.{List, [], ◌∷◌, ◌++◌}
 use Prim.Native.Nat.{ℕ, ◌<◌, min}
 use native.Mathlib.Omega.{arith}
@@ -20,55 +19,63 @@ use Rattle.rules.specs.Predicates.{Valid}
 use Rattle.rules.specs.Sound.{Sound}
 use Rattle.bitmap.specs.Map.{Shows, free_from}
 use Rattle.check_label.specs.Marks.{units}
-use Rattle.settle_slots.specs.Settling.{Settles}
+use Rattle.settle_slots.specs.Settling.{Chained, Settles}
 use Rattle.update.specs.Pending.{Pending}
 use Rattle.update.specs.Writing.{Reached, cleared, fives_put, four_put}
-use Rattle.update.specs.Commit.{Leaves, Left, Plans, remains}
+use Rattle.update.specs.Commit.{Leaves, Left, NoPlan, Plans, remains}
 use Rattle.update.proofs.Core.{cleared_both, emptied, finished, settled_chain}
 use Rattle.update.proofs.Kept.{Stay, same_chain, stay}
 use Rattle.update.proofs.Put.{chain_tail, empty_of, free_of, slots_eq}
 
-module _ {g : Geometry} {t m s : List ℕ} {lo slot third : ℕ} (d : Left g t m s lo slot third)
-    {s' c' : List ℕ} {p : Plan} (pl : Plans g t m s s' c' lo 0 p) where
-  abbrev c : List ℕ
-  c = pl.read
-
-  abbrev was : ℕ
-  was = p.was
-
-  abbrev need : ℕ
-  need = p.need
-
-  abbrev st : Settles g s s' c c' pl.none p.given was need 0 p.left p.fits
-  st = pl.settles
-
+module _ {g : Geometry} {t m s : List ℕ} {lo slot third : ℕ} (d : Left g t m s lo slot third) where
   abbrev v : Volume
   v = d.volume
-
-  abbrev w : Volume
-  w = record { geometry = g; labels = d.others; chain = take need c' }
 
   sound : Sound (chop (slots g) t) v
   sound = subst (λ (x : Geometry). Sound (chop (slots x) t) v) d.geometry_is d.ready.sound
 
-  read_chain : take was c ≡ v.chain
-  read_chain = pl.chained.chain v d.geometry_is sound
+  need_free : (need : ℕ) → need ≡ fives_for (length (free_from m (tracks g) 0)) → need ≡ fives_for (length (free g d.others))
+  need_free need e = e ∙ ap (λ (f : List Run). fives_for (length f)) (free_of g m d.others d.shown_tracks)
 
-  pub left_shown : Shows s (slots g) (units (used d.others (take was c)))
-  left_shown = subst (λ (x : List ℕ). Shows s (slots g) (units (used d.others x))) (sym read_chain) d.shown_slots
+  -- the chain as it was read
+  module _ {blank c : List ℕ} {was : ℕ} (chained : Chained g t blank c was) where
+    chain_is : take was c ≡ v.chain
+    chain_is = chained.chain v d.geometry_is sound
 
-  need_free : need ≡ fives_for (length (free g d.others))
-  need_free = pl.need_is ∙ ap (λ (f : List Run). fives_for (length f)) (free_of g m d.others d.shown_tracks)
+    slots_shown : Shows s (slots g) (units (used d.others (take was c)))
+    slots_shown = subst (λ (x : List ℕ). Shows s (slots g) (units (used d.others x))) (sym chain_is) d.shown_slots
 
-  outcome : settle g v.chain d.others 0 (λ ks. d.others) ≡ cond p.fits (some w) none
-  outcome = ap (λ (x : List ℕ). settle g x d.others 0 (λ ks. d.others)) (sym read_chain) ∙ st.done d.others need_free left_shown (λ ks. d.others)
+    outcome : (o : Option Volume) → settle g (take was c) d.others 0 (λ ks. d.others) ≡ o → settle g v.chain d.others 0 (λ ks. d.others) ≡ o
+    outcome o e = ap (λ (x : List ℕ). settle g x d.others 0 (λ ks. d.others)) (sym chain_is) ∙ e
 
-  pub drop_full : p.fits ≡ false → remains d ≡ none
-  drop_full e = outcome ∙ rw e
+  -- no plan: the VTOC is full
+  pub drop_full : {s' c' : List ℕ} → NoPlan g t m s s' c' 0 → remains d ≡ none
+  drop_full n = outcome n.chained none (n.lacks.done d.others (need_free n.need n.need_is) (slots_shown n.chained) (λ ks. d.others))
 
-  module _ (ok : p.fits ≡ true) where
+  module _ {s' c' : List ℕ} {p : Plan} (pl : Plans g t m s s' c' lo 0 p) where
+    abbrev c : List ℕ
+    c = pl.read
+
+    abbrev was : ℕ
+    was = p.was
+
+    abbrev need : ℕ
+    need = p.need
+
+    abbrev st : Settles g s s' c c' [] was need 0 p.left
+    st = pl.settles
+
+    abbrev w : Volume
+    w = record { geometry = g; labels = d.others; chain = take need c' }
+
+    read_chain : take was c ≡ v.chain
+    read_chain = chain_is pl.chained
+
+    pub left_shown : Shows s (slots g) (units (used d.others (take was c)))
+    left_shown = slots_shown pl.chained
+
     is_w : settle g v.chain d.others 0 (λ ks. d.others) ≡ some w
-    is_w = outcome ∙ rw ok
+    is_w = outcome pl.chained (some w) (st.done d.others (need_free need pl.need_is) left_shown (λ ks. d.others))
 
     hw : Valid w
     hw = d.valid w is_w
@@ -83,7 +90,7 @@ module _ {g : Geometry} {t m s : List ℕ} {lo slot third : ℕ} (d : Left g t m
         omega arith
 
     pub left_inside : All (λ x. x < slots g) (take need c')
-    left_inside = st.inside ok d.others left_shown
+    left_inside = st.inside d.others left_shown
 
     abbrev from : ℕ
     from = p.from
@@ -107,7 +114,7 @@ module _ {g : Geometry} {t m s : List ℕ} {lo slot third : ℕ} (d : Left g t m
         let new = settled_chain g v.chain d.others 0 (λ ks. d.others) w is_w in
         let p₀ : Pending w (drop from w.chain ++ (0 ∷ [])) (cleared (cleared t (drop need v.chain)) freed)
         = emptied v w d.ready.valid hw (sym d.geometry_is) d.label d.others d.stays d.slot_once d.slot_in need new.0
-        (new.1 ∙ ap (λ (n : ℕ). take n v.chain ++ new.0) (sym need_free)) freed []
+        (new.1 ∙ ap (λ (n : ℕ). take n v.chain ++ new.0) (sym (need_free need pl.need_is))) freed []
         (λ x. let a = old_slots x in omega arith) (λ x. let a = old_slots x in omega arith) (λ x. omega arith)
         (λ x p z. record { first = refl; third = refl }) m from at staying t d.ready.bytes in
         let e : t₃ ≡ cleared (cleared t (drop need v.chain)) freed
@@ -116,6 +123,6 @@ module _ {g : Geometry} {t m s : List ℕ} {lo slot third : ℕ} (d : Left g t m
           w,
           is_w,
           e₄ ∙ finished w hw from (free_from m (tracks g) at) t₃ p.left staying.rest
-              (st.left_is ok d.others left_shown ∙ empty_of w s' (λ k u. let a = st.shown ok d.others left_shown k u in omega arith))
+              (st.left_is d.others left_shown ∙ empty_of w s' (λ k u. let a = st.shown d.others left_shown k u in omega arith))
               (subst (Pending w (drop from w.chain ++ (0 ∷ []))) (sym e) p₀),
         )

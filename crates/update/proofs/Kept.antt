@@ -179,8 +179,8 @@ same_chain c c' ks was need e f =
     let j = min was need in
     ap (take j) (sym e ∙ sym f) ∙ take-take j was c' (omega arith) ∙ sym (take-take j need c' (omega arith))
 
-pub common_low : (n was need j : ℕ) (c : List ℕ) → j ≡ min was need → was ≤ length c → All (λ k. k < n) (take was c) → (j ≤ length c) × All (λ k. k < n) (take j c)
-common_low n was need j c e u a = (omega arith, subst (All (λ k. k < n)) (take-take j was c (omega arith)) (All_take (λ k. k < n) j (take was c) a))
+pub common_low : (n was need j : ℕ) (c : List ℕ) → j ≡ min was need → All (λ k. k < n) (take was c) → All (λ k. k < n) (take j c)
+common_low n was need j c e a = subst (All (λ k. k < n)) (take-take j was c (omega arith)) (All_take (λ k. k < n) j (take was c) a)
 
 -- the place is one of the chain, and of the map
 pub place_in : (t c : List ℕ) (was need lo from at : ℕ) → Reached t (take (min was need) c) lo from at → from ≤ need

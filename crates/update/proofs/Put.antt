@@ -1,7 +1,7 @@
 -- A data set put or changed: slots settled and records written make the volume that `settle_with` leaves. Assumes nothing.
 use mathlib.Core.Path.{◌≡◌, refl, sym, ap, ap₂, ◌∙◌, subst}
 use mathlib.Core.Bool.{Bool, true, false, cond}
-use mathlib.Core.Option.{none, some}
+use mathlib.Core.Option.{Option, none, some}
 use mathlib.Core.List.{List, [], ◌∷◌, ◌++◌}
 use Prim.Native.Nat.{ℕ, zero, suc, ◌+◌, ◌*◌, ◌≤◌, ◌<◌, min}
 use native.Mathlib.Nat.{lt_of_not-le}
@@ -31,11 +31,11 @@ use Rattle.bitmap.proofs.Held.{free_gaps}
 use Rattle.check_label.specs.Marks.{units}
 use Rattle.dscb_write.specs.Labels.{Format3}
 use Rattle.check_table.proofs.Unused.{count_unused}
-use Rattle.settle_slots.specs.Settling.{Settles}
+use Rattle.settle_slots.specs.Settling.{Chained, Settles}
 use Rattle.update.proofs.Started.{alike_come}
 use Rattle.update.specs.Writing.{Reached, cleared, fives_put, four_put, label_put}
 use Rattle.update.proofs.Changed.{label_pending}
-use Rattle.update.specs.Commit.{Draft, Leaves, Plans}
+use Rattle.update.specs.Commit.{Draft, Leaves, NoPlan, Plans}
 use Rattle.update.proofs.Core.{emptied, finished, settled_chain}
 use Rattle.update.proofs.Kept.{Stay, same_chain, stay}
 
@@ -127,22 +127,7 @@ pub slots_eq : (slot slot' third third' x : ℕ) → slot ≡ slot' → third �
 slots_eq slot slot' third third' x a b = rw (a, b) (sum_append (λ y. bit (eqb y x)) (one_slot slot') (one_slot third'))
 
 module _ {g : Geometry} {t m s : List ℕ} {lo slot third : ℕ} {few : Bool} (d : Draft g t m s lo slot third few)
-    {asked : ℕ} (Asked-is : asked ≡ asks slot + cond few 0 (asks third)) {s' c' : List ℕ} {p : Plan} (pl : Plans g t m s s' c' lo asked p) where
-  abbrev c : List ℕ
-  c = pl.read
-
-  abbrev d' : List ℕ
-  d' = p.given
-
-  abbrev was : ℕ
-  was = p.was
-
-  abbrev need : ℕ
-  need = p.need
-
-  abbrev st : Settles g s s' c c' pl.none d' was need asked p.left p.fits
-  st = pl.settles
-
+    {asked : ℕ} (Asked-is : asked ≡ asks slot + cond few 0 (asks third)) where
   abbrev v : Volume
   v = d.volume
 
@@ -155,47 +140,74 @@ module _ {g : Geometry} {t m s : List ℕ} {lo slot third : ℕ} {few : Bool} (d
   abbrev draft : List Label
   draft = l ∷ d.others
 
-  abbrev ks : List ℕ
-  ks = take asked d'
-
-  abbrev w : Volume
-  w = record { geometry = g; labels = insert_label (placed ks l) d.others; chain = take need c' }
-
   sound : Sound (chop (slots g) t) v
   sound = subst (λ (x : Geometry). Sound (chop (slots x) t) v) d.geometry_is d.ready.sound
-
-  pub read_chain : take was c ≡ v.chain
-  read_chain = pl.chained.chain v d.geometry_is sound
-
-  pub shown : Shows s (slots g) (units (used draft (take was c)))
-  shown = subst (λ (x : List ℕ). Shows s (slots g) (units (used draft x))) (sym read_chain) d.shown_slots
-
-  need_free : need ≡ fives_for (length (free g draft))
-  need_free = pl.need_is ∙ ap (λ (f : List Run). fives_for (length f)) (free_of g m draft d.shown_tracks)
 
   asked_here : asked ≡ asked_by l
   asked_here = Asked-is ∙ asked_eq few (few_extents l₀) slot l₀.slot third l₀.slot3 d.slot_is d.slot3_is d.few_is
 
-  outcome : settle_with v d.others l₀ ≡ cond p.fits (some w) none
-  outcome =
-      ap (λ (x : Geometry). settle x v.chain draft (asked_by l) (λ js. insert_label (placed js l) d.others)) d.geometry_is
-      ∙ ap (λ (n : ℕ). settle g v.chain draft n (λ js. insert_label (placed js l) d.others)) (sym asked_here)
-      ∙ ap (λ (x : List ℕ). settle g x draft asked (λ js. insert_label (placed js l) d.others)) (sym read_chain)
-      ∙ st.done draft need_free shown (λ js. insert_label (placed js l) d.others)
+  need_free : (need : ℕ) → need ≡ fives_for (length (free_from m (tracks g) 0)) → need ≡ fives_for (length (free g draft))
+  need_free need e = e ∙ ap (λ (f : List Run). fives_for (length f)) (free_of g m draft d.shown_tracks)
 
-  pub put_full : p.fits ≡ false → settle_with v d.others l₀ ≡ none
-  put_full e = outcome ∙ rw e
+  -- the chain as it was read
+  module _ {blank c : List ℕ} {was : ℕ} (chained : Chained g t blank c was) where
+    chain_is : take was c ≡ v.chain
+    chain_is = chained.chain v d.geometry_is sound
 
-  module _ (ok : p.fits ≡ true) where
+    slots_shown : Shows s (slots g) (units (used draft (take was c)))
+    slots_shown = subst (λ (x : List ℕ). Shows s (slots g) (units (used draft x))) (sym chain_is) d.shown_slots
+
+    outcome : (o : Option Volume) → settle g (take was c) draft asked (λ js. insert_label (placed js l) d.others) ≡ o → settle_with v d.others l₀ ≡ o
+    outcome o e =
+        ap (λ (x : Geometry). settle x v.chain draft (asked_by l) (λ js. insert_label (placed js l) d.others)) d.geometry_is
+        ∙ ap (λ (n : ℕ). settle g v.chain draft n (λ js. insert_label (placed js l) d.others)) (sym asked_here)
+        ∙ ap (λ (x : List ℕ). settle g x draft asked (λ js. insert_label (placed js l) d.others)) (sym chain_is)
+        ∙ e
+
+  -- no plan: the VTOC is full
+  pub put_full : {s' c' : List ℕ} → NoPlan g t m s s' c' asked → settle_with v d.others l₀ ≡ none
+  put_full n = outcome n.chained none (n.lacks.done draft (need_free n.need n.need_is) (slots_shown n.chained) (λ js. insert_label (placed js l) d.others))
+
+  module _ {s' c' : List ℕ} {p : Plan} (pl : Plans g t m s s' c' lo asked p) where
+    abbrev c : List ℕ
+    c = pl.read
+
+    abbrev d' : List ℕ
+    d' = p.given
+
+    abbrev was : ℕ
+    was = p.was
+
+    abbrev need : ℕ
+    need = p.need
+
+    abbrev ks : List ℕ
+    ks = take asked d'
+
+    abbrev st : Settles g s s' c c' ks was need asked p.left
+    st = pl.settles
+
+    abbrev w : Volume
+    w = record { geometry = g; labels = insert_label (placed ks l) d.others; chain = take need c' }
+
+    pub read_chain : take was c ≡ v.chain
+    read_chain = chain_is pl.chained
+
+    pub shown : Shows s (slots g) (units (used draft (take was c)))
+    shown = slots_shown pl.chained
+
+    settled : settle g (take was c) draft asked (λ js. insert_label (placed js l) d.others) ≡ some w
+    settled = st.done draft (need_free need pl.need_is) shown (λ js. insert_label (placed js l) d.others)
+
     -- the volume that is left: there is one
     pub is_w : settle_with v d.others l₀ ≡ some w
-    is_w = outcome ∙ rw ok
+    is_w = outcome pl.chained (some w) settled
 
     hw : Valid w
     hw = d.valid w is_w
 
     given : (k : ℕ) → k < slots g → free_bit s' k + (tally k (used draft (take need c')) + tally k ks) ≡ 1
-    given = st.shown ok draft shown
+    given = st.shown draft shown
 
     -- the slots of the label, as the code has them
     abbrev k : ℕ
@@ -230,7 +242,6 @@ module _ {g : Geometry} {t m s : List ℕ} {lo slot third : ℕ} {few : Bool} (d
         long : min asked (length d') ≡ asked_by l
         long =
             let a = asks_most few slot third in
-            let b = st.long_given in
             let h = pl.two in
             let e = asked_here in
             omega arith
@@ -306,13 +317,13 @@ module _ {g : Geometry} {t m s : List ℕ} {lo slot third : ℕ} {few : Bool} (d
     old_slots x = slots_eq slot l₀.slot third l₀.slot3 x d.slot_is d.slot3_is
 
     start : settle g v.chain draft asked (λ js. insert_label (placed js l) d.others) ≡ some w
-    start = ap (λ (x : List ℕ). settle g x draft asked (λ js. insert_label (placed js l) d.others)) (sym read_chain) ∙ st.done draft need_free shown (λ js. insert_label (placed js l) d.others) ∙ rw ok
+    start = ap (λ (x : List ℕ). settle g x draft asked (λ js. insert_label (placed js l) d.others)) (sym read_chain) ∙ settled
 
     left_eq : p.left ≡ total (free_from s' (slots g) 0)
-    left_eq = st.left_is ok draft shown
+    left_eq = st.left_is draft shown
 
     pub chain_inside : All (λ x. x < slots g) (take need c')
-    chain_inside = st.inside ok draft shown
+    chain_inside = st.inside draft shown
 
     abbrev from : ℕ
     from = p.from
@@ -345,7 +356,7 @@ module _ {g : Geometry} {t m s : List ℕ} {lo slot third : ℕ} {few : Bool} (d
           (subst (Rattle.update.specs.Pending.Pending w (drop from w.chain ++ (0 ∷ []))) (sym e)
           (label_pending w hw l₀ k q d.others labels_are k_inside q_inside (drop from w.chain ++ (0 ∷ [])) _ three (λ u. three_is q refl u)
           (emptied v w d.ready.valid hw (sym d.geometry_is) l₀ d.others d.stays d.slot_once d.slot_in need new.0
-          (new.1 ∙ ap (λ (n : ℕ). take n v.chain ++ new.0) (sym need_free))
+          (new.1 ∙ ap (λ (n : ℕ). take n v.chain ++ new.0) (sym (need_free need pl.need_is)))
           (one_slot (cond few third 0)) (k ∷ one_slot q)
           (λ x. let a = old_slots x in let b = freed_in few third x in omega arith)
           (λ x. let a = old_slots x in let b = first_in slot (get_or d' 0 0) x in let f = third_in few third (get_or d' (asks slot) 0) x in omega arith)

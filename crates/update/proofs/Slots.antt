@@ -4,8 +4,8 @@ use mathlib.Core.List.{List, [], ◌∷◌, ◌++◌}
 use Prim.Native.Nat.{ℕ, zero, suc, ◌+◌, ◌-◌, ◌*◌, ◌≤◌, ◌<◌}
 use native.Mathlib.Numerals.{add-one}
 use native.Mathlib.Omega.{arith}
-use lib.ListN.{length, take, drop, get_or, length-take, drop_of_length-le, get_or-eq_default}
-use lib.Seq.{drop-cons, drop-drop, get_or-take, slice, slice-cons}
+use lib.ListN.{length, take, drop, get_or, drop_of_length-le}
+use lib.Seq.{drop-cons, drop-drop}
 use borrow.Rule.Slice.PartMut.{put_mid}
 use Rattle.model.specs.Basics.{get2, zeros}
 use Rattle.model.specs.Model.{Geometry, Label, Run, one_slot, tracks}
@@ -22,34 +22,32 @@ use Rattle.update.specs.Writing.{Reached, chain_entry, cleared, fives_put, label
 
 -- ---- zeros
 
-slice_next : (c : List ℕ) (i b : ℕ) → i < b → b ≤ length c → slice i b c ≡ get_or c i 0 ∷ slice (i + 1) b c
-slice_next c i b u v = slice-cons i b c 0 u v ∙ ap (λ (j : ℕ). get_or c i 0 ∷ slice j b c) (sym (add-one i))
+drop_next : (c : List ℕ) (i : ℕ) → i < length c → drop i c ≡ get_or c i 0 ∷ drop (i + 1) c
+drop_next c i u = drop-cons c i 0 u ∙ ap (λ (j : ℕ). get_or c i 0 ∷ drop j c) (sym (add-one i))
 
-pub record Clearing (t₀ c : List ℕ) (a b : ℕ) (t : List ℕ) (i : ℕ) : Type 0 where
+-- i of the slots c have been cleared
+pub record Clearing (t₀ c t : List ℕ) (i : ℕ) : Type 0 where
   pub long : length t ≡ length t₀
-  pub inside : All (λ k. 140 * k + 140 ≤ length t₀) (slice i b c)
-  pub rest : cleared t (slice i b c) ≡ cleared t₀ (slice a b c)
+  pub inside : All (λ k. 140 * k + 140 ≤ length t₀) (drop i c)
+  pub rest : cleared t (drop i c) ≡ cleared t₀ c
 
-pub clear_begin : (t c : List ℕ) (a b : ℕ) → All (λ k. 140 * k + 140 ≤ length t) (slice a b c) → Clearing t c a b t a
-clear_begin t c a b h = record { long = refl; inside = h; rest = refl }
-
-module _ (t₀ c : List ℕ) (a b : ℕ) (t : List ℕ) (i : ℕ) (s : Clearing t₀ c a b t i) (u : i < b) (v : b ≤ length c) where
-  here : All (λ k. 140 * k + 140 ≤ length t₀) (get_or c i 0 ∷ slice (i + 1) b c)
-  here = rw (slice_next c i b u v) at s.inside
+module _ (t₀ c t : List ℕ) (i : ℕ) (s : Clearing t₀ c t i) (u : i < length c) where
+  here : All (λ k. 140 * k + 140 ≤ length t₀) (get_or c i 0 ∷ drop (i + 1) c)
+  here = rw (drop_next c i u) at s.inside
 
   pub clear_slot : 140 * get_or c i 0 + 140 ≤ length t
   clear_slot = let h = here.0 in let l = s.long in omega arith
 
-  clear_rest : cleared (put_record t (get_or c i 0) (zeros 140)) (slice (i + 1) b c) ≡ cleared t₀ (slice a b c)
+  clear_rest : cleared (put_record t (get_or c i 0) (zeros 140)) (drop (i + 1) c) ≡ cleared t₀ c
   unfolding cleared
-  clear_rest = sym (ap (cleared t) (slice_next c i b u v)) ∙ s.rest
+  clear_rest = sym (ap (cleared t) (drop_next c i u)) ∙ s.rest
 
-  pub clear_next : Clearing t₀ c a b (put_record t (get_or c i 0) (zeros 140)) (i + 1)
+  pub clear_next : Clearing t₀ c (put_record t (get_or c i 0) (zeros 140)) (i + 1)
   clear_next = record { long = put_length t (get_or c i 0) (zeros 140) refl clear_slot ∙ s.long; inside = here.1; rest = clear_rest }
 
-pub clear_end : (t₀ c : List ℕ) (a b : ℕ) (t : List ℕ) (i : ℕ) → Clearing t₀ c a b t i → b ≤ i → t ≡ cleared t₀ (slice a b c)
+pub clear_end : (t₀ c t : List ℕ) (i : ℕ) → Clearing t₀ c t i → length c ≤ i → t ≡ cleared t₀ c
 unfolding cleared
-clear_end t₀ c a b t i s h = ap (cleared t) (sym (drop_of_length-le (take b c) {i = i} (let e = length-take b c in omega arith))) ∙ s.rest
+clear_end t₀ c t i s h = ap (cleared t) (sym (drop_of_length-le c {i = i} h)) ∙ s.rest
 
 pub clear_none : (t : List ℕ) (k : ℕ) → k ≡ 0 → t ≡ cleared t (one_slot k)
 unfolding cleared
@@ -76,22 +74,11 @@ label_both g t k (suc q) l one three n f = ap (λ (r : List ℕ). put_record (pu
 
 -- ---- the chain
 
-pub entry_in : (c : List ℕ) (i n : ℕ) → i < n → n ≤ length c → get_or c i 0 ≡ chain_entry (take n c) i
-unfolding chain_entry
-entry_in c i n u v = sym (get_or-take n c i 0 u)
-
-pub entry_past : (c : List ℕ) (i n : ℕ) → n ≤ i → 0 ≡ chain_entry (take n c) i
-unfolding chain_entry
-entry_past c i n u = sym (get_or-eq_default (take n c) 0 {n = i} (let e = length-take n c in omega arith))
-
-pub record Chaining (g : Geometry) (m ks t₀ t : List ℕ) (from start at i : ℕ) : Type 0 where
+pub record Chaining (g : Geometry) (m ks t₀ t : List ℕ) (start at i : ℕ) : Type 0 where
   pub up_to : i ≤ length ks
   pub at_up : at ≤ tracks g
   pub long : length t ≡ length t₀
-  pub rest : fives_put g t (fives (drop i ks) (free_from m (tracks g) at)) ≡ fives_put g t₀ (fives (drop from ks) (free_from m (tracks g) start))
-
-pub chain_begin : (g : Geometry) (m ks t : List ℕ) (from start : ℕ) → from ≤ length ks → start ≤ tracks g → Chaining g m ks t t from start start from
-chain_begin g m ks t from start u v = record { up_to = u; at_up = v; long = refl; rest = refl }
+  pub rest : fives_put g t (fives (drop i ks) (free_from m (tracks g) at)) ≡ fives_put g t₀ (fives ks (free_from m (tracks g) start))
 
 pub chain_entry_is : (ks : List ℕ) (i : ℕ) → get_or ks i 0 ≡ chain_entry ks i
 unfolding chain_entry
@@ -115,12 +102,12 @@ one_more : (g : Geometry) (t : List ℕ) (k : ℕ) (ks : List ℕ) (f : List Run
 unfolding fives_put
 one_more g t k ks f = refl
 
-module _ (g : Geometry) (m ks t₀ t : List ℕ) (from start at i : ℕ) (s : Chaining g m ks t₀ t from start at i) (u : i < length ks)
+module _ (g : Geometry) (m ks t₀ t : List ℕ) (start at i : ℕ) (s : Chaining g m ks t₀ t start at i) (u : i < length ks)
     (made : List ℕ) (next : ℕ) (f : Fills g m (tracks g) at (chain_entry ks (i + 1)) made next) where
   abbrev free : List Run
   free = free_from m (tracks g) at
 
-  pub chain_next : 140 * chain_entry ks i + 140 ≤ length t → Chaining g m ks t₀ (put_record t (chain_entry ks i) made) from start next (i + 1)
+  pub chain_next : 140 * chain_entry ks i + 140 ≤ length t → Chaining g m ks t₀ (put_record t (chain_entry ks i) made) start next (i + 1)
   chain_next fits =
       record {
         up_to = omega arith;
@@ -130,9 +117,9 @@ module _ (g : Geometry) (m ks t₀ t : List ℕ) (from start at i : ℕ) (s : Ch
       }
     where
       first : drop i ks ≡ chain_entry ks i ∷ drop (i + 1) ks
-      first = drop-cons ks i 0 u ∙ ap (λ (k : ℕ). k ∷ drop (suc i) ks) (chain_entry_is ks i) ∙ ap (λ (j : ℕ). chain_entry ks i ∷ drop j ks) (sym (add-one i))
+      first = drop_next ks i u ∙ ap (λ (k : ℕ). k ∷ drop (i + 1) ks) (chain_entry_is ks i)
 
-      rest_law : fives_put g (put_record t (chain_entry ks i) made) (fives (drop (i + 1) ks) (free_from m (tracks g) next)) ≡ fives_put g t₀ (fives (drop from ks) (free_from m (tracks g) start))
+      rest_law : fives_put g (put_record t (chain_entry ks i) made) (fives (drop (i + 1) ks) (free_from m (tracks g) next)) ≡ fives_put g t₀ (fives ks (free_from m (tracks g) start))
       rest_law =
           ap (λ (r : List ℕ). fives_put g (put_record t (chain_entry ks i) r) (fives (drop (i + 1) ks) (free_from m (tracks g) next)))
           (f.bytes ∙ ap (format5 g (take 26 free)) (sym (head_is ks (i + 1))))
@@ -145,10 +132,10 @@ module _ (g : Geometry) (m ks t₀ t : List ℕ) (from start at i : ℕ) (s : Ch
 pub fills_told : (g : Geometry) (m : List ℕ) (t t' at k k' : ℕ) (made : List ℕ) (next : ℕ) → t ≡ t' → k ≡ k' → Fills g m t at k made next → Fills g m t' at k' made next
 fills_told g m t t' at k k' made next e h f = subst (λ (j : ℕ). Fills g m t' at j made next) h (subst (λ (n : ℕ). Fills g m n at k made next) e f)
 
-pub chain_end : (g : Geometry) (m ks t₀ t : List ℕ) (from start at i : ℕ) → Chaining g m ks t₀ t from start at i → length ks ≤ i
-    → t ≡ fives_put g t₀ (fives (drop from ks) (free_from m (tracks g) start))
+pub chain_end : (g : Geometry) (m ks t₀ t : List ℕ) (start at i : ℕ) → Chaining g m ks t₀ t start at i → length ks ≤ i
+    → t ≡ fives_put g t₀ (fives ks (free_from m (tracks g) start))
 unfolding fives_put
-chain_end g m ks t₀ t from start at i s u = ap (λ (x : List ℕ). fives_put g t (fives x (free_from m (tracks g) at))) (sym (drop_of_length-le ks {i = i} u)) ∙ s.rest
+chain_end g m ks t₀ t start at i s u = ap (λ (x : List ℕ). fives_put g t (fives x (free_from m (tracks g) at))) (sym (drop_of_length-le ks {i = i} u)) ∙ s.rest
 
 -- `&mut t[a..e]`, the record of slot k, was lent and is back as p
 pub put_part : (t p : List ℕ) (k a : ℕ) → a ≡ 140 * k → put_mid a (a + 140 - a) t p ≡ put_record t k p
@@ -159,15 +146,11 @@ put_part t p k a x =
 
 -- ---- where it begins to be written
 
-pub reached_first : (t ks : List ℕ) (lo : ℕ) → Reached t ks lo 0 0
-reached_first t ks lo = record { none = λ _. refl; inside = λ u. absurd (omega arith); start = λ u. absurd (omega arith); low = λ u. absurd (omega arith) }
-
-pub reached_next : (t c rec : List ℕ) (n lo i k start : ℕ) → n ≤ length c → i + 1 < n → k ≡ chain_entry (take n c) (i + 1) → rec ≡ slot_bytes t k → start ≡ get2 rec 4 → start ≤ lo
-    → Reached t (take n c) lo (i + 1) start
-reached_next t c rec n lo i k start l u ek er es v =
+pub reached_next : (t c rec : List ℕ) (lo i start : ℕ) → 1 ≤ i → i < length c → rec ≡ slot_bytes t (get_or c i 0) → start ≡ get2 rec 4 → start ≤ lo → Reached t c lo i start
+reached_next t c rec lo i start p u er es v =
     record {
       none = λ z. absurd (omega arith);
-      inside = λ _. let q = length-take n c in omega arith;
-      start = λ _. es ∙ ap (λ (r : List ℕ). get2 r 4) (er ∙ ap (slot_bytes t) ek);
+      inside = λ _. u;
+      start = λ _. es ∙ ap (λ (r : List ℕ). get2 r 4) (er ∙ ap (slot_bytes t) (chain_entry_is c i));
       low = λ _. v;
     }

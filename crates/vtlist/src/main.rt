@@ -1,40 +1,20 @@
 // vtlist: prints the listing of the table on standard input, or one line, `E` and the refusal.
 #![tactic(auto)]
 
-ghost use Rattle.std.specs.Prelude.{◌≤◌, length};
-
+use full_read::read_full;
 use std::io::Read;
 
-// Room for the listing of any table.
-fn room() -> [u8; 1000000] {
-    [0; 1000000]
-}
-
-// Reads until buf is full, the input ends or a read fails; answers how many bytes came.
-fn read_full(input: &mut impl Read, buf: &mut [u8]) -> usize
-    ensures { result ≤ length buf.new }
-{
-    let mut done = 0;
-    while done < buf.len() {
-        match input.read(&mut buf[done..]) {
-            Ok(0) | Err(_) => break,
-            Ok(n) => done += n,
-        }
-    }
-    done
-}
-
-// Reads on, and tells whether anything came.
-fn more_came(input: &mut impl Read) -> bool {
-    let mut rest = [0u8; 65536];
-    read_full(input, &mut rest) > 0
+// Room for the listing of any table. A function of its own: with the array in `main` the check runs out of stack.
+fn room() -> [u8; 1_000_000] {
+    [0; 1_000_000]
 }
 
 // Reads what is left of the input. A proved loop has to end, and nothing says that an input does: so there is a number of turns,
 // one that no run uses up.
 fn read_rest(input: &mut impl Read) {
+    let mut rest = [0u8; 65536];
     for _ in 0..u64::MAX {
-        if !more_came(input) {
+        if read_full(input, &mut rest) == 0 {
             break;
         }
     }

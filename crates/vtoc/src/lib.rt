@@ -6,6 +6,8 @@
 
 ghost use Rattle.rules.specs.Promises.{Allocates, DateToPacked, DateToStored, Extends, Initialises, Inquires, Obtains, PreviewsAllocate, PreviewsExtend, PreviewsRelease, PreviewsScratch, Releases, Renames, Scratches};
 
+use refusals::number_of;
+
 // Initialises a volume of c cylinders with h tracks each, and a VTOC of v tracks from track s on with d records a track. The
 // result is that of `initialise`: 1 geometry, 2 length. The table is then `encode (fresh g)`, a volume with no data set, and
 // the answer 24 zeros.
@@ -21,7 +23,7 @@ pub extern "C" fn vtoc_initialise(
 ) -> u32
     ensures { Initialises table.old c h d s v answer.old result table.new answer.new }
 {
-    call_initialise::initialise(table, c, h, d, s, v, answer)
+    number_of(call_initialise::initialise(table, c, h, d, s, v, answer))
 }
 
 // Allocates tracks to a new data set, by an option: 0 none, 1 CONTIG, 2 MXIG, 3 ALX, and with an expiry date: four zero bytes for none.
@@ -43,9 +45,9 @@ pub extern "C" fn vtoc_allocate(
 ) -> u32
     ensures { Allocates table.old name.now attributes.now kind start amount secondary option expiry.now answer.old result table.new answer.new }
 {
-    call_allocate::allocate(
+    number_of(call_allocate::allocate(
         table, name, attributes, kind, start, amount, secondary, option, expiry, answer,
-    )
+    ))
 }
 
 // Extends a data set by its secondary amount. The refusals, in the order of `perform` and `rule`: 2, 3, 4, 5 not found,
@@ -54,7 +56,7 @@ pub extern "C" fn vtoc_allocate(
 pub extern "C" fn vtoc_extend(table: &mut [u8], name: &[u8], answer: &mut [u8]) -> u32
     ensures { Extends table.old name.now answer.old result table.new answer.new }
 {
-    call_extend::extend(table, name, answer)
+    number_of(call_extend::extend(table, name, answer))
 }
 
 // Releases the tracks behind the last block, ttr. The refusals, in the order of `perform` and `rule`: 2, 3, 4, 5 not
@@ -64,7 +66,7 @@ pub extern "C" fn vtoc_extend(table: &mut [u8], name: &[u8], answer: &mut [u8]) 
 pub extern "C" fn vtoc_release(table: &mut [u8], name: &[u8], ttr: u32, answer: &mut [u8]) -> u32
     ensures { Releases table.old name.now ttr answer.old result table.new answer.new }
 {
-    call_release::release(table, name, ttr, answer)
+    number_of(call_release::release(table, name, ttr, answer))
 }
 
 // Scratches a data set that has expired by today, or any with an override, which is any number but 0. The refusals, in the order of
@@ -80,7 +82,7 @@ pub extern "C" fn vtoc_scratch(
 ) -> u32
     ensures { Scratches table.old name.now today.now overriding answer.old result table.new answer.new }
 {
-    call_scratch::scratch(table, name, today, overriding, answer)
+    number_of(call_scratch::scratch(table, name, today, overriding, answer))
 }
 
 // Renames a data set. The refusals, in the order of `perform` and `rule`: 2, 3, 4 (either name), 5 not found (the old one),
@@ -90,7 +92,7 @@ pub extern "C" fn vtoc_scratch(
 pub extern "C" fn vtoc_rename(table: &mut [u8], old: &[u8], new: &[u8], answer: &mut [u8]) -> u32
     ensures { Renames table.old old.now new.now answer.old result table.new answer.new }
 {
-    call_rename::rename(table, old, new, answer)
+    number_of(call_rename::rename(table, old, new, answer))
 }
 
 // Obtains the labels of a data set. The refusals, in the order of `perform` and `rule`: 2, 3, 4, 5 not found. The 280 label
@@ -105,7 +107,7 @@ pub extern "C" fn vtoc_obtain(
 ) -> u32
     ensures { Obtains table.now name.now labels.old answer.old result labels.new answer.new }
 {
-    call_obtain::obtain(table, name, labels, answer)
+    number_of(call_obtain::obtain(table, name, labels, answer))
 }
 
 // Inquires about free space (LSPACE). The refusals, in the order of `perform`: 2, 3. The answer has the six numbers of
@@ -114,7 +116,7 @@ pub extern "C" fn vtoc_obtain(
 pub extern "C" fn vtoc_lspace(table: &[u8], answer: &mut [u8]) -> u32
     ensures { Inquires table.now answer.old result answer.new }
 {
-    call_lspace::lspace(table, answer)
+    number_of(call_lspace::lspace(table, answer))
 }
 
 // ---- previews: each answers as its call would on a copy of the table, refusals included, by `on_copy`; the table is only read
@@ -135,9 +137,9 @@ pub extern "C" fn vtoc_preview_allocate(
 ) -> u32
     ensures { PreviewsAllocate table.now name.now attributes.now kind start amount secondary option expiry.now answer.old result answer.new }
 {
-    call_allocate::preview(
+    number_of(call_allocate::preview(
         table, name, attributes, kind, start, amount, secondary, option, expiry, answer,
-    )
+    ))
 }
 
 // What `vtoc_extend` would grant.
@@ -145,7 +147,7 @@ pub extern "C" fn vtoc_preview_allocate(
 pub extern "C" fn vtoc_preview_extend(table: &[u8], name: &[u8], answer: &mut [u8]) -> u32
     ensures { PreviewsExtend table.now name.now answer.old result answer.new }
 {
-    call_extend::preview(table, name, answer)
+    number_of(call_extend::preview(table, name, answer))
 }
 
 // What `vtoc_release` would give back.
@@ -158,7 +160,7 @@ pub extern "C" fn vtoc_preview_release(
 ) -> u32
     ensures { PreviewsRelease table.now name.now ttr answer.old result answer.new }
 {
-    call_release::preview(table, name, ttr, answer)
+    number_of(call_release::preview(table, name, ttr, answer))
 }
 
 // What `vtoc_scratch` would give back.
@@ -172,7 +174,7 @@ pub extern "C" fn vtoc_preview_scratch(
 ) -> u32
     ensures { PreviewsScratch table.now name.now today.now overriding answer.old result answer.new }
 {
-    call_scratch::preview(table, name, today, overriding, answer)
+    number_of(call_scratch::preview(table, name, today, overriding, answer))
 }
 
 // ---- dates, which have no table. The refusals: 2 length, 14 date. The answer is `answer (date_bytes ..)`: the other form, then zeros
@@ -182,7 +184,7 @@ pub extern "C" fn vtoc_preview_scratch(
 pub extern "C" fn vtoc_date_to_stored(packed: &[u8], answer: &mut [u8]) -> u32
     ensures { DateToStored packed.now answer.old result answer.new }
 {
-    call_dates::date_to_stored(packed, answer)
+    number_of(call_dates::date_to_stored(packed, answer))
 }
 
 // Converts the three bytes of a label to a packed date.
@@ -190,5 +192,5 @@ pub extern "C" fn vtoc_date_to_stored(packed: &[u8], answer: &mut [u8]) -> u32
 pub extern "C" fn vtoc_date_to_packed(stored: &[u8], answer: &mut [u8]) -> u32
     ensures { DateToPacked stored.now answer.old result answer.new }
 {
-    call_dates::date_to_packed(stored, answer)
+    number_of(call_dates::date_to_packed(stored, answer))
 }

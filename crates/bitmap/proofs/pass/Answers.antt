@@ -5,4 +5,4 @@ pub returns : goal.returns
 returns c =
     let a = c.args in
     let p = c.pass_fours-r.ensures in
-    unlike_on a.map.now a.plain a.w a.e c.pass_fours-r.result _ _ p.0 p.2 c.pass_ones.ensures
+    unlike_on a.map.now a.plain a.w a.e c.pass_fours-r.result c.pass_ones.result p.0 p.2 c.pass_ones.ensures

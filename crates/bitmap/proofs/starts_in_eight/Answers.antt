@@ -10,7 +10,7 @@ overflow_cast-count c = omega (arith, starts_few _ _ _ c.starts.ensures)
 pub loop-i-init : goal.loop-i-init
 loop-i-init c =
     let a = c.args in
-    (omega arith, omega arith, c.requires.0, omega (arith, starts_few _ _ _ c.starts.ensures), word_runs a.map.now a.w a.y c.starts.result c.requires.1 c.starts.ensures)
+    (omega (arith, starts_few _ _ _ c.starts.ensures), word_runs a.map.now a.w a.y c.starts.result c.requires.1 c.starts.ensures)
 
 pub overflow_cast-count-in-loop-i : goal.overflow_cast-count-in-loop-i
 overflow_cast-count-in-loop-i c = omega (arith, starts_few _ _ _ c.starts-in-loop-i.ensures)
@@ -22,11 +22,11 @@ pub loop-i-preserved : goal.loop-i-preserved
 loop-i-preserved c =
     let l = c.loop-i in
     let a = c.args in
-    (omega arith, omega arith, l.invariant.2, omega (arith, starts_few _ _ _ c.starts-in-loop-i.ensures), starts_more a.map.now a.w l.i l.count c.starts-in-loop-i.result l.invariant.0 l.invariant.4 c.starts-in-loop-i.ensures)
+    (omega (arith, starts_few _ _ _ c.starts-in-loop-i.ensures), starts_more a.map.now a.w l.i l.count c.starts-in-loop-i.result (omega arith) l.invariant.1 c.starts-in-loop-i.ensures)
 
 pub returns : goal.returns
 returns c =
     let l = c.loop-i in
     let a = c.args in
     let e : 64 * a.w + 64 * l.i ≡ 64 * a.w + 512 = omega arith in
-    rw e at l.invariant.4
+    rw e at l.invariant.1

@@ -13,7 +13,7 @@ returns-then-x-a-ne0 c =
       long = refl;
       were = λ r. clash r refl;
       made = λ r. clash r refl;
-      hit = λ _. far_hit a.map.now a.s a.e _ _ p.0 p.1 p.2 c.mask-a.ensures c.mask-b.ensures c.if-x-a-ne0.true;
+      hit = λ _. far_hit a.map.now a.s a.e _ _ p.0 p.1 p.2 c.mask-a.ensures c.mask-b.ensures (rw (c.from-w.ensures, c.from-v.ensures) at c.if-x-a-ne0.true);
     }
 
 pub bounds-map-v-2 : goal.bounds-map-v-2
@@ -26,10 +26,10 @@ pub shape_of-map : goal.shape_of-map
 shape_of-map c =
     let a = c.args in
     let p = c.requires in
-    (far_took a.map.now a.s a.e _ _ p.0 p.1 p.2 c.mask-a.ensures c.mask-b.ensures c.if-x-a-ne0.false _ _ c.take_words.ensures).long
+    (far_took a.map.now a.s a.e _ _ p.0 p.1 p.2 c.mask-a.ensures c.mask-b.ensures (rw (c.from-w.ensures, c.from-v.ensures) at c.if-x-a-ne0.false) _ _ (rw (c.from-w.ensures, c.from-v.ensures) at c.take_words.ensures)).long
 
 pub returns : goal.returns
 returns c =
     let a = c.args in
     let p = c.requires in
-    far_took a.map.now a.s a.e _ _ p.0 p.1 p.2 c.mask-a.ensures c.mask-b.ensures c.if-x-a-ne0.false _ _ c.take_words.ensures
+    far_took a.map.now a.s a.e _ _ p.0 p.1 p.2 c.mask-a.ensures c.mask-b.ensures (rw (c.from-w.ensures, c.from-v.ensures) at c.if-x-a-ne0.false) _ _ (rw (c.from-w.ensures, c.from-v.ensures) at c.take_words.ensures)

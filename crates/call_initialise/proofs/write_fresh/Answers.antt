@@ -10,5 +10,5 @@ pub returns : goal.returns
 returns c =
     let n : length c.fresh_five-five.result ≡ 140 = search rules in
     let m : length c.four-four.result ≡ 140 = search rules in
-    fresh_written (geometry_of c.args.g) c.requires.0 c.args.table.now _ _ _ c.fresh_five-five.result c.four-four.result _ c.requires.1 c.erase.ensures c.fresh_five-five.ensures n c.put_record.ensures
+    fresh_written (geometry_of c.args.g) c.args.g.in_limits c.args.table.now _ _ _ c.fresh_five-five.result c.four-four.result _ c.requires (c.fill.ensures.after (λ y h. h)) c.fresh_five-five.ensures n c.put_record.ensures
     (ap (λ (k : ℕ). k - 2) c.slots.ensures.0) c.four-four.ensures m c.put_record-2.ensures

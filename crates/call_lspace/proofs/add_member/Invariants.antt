@@ -1,5 +1,5 @@
 use mathlib.Core.List.{List}
-use Prim.Native.Nat.{ℕ, ◌≤◌, ◌+◌, ◌-◌, ◌*◌}
+use Prim.Native.Nat.{ℕ, ◌≤◌, ◌+◌, ◌*◌}
 use lib.ListN.{drop}
 use Rattle.model.specs.Model.{Run}
 use Rattle.free_extents.specs.FreeList.{Entries}
@@ -9,8 +9,5 @@ use Rattle.call_lspace.proofs.add_member.Given as goal
 
 abbrev pub invariant-loop-j : goal.invariant-loop-j
 invariant-loop-j l =
-    (l.j ≤ 26) × ((n : ℕ) → 16711680 ≤ n → Below n l.initial.s → Below (n + l.j * 16711680) l.s)
+    ((n : ℕ) → 16711680 ≤ n → Below n l.initial.s → Below (n + l.j * 16711680) l.s)
     × ((f : List Run) (r : Sums) → Entries l.h l.rec f → Summed l.h (drop l.j f) l.s r → Summed l.h f l.initial.s r)
-
-abbrev pub decreases-loop-j : goal.decreases-loop-j
-decreases-loop-j l = 26 - l.j

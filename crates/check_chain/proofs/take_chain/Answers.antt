@@ -1,37 +1,49 @@
-use mathlib.Core.Path.{refl, ◌∙◌}
-use mathlib.Core.Bool.{true, false}
-use native.Mathlib.Omega.{arith}
+use mathlib.Core.Path.{ap, ◌∙◌, subst}
+use Rattle.std.specs.Prelude.{Option, Some, false, true}
+use Rattle.model.specs.Model.{tracks}
 use Rattle.dscb.specs.Forms.{geometry_of}
+use Rattle.bitmap.specs.Map.{free_from}
+use Rattle.check_chain.specs.declared.Member.{Member}
+use Rattle.check_chain.specs.declared.Member.TheVariants.{Next}
+use Rattle.check_chain.specs.Chain.{Held}
 use Rattle.check_chain.proofs.Laws.{fewer, go_on, gone_bad, gone_last}
+use Rattle.check_chain.proofs.take_chain.Goals.{In-Some-Next}
 use Rattle.check_chain.proofs.take_chain.Goals as goal
 
-pub loop-g-init : goal.loop-g-init
-loop-g-init c = (omega (arith, c.requires.0.least), omega arith, refl, λ s r x. x)
+pub returns-in-None : goal.returns-in-None
+returns-in-None c =
+    let g = geometry_of c.args.g in
+    let f = free_from c.args.free_tracks.now (tracks g) c.loop-slot.at in
+    let h = subst (λ (r : Option Member). Held g c.args.table.now c.args.free_tracks.now f c.loop-slot.k c.loop-slot.free_slots c.take_member.new.free_slots r) c.in-None.is c.take_member.ensures in
+    c.loop-slot.invariant.3 _ false (gone_bad g c.args.table.now c.args.free_tracks.now f c.loop-slot.k c.loop-slot.invariant.0 c.loop-slot.free_slots c.take_member.new.free_slots h)
 
-pub take_member-m-requires : goal.take_member-m-requires
-take_member-m-requires c =
-    let l = c.loop-g.invariant in
-    (c.requires.0, c.requires.1, l.0, l.1, c.requires.2, l.2 ∙ c.requires.3, c.requires.4)
+pub returns-in-Some-Last : goal.returns-in-Some-Last
+returns-in-Some-Last c =
+    let g = geometry_of c.args.g in
+    let f = free_from c.args.free_tracks.now (tracks g) c.loop-slot.at in
+    let h = subst (λ (r : Option Member). Held g c.args.table.now c.args.free_tracks.now f c.loop-slot.k c.loop-slot.free_slots c.take_member.new.free_slots r) (c.in-Some-Last.is ∙ ap Some c.in-Some-Last.field-0-is) c.take_member.ensures in
+    c.loop-slot.invariant.3 _ true (gone_last g c.args.table.now c.args.free_tracks.now f c.loop-slot.k c.loop-slot.invariant.0 c.loop-slot.free_slots c.take_member.new.free_slots h)
 
-pub returns-else-m : goal.returns-else-m
-returns-else-m c =
-    let l = c.loop-g.invariant in
-    l.3 _ false (gone_bad (geometry_of c.args.g) c.args.table.now c.args.free_tracks.now _ c.loop-g.k l.0 c.loop-g.free_slots _ c.take_member-m.result c.take_member-m.ensures c.if-m.false)
+-- the member, and that the chain goes on
+held : (c : In-Some-Next) → Held (geometry_of c.args.g) c.args.table.now c.args.free_tracks.now (free_from c.args.free_tracks.now (tracks (geometry_of c.args.g)) c.loop-slot.at) c.loop-slot.k c.loop-slot.free_slots c.take_member.new.free_slots (Some (Next c.in-Some-Next.slot c.in-Some-Next.behind))
+held c =
+    let g = geometry_of c.args.g in
+    let f = free_from c.args.free_tracks.now (tracks g) c.loop-slot.at in
+    subst (λ (r : Option Member). Held g c.args.table.now c.args.free_tracks.now f c.loop-slot.k c.loop-slot.free_slots c.take_member.new.free_slots r) (c.in-Some-Next.is ∙ ap Some c.in-Some-Next.field-0-is) c.take_member.ensures
 
-pub returns-then-m-2 : goal.returns-then-m-2
-returns-then-m-2 c =
-    let l = c.loop-g.invariant in
-    l.3 _ true (gone_last (geometry_of c.args.g) c.args.table.now c.args.free_tracks.now _ c.loop-g.k l.0 c.loop-g.free_slots _ c.take_member-m.result c.take_member-m.ensures c.if-m.true c.if-m-2.true)
+pub loop-slot-smaller : goal.loop-slot-smaller
+loop-slot-smaller c =
+    let g = geometry_of c.args.g in
+    fewer g c.args.table.now c.args.free_tracks.now (free_from c.args.free_tracks.now (tracks g) c.loop-slot.at) c.loop-slot.k c.loop-slot.invariant.0 c.loop-slot.free_slots c.take_member.new.free_slots c.in-Some-Next.slot c.in-Some-Next.behind
+    (held (goal.at.loop-slot-smaller c).In-Some-Next)
 
-pub loop-g-smaller : goal.loop-g-smaller
-loop-g-smaller c =
-    fewer (geometry_of c.args.g) c.args.table.now c.args.free_tracks.now _ c.loop-g.k c.loop-g.free_slots _ c.take_member-m.result c.take_member-m.ensures c.if-m.true c.if-m-2.false
-
-pub loop-g-preserved : goal.loop-g-preserved
-loop-g-preserved c =
-    let l = c.loop-g.invariant in (
-      c.take_member-m.ensures.inside c.if-m.true,
-      c.take_member-m.ensures.up_to c.if-m.true,
-      c.take_member-m.ensures.long ∙ l.2,
-      λ s r x. l.3 s r (go_on (geometry_of c.args.g) c.args.table.now c.args.free_tracks.now _ c.loop-g.k l.0 c.loop-g.free_slots _ c.take_member-m.result c.take_member-m.ensures c.if-m.true c.if-m-2.false s r x),
+pub loop-slot-preserved : goal.loop-slot-preserved
+loop-slot-preserved c =
+    let g = geometry_of c.args.g in
+    let l = c.loop-slot.invariant in
+    let h = held (goal.at.loop-slot-preserved c).In-Some-Next in (
+      h.told.behind.inside,
+      h.told.behind.up_to,
+      h.long ∙ l.2,
+      λ s r x. l.3 s r (go_on g c.args.table.now c.args.free_tracks.now (free_from c.args.free_tracks.now (tracks g) c.loop-slot.at) c.loop-slot.k l.0 c.loop-slot.free_slots c.take_member.new.free_slots c.in-Some-Next.slot c.in-Some-Next.behind h s r x),
     )

@@ -4,5 +4,5 @@ use Rattle.check_table.proofs.begin_maps.Goals as goal
 
 pub returns : goal.returns
 returns c =
-    maps_begun (geometry_of c.args.g) c.requires.0 c.args.free_tracks.now _ _ c.take_range-vtoc.result c.take_range-label.result c.requires.1 c.take_range-vtoc.ensures c.take_range-label.ensures
+    maps_begun (geometry_of c.args.g) c.args.g.in_limits c.args.free_tracks.now _ _ c.take_range-vtoc.result c.take_range-label.result c.requires.0 c.take_range-vtoc.ensures c.take_range-label.ensures
     c.args.free_slots.now _ _ c.take_range-first.result c.slots.result c.slots.ensures.0 c.free_below.ensures c.take_range-first.ensures

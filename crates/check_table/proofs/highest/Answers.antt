@@ -1,22 +1,18 @@
-use mathlib.Core.Path.{refl, sym, ◌∙◌}
+use mathlib.Core.Path.{sym, ◌∙◌}
 use Prim.Native.Nat.{◌-◌}
-use native.Mathlib.Nat.{le_refl}
 use native.Mathlib.Omega.{arith}
 use Rattle.check_table.proofs.Unused.{highest_hit, highest_miss, highest_none}
 use Rattle.check_table.proofs.highest.Goals as goal
 
-pub loop-k-init : goal.loop-k-init
-loop-k-init c = (le_refl _, refl)
-
 pub returns-then-rec : goal.returns-then-rec
 returns-then-rec c =
     let u = c.loop-k-test.true in
-    sym (c.loop-k.invariant.1 ∙ highest_hit _ _ c.loop-k.k (c.loop-k.k - 1) (omega arith) c.record_at-rec.ensures.0 c.if-rec.true)
+    sym (c.loop-k.invariant ∙ highest_hit _ _ c.loop-k.k (c.loop-k.k - 1) (omega arith) c.record_at-rec.ensures.0 c.if-rec.true)
 
 pub loop-k-preserved : goal.loop-k-preserved
 loop-k-preserved c =
     let u = c.loop-k-test.true in
-    (omega arith, c.loop-k.invariant.1 ∙ highest_miss _ _ c.loop-k.k (c.loop-k.k - 1) (omega arith) c.record_at-rec.ensures.0 c.if-rec.false)
+    c.loop-k.invariant ∙ highest_miss _ _ c.loop-k.k (c.loop-k.k - 1) (omega arith) c.record_at-rec.ensures.0 c.if-rec.false
 
 pub returns : goal.returns
-returns c = sym (c.loop-k.invariant.1 ∙ highest_none _ c.loop-k.k (omega arith))
+returns c = sym (c.loop-k.invariant ∙ highest_none _ c.loop-k.k (omega arith))

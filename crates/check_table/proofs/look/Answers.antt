@@ -15,7 +15,7 @@ returns-then-rec c =
 
 pub take_label-requires : goal.take_label-requires
 take_label-requires c =
-    (record { limits = c.requires.0; long = c.requires.1; low = c.requires.2; high = c.requires.3; id = ap (λ (x : List ℕ). get_or x 44 0) (sym c.record_at-rec.ensures.0) ∙ c.if-rec.false }, c.requires.4, c.requires.5)
+    (record { limits = c.args.g.in_limits; long = c.requires.0; low = c.requires.1; high = c.requires.2; id = ap (λ (x : List ℕ). get_or x 44 0) (sym c.record_at-rec.ensures.0) ∙ c.if-rec.false }, c.requires.3, c.requires.4)
 
 pub returns : goal.returns
 returns c =

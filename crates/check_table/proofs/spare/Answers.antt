@@ -1,17 +1,7 @@
 use mathlib.Core.Path.{sym, ◌∙◌}
 use native.Mathlib.Omega.{arith}
-use Rattle.bitmap.proofs.Walk.{goes_on}
-use Rattle.check_table.proofs.Unused.{run_total, zero_next, zero_not, spared_all, spared_not}
+use Rattle.check_table.proofs.Unused.{run_total, zero_next, zero_not, spared_all}
 use Rattle.check_table.proofs.spare.Goals as goal
-
-pub loop-at-init : goal.loop-at-init
-loop-at-init c = (omega arith, omega arith, omega arith, λ k h. absurd (omega arith))
-
-pub loop-at-smaller : goal.loop-at-smaller
-loop-at-smaller c =
-    let r = c.next_run-free.ensures in
-    let h = r.high in
-    omega (arith, goes_on r c.loop-at-test.true)
 
 pub loop-at-preserved : goal.loop-at-preserved
 loop-at-preserved c =
@@ -21,13 +11,13 @@ loop-at-preserved c =
     let h = r.high in
     let i = c.loop-at.invariant in
     let e = run_total r in
-    (h, omega arith, omega (arith, i.2), zero_next c.args.table.now r c.requires.0 (sym c.part_is.ensures ∙ c.if-part_is.true) i.3)
+    let all = rw (c.from-from.ensures, c.from-c.ensures) at c.part_is.ensures in
+    rw c.from-at.ensures (h, omega arith, omega (arith, i.2), zero_next c.args.table.now r c.requires.0 (sym all ∙ c.if-not-part_is.false) i.3)
 
-pub returns-else-part_is : goal.returns-else-part_is
-returns-else-part_is c =
-    let r = c.next_run-free.ensures in
-    let i = c.loop-at.invariant in
-    spared_not c.args.table.now c.args.free_slots.now c.args.n c.loop-at.count (omega arith) (zero_not c.args.table.now r c.requires.0 (sym c.part_is.ensures ∙ c.if-part_is.false))
+pub returns-then-not-part_is : goal.returns-then-not-part_is
+returns-then-not-part_is c =
+    let all = rw (c.from-from.ensures, c.from-c.ensures) at c.part_is.ensures in
+    zero_not c.args.table.now c.next_run-free.ensures c.requires.0 (sym all ∙ c.if-not-part_is.true)
 
 pub returns : goal.returns
 returns c =

@@ -1,4 +1,3 @@
-use Prim.Native.Nat.{◌+◌, ◌-◌, ◌/◌}
 use native.Mathlib.Omega.{arith}
 use Rattle.choose_pieces.proofs.Bounds.{whole_is, whole_one}
 use Rattle.choose_pieces.proofs.whole.Goals as goal
@@ -6,9 +5,5 @@ use Rattle.choose_pieces.proofs.whole.Goals as goal
 pub returns-then-u-eq1 : goal.returns-then-u-eq1
 returns-then-u-eq1 c = whole_one c.args.u c.args.from c.args.to (omega arith) c.if-u-eq1.true
 
-pub returns-then-end-start : goal.returns-then-end-start
-returns-then-end-start c = whole_is c.args.u c.args.from c.args.to 0 (omega arith) (omega arith)
-
 pub returns : goal.returns
-returns c =
-    whole_is c.args.u c.args.from c.args.to (c.args.to / c.args.u - (c.args.from + c.args.u - 1) / c.args.u) (omega arith) (omega arith)
+returns c = whole_is c.args.u c.args.from c.args.to c.saturating_sub.result (omega arith) c.saturating_sub.ensures

@@ -8,4 +8,4 @@ use Rattle.dscb.proofs.link.Goals as goal
 pub returns : goal.returns
 returns c =
     let g = geometry_of c.args.g in
-    (c.slot_of.ensures, subst (λ (k : ℕ). k < slots g) (sym c.slot_of.ensures) (linked_below g c.args.rec.now c.requires.1))
+    (c.slot_of.ensures, subst (λ (k : ℕ). k < slots g) (sym c.slot_of.ensures) (linked_below g c.args.rec.now c.args.g.in_limits))

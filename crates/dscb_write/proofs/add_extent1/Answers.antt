@@ -1,7 +1,6 @@
 use mathlib.Core.Path.{subst, sym}
 use mathlib.Core.List.{List}
 use Prim.Native.Nat.{ℕ}
-use native.Mathlib.Omega.{arith}
 use lib.ListN.{length-set}
 use Rattle.model.specs.Model.{extent, run}
 use Rattle.dscb.specs.Forms.{geometry_of}
@@ -9,11 +8,6 @@ use Rattle.dscb_write.proofs.Putting.{put_keeps}
 use Rattle.dscb_write.specs.Labels.{Format1, with_extent}
 use Rattle.dscb_write.proofs.Format1.{more_in_one, more_past_one}
 use Rattle.dscb_write.proofs.add_extent1.Goals as goal
-
-pub put_extent-requires : goal.put_extent-requires
-put_extent-requires c =
-    let p = c.requires in
-    (simp length-set p.0, omega arith, p.1, p.2, p.3, p.4)
 
 pub returns-then-n-lt3 : goal.returns-then-n-lt3
 returns-then-n-lt3 c =
@@ -24,8 +18,8 @@ returns-then-n-lt3 c =
       put_keeps _ _ _ _ 140 c.put_extent.ensures (simp length-set c.requires.0),
     )
 
-pub returns : goal.returns
-returns c =
+pub returns-else-n-lt3 : goal.returns-else-n-lt3
+returns-else-n-lt3 c =
     let a = c.args in (
       λ l k f. more_past_one (geometry_of a.g) l a.rec.now f (extent a.type_byte (run a.start a.count)) a.n k c.if-n-lt3.false,
       simp length-set c.requires.0,

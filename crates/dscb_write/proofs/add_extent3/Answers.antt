@@ -12,9 +12,9 @@ returns-then-n-lt7 c =
       put_keeps _ _ _ _ 140 c.put_extent.ensures c.requires.0,
     )
 
-pub returns : goal.returns
-returns c =
+pub returns-else-n-lt7 : goal.returns-else-n-lt7
+returns-else-n-lt7 c =
     let a = c.args in (
-      λ l k f. c.put_extent-2.ensures ∙ more_past_three (geometry_of a.g) l a.rec.now f (extent a.type_byte (run a.start a.count)) a.n k c.if-n-lt7.false c.requires.2,
-      put_keeps _ _ _ _ 140 c.put_extent-2.ensures c.requires.0,
+      λ l k f. c.put_extent-else-n-lt7.ensures ∙ more_past_three (geometry_of a.g) l a.rec.now f (extent a.type_byte (run a.start a.count)) a.n k c.if-n-lt7.false c.requires.2,
+      put_keeps _ _ _ _ 140 c.put_extent-else-n-lt7.ensures c.requires.0,
     )

@@ -14,7 +14,7 @@ returns-then-n-lt3 c =
       put_keeps _ _ _ _ 140 c.put_same.ensures (simp length-set c.requires.0),
     )
 
-pub returns : goal.returns
-returns c =
+pub returns-else-n-lt3 : goal.returns-else-n-lt3
+returns-else-n-lt3 c =
     let a = c.args in
     (λ g l k f. first_past_one g l a.rec.now f a.n k c.if-n-lt3.false, simp length-set c.requires.0)

@@ -1,15 +1,11 @@
 use mathlib.Core.Path.{◌∙◌, ap}
 use mathlib.Core.List.{List}
 use Prim.Native.Nat.{ℕ}
-use native.Mathlib.Omega.{arith}
 use Rattle.model.specs.Basics.{zeros}
 use Rattle.dscb_write.specs.Put.{put_at}
 use Rattle.dscb_write.proofs.Putting.{put_keeps}
 use Rattle.dscb_write.proofs.Format3.{first_in_three, first_past_three}
 use Rattle.dscb_write.proofs.keep_extents3.Goals as goal
-
-pub put_same-requires-then-n-lt7 : goal.put_same-requires-then-n-lt7
-put_same-requires-then-n-lt7 c = (put_keeps _ _ _ _ 140 c.put_same.ensures c.requires.0, omega arith, omega arith)
 
 pub returns-then-n-lt7 : goal.returns-then-n-lt7
 returns-then-n-lt7 c =
@@ -18,9 +14,9 @@ returns-then-n-lt7 c =
       put_keeps _ _ _ _ 140 c.put_same-then-n-lt7.ensures (put_keeps _ _ _ _ 140 c.put_same.ensures c.requires.0),
     )
 
-pub returns : goal.returns
-returns c =
+pub returns-else-n-lt7 : goal.returns-else-n-lt7
+returns-else-n-lt7 c =
     let a = c.args in (
-      λ g l f. c.put_same-2.ensures ∙ first_past_three g l a.rec.now f a.n c.if-n-lt7.false c.requires.2,
-      put_keeps _ _ _ _ 140 c.put_same-2.ensures c.requires.0,
+      λ g l f. c.put_same-else-n-lt7.ensures ∙ first_past_three g l a.rec.now f a.n c.if-n-lt7.false c.requires.2,
+      put_keeps _ _ _ _ 140 c.put_same-else-n-lt7.ensures c.requires.0,
     )

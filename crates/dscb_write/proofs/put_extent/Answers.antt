@@ -1,16 +1,11 @@
 use mathlib.Core.Path.{◌∙◌, ap, refl}
 use mathlib.Core.List.{List}
 use Prim.Native.Nat.{ℕ, ◌+◌, ◌-◌}
-use native.Mathlib.Omega.{arith}
-use lib.ListN.{length-set}
 use Rattle.rules.specs.Layout.{cchh}
 use Rattle.dscb.specs.Forms.{geometry_of}
 use Rattle.dscb_write.specs.Put.{put_at}
-use Rattle.dscb_write.proofs.Putting.{put_behind, put_keeps}
+use Rattle.dscb_write.proofs.Putting.{put_behind}
 use Rattle.dscb_write.proofs.put_extent.Goals as goal
-
-pub put_track-requires-2 : goal.put_track-requires-2
-put_track-requires-2 c = (put_keeps _ _ _ _ 140 c.put_track.ensures (simp length-set c.requires.0), omega arith, c.requires.5)
 
 pub returns : goal.returns
 returns c =

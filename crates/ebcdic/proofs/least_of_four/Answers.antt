@@ -3,4 +3,4 @@ use Rattle.ebcdic.proofs.Pairs.{four_is}
 use Rattle.ebcdic.proofs.least_of_four.Goals as goal
 
 pub returns : goal.returns
-returns c = c.lesser.ensures ∙ four_is c.args.name.now c.args.i _ _ c.lesser-a.ensures c.lesser-b.ensures
+returns c = c.min.ensures ∙ four_is c.args.name.now c.args.i _ _ c.min-a.ensures c.min-b.ensures

@@ -6,5 +6,5 @@ use Rattle.ebcdic.proofs.misfit.Goals as goal
 pub returns : goal.returns
 returns c =
     let a = c.args in
-    let h = c.shared_slice_known-3-1.given (a.i + 1) in
+    let h = c.type_inv.name (a.i + 1) in
     pair_is a.name.now a.i c.wanted_after.result c.class_of.result (omega arith) c.wanted_after.ensures c.class_of.ensures

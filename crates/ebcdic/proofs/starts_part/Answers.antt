@@ -6,5 +6,5 @@ use Rattle.ebcdic.proofs.starts_part.Goals as goal
 pub returns-then-c-ge192 : goal.returns-then-c-ge192
 returns-then-c-ge192 c = c.has.ensures ∙ starts_high c.args.c c.if-c-ge192.true (omega arith)
 
-pub returns : goal.returns
-returns c = c.has_low.ensures ∙ starts_low c.args.c (omega (arith, c.if-c-ge192.false))
+pub returns-else-c-ge192 : goal.returns-else-c-ge192
+returns-else-c-ge192 c = c.has_low.ensures ∙ starts_low c.args.c (omega (arith, c.if-c-ge192.false))

@@ -19,5 +19,5 @@ pub returns-then-odd-h : goal.returns-then-odd-h
 returns-then-odd-h c =
     (refl, omega (arith, most c.args.cylinders c.args.h (omega arith) c.requires.3), sym (digits_div c.args.cylinders c.if-odd-h.true), sym (digits_mod c.args.cylinders c.if-odd-h.true))
 
-pub returns : goal.returns
-returns c = (refl, omega (arith, most c.args.cylinders c.args.h (omega arith) c.requires.3), refl, refl)
+pub returns-else-odd-h : goal.returns-else-odd-h
+returns-else-odd-h c = (refl, omega (arith, most c.args.cylinders c.args.h (omega arith) c.requires.3), refl, refl)

@@ -12,4 +12,4 @@ returns c =
     let t = c.args.table.now in
     let k = c.args.k in
     let e : c.link.result ≡ link_named g t k = next_named g t c.record_at.result.now k c.link.result c.record_at.ensures.0 c.link.ensures.0 in
-    (c.link.ensures.1, λ n f x. subst (λ (r : ℕ). Lists g t n r (drop 26 f)) (sym e) (lists_next g t k f n c.requires.0 x))
+    (c.link.ensures.1, λ n f x. subst (λ (r : ℕ). Lists g t n r (drop 26 f)) (sym e) (lists_next g t k f n c.args.g.in_limits x))

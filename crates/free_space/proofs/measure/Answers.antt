@@ -9,7 +9,7 @@ spread_of-x-requires c =
     let three = c.record_at-f3 in
     let link = c.link-slot3 in
     let x = c.requires.by_index in
-    set_of (geometry_of a.g) a.table.now x.0 x.1 a.k x.2 one.result.now three.result.now _ link.result one.ensures.0 three.ensures.0 three.ensures.1 c.wide-count.ensures.0 link.ensures.0
+    set_of (geometry_of a.g) a.table.now x.0 x.1 a.k x.2 one.result.now three.result.now _ link.result one.ensures.0 three.ensures.0 three.ensures.1 c.from-count.ensures link.ensures.0
 
 pub returns : goal.returns
 returns c =
@@ -17,4 +17,4 @@ returns c =
     let one = c.record_at-f1 in
     let three = c.record_at-f3 in
     let link = c.link-slot3 in
-    λ m s d. measured (geometry_of a.g) a.table.now m s a.k d one.result.now three.result.now _ link.result one.ensures.0 three.ensures.0 three.ensures.1 c.wide-count.ensures.0 link.ensures.0 _ _ c.spread_of-x.ensures
+    λ m s d. measured (geometry_of a.g) a.table.now m s a.k d one.result.now three.result.now _ link.result one.ensures.0 three.ensures.0 three.ensures.1 c.from-count.ensures link.ensures.0 _ _ c.spread_of-x.ensures

@@ -7,19 +7,29 @@ pub give_back-requires : goal.give_back-requires
 give_back-requires c =
     let p = c.requires.limits in
     let y = c.measure-set.ensures _ _ c.requires.at in
-    record { table_len = (p.1, slot_inside y p.5, slot3_inside _ _ _ _ _ c.requires.at _ y, p.2); set_in = y.stored.set }
+    record { table_len = (p.0, slot_inside y p.4, slot3_inside _ _ _ _ _ c.requires.at _ y, p.1); set_in = y.stored.set }
 
 pub free_slot-requires-2 : goal.free_slot-requires-2
 free_slot-requires-2 c =
     let a = slot3_inside _ _ _ _ _ c.requires.at _ (c.measure-set.ensures _ _ c.requires.at) in
-    let e = c.requires.limits.0.most in
-    (c.free_slot.ensures.long ∙ c.requires.limits.3, omega arith)
+    let e = c.args.g.in_limits.most in
+    (c.free_slot.ensures.long ∙ c.requires.limits.2, omega arith)
 
-pub plan_slots-plan-requires : goal.plan_slots-plan-requires
-plan_slots-plan-requires c =
-    let p = c.requires.limits in
-    let h = c.give_back.ensures.0.long in
-    (p.0, p.1, omega (arith, p.2, h), c.free_slot-2.ensures.long ∙ (c.free_slot.ensures.long ∙ p.3), p.4, omega arith)
+pub returns-in_err-plan : goal.returns-in_err-plan
+returns-in_err-plan c =
+    rw c.from_residual.ensures
+    (λ d. (
+      c.measure-set.result,
+      record {
+        one_freed = _;
+        both_freed = _;
+        measured = c.measure-set.ensures _ _ d;
+        tail = c.give_back.ensures.0;
+        first = c.free_slot.ensures;
+        third = c.free_slot-2.ensures;
+        plan = c.in_err-plan.ensures;
+      },
+    ))
 
 pub returns : goal.returns
 returns c =
@@ -30,5 +40,5 @@ returns c =
       tail = c.give_back.ensures.0;
       first = c.free_slot.ensures;
       third = c.free_slot-2.ensures;
-      plan = c.plan_slots-plan.ensures;
+      plan = c.in_ok-plan.ensures;
     }

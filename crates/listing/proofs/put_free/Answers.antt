@@ -6,4 +6,4 @@ returns-then-from-to c = no_span c.args.from c.args.to c.args.out.now c.args.at 
 
 pub returns : goal.returns
 returns c =
-    one_span c.args.from c.args.to c.args.out.now c.free_line-n.new.out c.args.at c.free_line-n.result c.if-from-to.false c.requires.0 c.free_line-n.ensures
+    one_span c.args.from c.args.to c.args.out.now c.free_line-n.new.out c.args.at c.free_line-n.result c.if-from-to.false c.requires.0 (rw (c.from.ensures, c.from-2.ensures) at c.free_line-n.ensures)

@@ -1,14 +1,11 @@
-use Prim.Native.Nat.{ℕ}
-use mathlib.Core.Path.{◌≡◌, sym, ◌∙◌, ap}
+use mathlib.Core.Path.{sym}
 use native.Mathlib.Omega.{arith}
-use Rattle.model.specs.Model.{overs, total}
-use Rattle.rules.specs.Reading.{read_extents}
 use Rattle.listing.proofs.Extents.{total_none, ten_bytes, proper_ten, sum_next}
 use borrow.Author.Rules.{rules}
 use Rattle.listing.proofs.tracks_of.Goals as goal
 
 pub loop-e-init : goal.loop-e-init
-loop-e-init c = (search rules, sym (total_none c.args.heads c.args.f1.now c.args.f3.now), search rules)
+loop-e-init c = (sym (total_none c.args.heads c.args.f1.now c.args.f3.now), search rules)
 
 pub tracks_in-sum-requires : goal.tracks_in-sum-requires
 tracks_in-sum-requires c =
@@ -21,12 +18,6 @@ tracks_in-sum-requires c =
 
 pub loop-e-preserved : goal.loop-e-preserved
 loop-e-preserved c = (
-  omega arith,
-  sum_next c.args.heads c.args.f1.now c.args.f3.now c.extent_part.result.now c.loop-e.e c.extent_part.ensures c.loop-e.sum c.tracks_in-sum.result c.loop-e.invariant.1 c.tracks_in-sum.ensures.0,
+  sum_next c.args.heads c.args.f1.now c.args.f3.now c.extent_part.result.now c.loop-e.e c.extent_part.ensures c.loop-e.sum c.tracks_in-sum.result c.loop-e.invariant.0 c.tracks_in-sum.ensures.0,
   omega (arith, c.tracks_in-sum.ensures.1),
 )
-
-pub returns : goal.returns
-returns c =
-    let q : c.loop-e.e ≡ c.args.n = omega arith in
-    c.loop-e.invariant.1 ∙ ap (λ (k : ℕ). total (overs (read_extents c.args.heads c.args.f1.now c.args.f3.now k))) q

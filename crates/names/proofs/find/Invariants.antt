@@ -1,10 +1,7 @@
 use Rattle.names.specs.Find.{find_slot, first_named}
-use Prim.Native.Nat.{◌≤◌, ◌-◌}
+use Prim.Native.Nat.{◌-◌}
 use mathlib.Core.Path.{◌≡◌}
 use Rattle.names.proofs.find.Given as goal
 
 abbrev pub invariant-loop-k : goal.invariant-loop-k
-invariant-loop-k l = (find_slot l.table l.name l.n ≡ first_named l.table l.name l.k (l.n - l.k)) × (l.k ≤ l.n)
-
-abbrev pub decreases-loop-k : goal.decreases-loop-k
-decreases-loop-k l = l.n - l.k
+invariant-loop-k l = find_slot l.table l.name l.n ≡ first_named l.table l.name l.k (l.n - l.k)

@@ -1,10 +1,7 @@
-use Prim.Native.Nat.{◌≤◌, ◌-◌}
+use Prim.Native.Nat.{◌-◌}
 use lib.ListN.{length, replicate}
 use Rattle.rows.proofs.Eights.{Compared}
 use Rattle.rows.proofs.all_are.Given as goal
 
 abbrev pub invariant-loop-i : goal.invariant-loop-i
-invariant-loop-i l = (l.i ≤ length l.s) × Compared (length l.s - 8) l.s (replicate (length l.s) l.v) l.unlike l.i
-
-abbrev pub decreases-loop-i : goal.decreases-loop-i
-decreases-loop-i l = length l.s - l.i
+invariant-loop-i l = Compared (length l.s - 8) l.s (replicate (length l.s) l.v) l.unlike l.i

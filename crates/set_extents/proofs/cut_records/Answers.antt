@@ -23,7 +23,7 @@ add_extent-requires c =
     let u = c.if-k-eq0.false in
     let one = c.keep_extents1.ensures in
     let three = c.keep_third.ensures in
-    (one.1, three.1, p.3 (omega arith), omega arith, p.4, p.5)
+    (one.1, three.1, p.3 (omega arith), omega arith, p.4)
 
 pub returns : goal.returns
 returns c =

@@ -1,5 +1,5 @@
 use mathlib.Core.Path.{◌≡◌}
-use Prim.Native.Nat.{◌-◌, ◌≤◌}
+use Prim.Native.Nat.{◌-◌}
 use lib.ListN.{length, take}
 use Rattle.model.specs.Model.{overs, total}
 use Rattle.rules.specs.Reading.{read_extents}
@@ -7,7 +7,4 @@ use Rattle.set_extents.proofs.Cutting.{Giving}
 use Rattle.set_extents.proofs.give_behind.Given as goal
 
 abbrev pub invariant-loop-e : goal.invariant-loop-e
-invariant-loop-e l = (l.e ≤ l.n) × (length l.free_tracks ≡ length l.initial.free_tracks) × (l.left ≡ l.keep - total (overs (take l.e (read_extents l.g.heads l.f1 l.f3 l.n)))) × Giving l.keep (read_extents l.g.heads l.f1 l.f3 l.n) l.e l.initial.free_tracks l.free_tracks
-
-abbrev pub decreases-loop-e : goal.decreases-loop-e
-decreases-loop-e l = l.n - l.e
+invariant-loop-e l = (length l.free_tracks ≡ length l.initial.free_tracks) × (l.left ≡ l.keep - total (overs (take l.e (read_extents l.g.heads l.f1 l.f3 l.n)))) × Giving l.keep (read_extents l.g.heads l.f1 l.f3 l.n) l.e l.initial.free_tracks l.free_tracks

@@ -10,4 +10,4 @@ pub overflow_sub-h : goal.overflow_sub-h
 overflow_sub-h c = omega (arith, mod-lt c.args.start c.requires)
 
 pub returns : goal.returns
-returns c = omega (arith, c.lesser.ensures, room_some c.args.h c.requires c.args.start c.if-past-eq0.false)
+returns c = omega (arith, c.min.ensures, room_some c.args.h c.requires c.args.start c.if-past-eq0.false)

@@ -22,4 +22,4 @@ overflow_add-result c =
 
 pub returns : goal.returns
 returns c =
-    touches_is (geometry_of c.args.g) c.args.f1.now c.args.f3.now c.args.n c.requires _ _ c.extent_at-last.ensures (omega (arith, c.if-n-eq0.false)) _ _ c.piece_at-first.ensures.0
+    touches_is (geometry_of c.args.g) c.args.f1.now c.args.f3.now c.args.n c.requires _ _ c.extent_at-last.ensures (omega (arith, c.if-n-eq0.false)) _ _ c.from.ensures

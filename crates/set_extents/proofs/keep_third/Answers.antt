@@ -1,7 +1,7 @@
-use Rattle.set_extents.proofs.Cutting.{three_first}
+use Rattle.set_extents.proofs.Cutting.{three_kept}
 use Rattle.set_extents.proofs.keep_third.Goals as goal
 
-pub returns-then-n-le3 : goal.returns-then-n-le3
-returns-then-n-le3 c =
-    let a = c.args in
-    (λ g l f. three_first g a.n l _ c.if-n-le3.true (c.keep_extents3.ensures.0 g l f), c.keep_extents3.ensures.1)
+pub returns : goal.returns
+returns c =
+    let done = c.keep_extents3.ensures in
+    (λ g l f. three_kept g c.args.n c.max.result l _ c.max.ensures (done.0 g l f), done.1)

@@ -31,7 +31,7 @@ pub cut_records-requires : goal.cut_records-requires
 cut_records-requires c =
     let x = some_extent (geometry_of c.args.g) c.args.f1.now c.args.f3.now c.args.n c.requires.0 c.args.start c.requires.2 in
     let b = begins (geometry_of c.args.g) c.args.f1.now c.args.f3.now c.args.n c.requires.0 _ _ c.extent_at-last.ensures c.args.start c.requires.2 in
-    (c.requires.0.long1, c.requires.0.long3, omega (arith, c.requires.0.most), λ _. omega (arith, c.requires.0.most), omega (arith, c.requires.1), c.requires.0.limits)
+    (c.requires.0.long1, c.requires.0.long3, omega (arith, c.requires.0.most), λ _. omega (arith, c.requires.0.most), omega (arith, c.requires.1))
 
 pub returns : goal.returns
 returns c =
@@ -43,7 +43,7 @@ returns c =
     let full = last_full g a.f1.now a.f3.now a.n c.requires.0 _ _ last.ensures whole in (
       λ l own x.
           written_longer g a.f1.now a.f3.now a.n c.requires.0 _ _ last.ensures a.start c.requires.2 a.type_byte a.count _ (c.type_if.ensures a.g.heads) full l own
-          (done.0 l (fewer g a.f1.now a.f3.now a.n c.requires.0 l own) x),
+          (rw (c.from.ensures, c.from-2.ensures) at (done.0 l (fewer g a.f1.now a.f3.now a.n c.requires.0 l own) x)),
       done.1,
       done.2,
     )

@@ -1,10 +1,6 @@
-use Prim.Native.Nat.{◌-◌, ◌≤◌, max}
-use lib.Seq.{slice}
+use lib.ListN.{take}
 use Rattle.settle_slots.specs.Settling.{Gave}
 use Rattle.settle_slots.proofs.give_slots.Given as goal
 
-abbrev pub invariant-loop-i : goal.invariant-loop-i
-invariant-loop-i l = (l.a ≤ l.i) × (l.i ≤ max l.a l.b) × Gave l.initial.free_slots l.free_slots (slice l.a l.i l.chain)
-
-abbrev pub decreases-loop-i : goal.decreases-loop-i
-decreases-loop-i l = l.b - l.i
+abbrev pub invariant-loop-k : goal.invariant-loop-k
+invariant-loop-k l = Gave l.initial.free_slots l.free_slots (take l.k-index l.slots)

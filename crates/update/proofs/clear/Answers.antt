@@ -1,20 +1,9 @@
-use native.Mathlib.Omega.{arith}
-use Rattle.update.proofs.Slots.{clear_begin, clear_end, clear_next, clear_slot}
+use Rattle.update.proofs.Slots.{clear_end, clear_next}
 use Rattle.update.proofs.clear.Goals as goal
 
-pub loop-i-init : goal.loop-i-init
-loop-i-init c = clear_begin c.args.table.now c.args.list.now c.args.a c.args.b c.requires.1
-
-pub put_record-requires : goal.put_record-requires
-put_record-requires c =
-    rw c.index.ensures.0 (clear_slot c.args.table.now c.args.list.now c.args.a c.args.b c.loop-i.table c.loop-i.i c.loop-i.invariant (omega arith) c.requires.0)
-
-pub loop-i-preserved : goal.loop-i-preserved
-loop-i-preserved c =
-    rw (c.put_record.ensures, c.index.ensures.0) (clear_next c.args.table.now c.args.list.now c.args.a c.args.b c.loop-i.table c.loop-i.i c.loop-i.invariant (omega arith) c.requires.0)
-
-pub shape_of-table : goal.shape_of-table
-shape_of-table c = c.loop-i.invariant.long
+pub loop-k-preserved : goal.loop-k-preserved
+loop-k-preserved c =
+    rw (c.put_record.ensures, c.from.ensures) (clear_next c.args.table.now c.args.slots.now c.loop-k.table c.loop-k.k-index c.loop-k.invariant c.loop-k-test.true)
 
 pub returns : goal.returns
-returns c = clear_end c.args.table.now c.args.list.now c.args.a c.args.b c.loop-i.table c.loop-i.i c.loop-i.invariant (omega arith)
+returns c = clear_end c.args.table.now c.args.slots.now c.loop-k.table c.loop-k.k-index c.loop-k.invariant c.loop-k-test.false

@@ -6,8 +6,8 @@ use Rattle.update.proofs.put_four.Goals as goal
 pub four-four-requires : goal.four-four-requires
 four-four-requires c =
     let many = c.slots.ensures.0 in
-    let b = highest_below c.args.table.now c.slots.result (omega (arith, many, c.requires.0.least)) in
-    (omega (arith, many, c.highest-highest.ensures, b), c.requires.2, c.requires.0)
+    let b = highest_below c.args.table.now c.slots.result (omega (arith, many, c.args.g.in_limits.least)) in
+    (omega (arith, many, c.highest-highest.ensures, b), c.requires.1)
 
 pub returns : goal.returns
 unfolding four_put

@@ -1,8 +1,9 @@
+use mathlib.Core.Path.{◌∙◌}
 use Rattle.update.proofs.Small.{or_given, or_own}
 use Rattle.update.proofs.slot_or.Goals as goal
 
 pub returns-then-k-eq0 : goal.returns-then-k-eq0
-returns-then-k-eq0 c = or_given c.args.k c.args.given c.if-k-eq0.true
+returns-then-k-eq0 c = c.from.ensures ∙ or_given c.args.k c.args.given c.if-k-eq0.true
 
-pub returns : goal.returns
-returns c = or_own c.args.k c.args.given c.if-k-eq0.false
+pub returns-else-k-eq0 : goal.returns-else-k-eq0
+returns-else-k-eq0 c = or_own c.args.k c.args.given c.if-k-eq0.false

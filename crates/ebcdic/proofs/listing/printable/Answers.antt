@@ -5,4 +5,4 @@ use Rattle.ebcdic.proofs.listing.printable.Goals as goal
 
 pub returns : goal.returns
 unfolding table printable
-returns c = entry_printed table table_right c.args.b (omega arith)
+returns c = rw c.from.ensures (entry_printed table table_right c.args.b (omega arith))
