@@ -1,10 +1,11 @@
 // The chain of format 5s in a table, held against the map of free tracks.
 #![tactic(auto)]
 
-ghost use Rattle.std.specs.Prelude.{◌≡◌, ◌*◌, ◌/◌, ◌%◌, ◌≤◌, ◌<◌, length};
+ghost use Rattle.std.specs.Prelude.{◌≡◌, ◌*◌, ◌/◌, ◌%◌, ◌≤◌, ◌<◌, drop, length};
 ghost use Rattle.model.specs.Basics.{part};
 ghost use Rattle.model.specs.Model.{slots, tracks};
 ghost use Rattle.bitmap.specs.Map.{free_bit, free_from};
+ghost use Rattle.rows.specs.Words.{all_are};
 ghost use Rattle.dscb.specs.Forms.{geometry_of};
 ghost use Rattle.check_chain.specs.Chain.{ChainGone, Held};
 ghost use Rattle.check_chain.specs.Entries.{HoldsRuns, Rows, entry_ok, link_ok};
@@ -33,6 +34,16 @@ fn is_entry(x: &[u8], c: u16, h: u16, start: u16, count: u16) -> bool
     rows::two(x, 0) == start && whole * h + odd == count
 }
 
+// Whether zeros follow from place p on: no run is left. By itself and not inlined, since its loops would take registers from the one over
+// the entries, which turns far more often.
+#[inline(never)]
+fn none_from(x: &[u8], p: usize) -> bool
+    requires { p ≤ length x.now }
+    ensures { result ≡ all_are 0 (drop p x.now) }
+{
+    rows::all_are(&x[p..], 0)
+}
+
 // Whether the entries of x are the first runs of free tracks from track `at` on, and zeros where there are fewer: then the track from which
 // the other runs go on. The label track is not free, so no run is the whole volume. Only a place goes through x: to count the entries
 // besides costs more.
@@ -45,7 +56,7 @@ fn entries_are(x: &[u8], free_tracks: &[u64], n: u16, at: u16, g: Geometry) -> O
     for p in (0..x.len()).step_by(5) {
         let free = bitmap::run_ahead(free_tracks, t, n, seen);
         if free.from >= n {
-            return rows::all_are(&x[p..], 0).then_some(n);
+            return none_from(x, p).then_some(n);
         }
         let count = free.to - free.from;
         if !is_entry(&x[p..p + 5], g.cylinders, g.heads, free.from, count) {

@@ -5,14 +5,14 @@ use mathlib.Core.Option.{Option, none, some}
 use mathlib.Core.List.{List, [], ◌∷◌, ◌++◌, map}
 use Prim.Native.Nat.{ℕ, zero, suc, ◌+◌, ◌≤◌}
 use native.Mathlib.Omega.{arith}
-use borrow.Author.Tests.{leb-false}
-use lib.Dec.{eqb}
+use borrow.Author.Tests.{eq-eqb, eqb-false, eqb-true, le-leb, leb-false, lt-leb}
+use lib.Dec.{eqb, leb, leb→le}
 use lib.ListN.{length, drop, take, length-map}
 use lib.Seq.{take_all, take-append-le}
 use Rattle.model.specs.Basics.{all, bit, map_option, up_from}
 use Rattle.model.specs.Choice.{SpaceOption}
 use Rattle.model.specs.Model.{Extent, Geometry, Label, Run, Volume, covers, extent, free, held, overs, run, times, total, tracks}
-use Rattle.model.proofs.Lists.{by, sum_append}
+use Rattle.model.proofs.Lists.{and_l, and_r, by, sum_append, true_is}
 use Rattle.model.specs.Predicates.{All, Once}
 use Rattle.model.proofs.Runs.{Inside, balance}
 use Rattle.rules.specs.Calls.{Amount, Outcome, absolute, amount_of, given, in_cylinders, in_tracks, option_for, option_of, refuse, grant as granting}
@@ -46,6 +46,32 @@ unknown_asked zero start n option k e = rw (unknown_option option (leb-false opt
 unknown_asked (suc zero) start n option k e = rw (unknown_option option (leb-false option 3 e))
 unknown_asked (suc (suc zero)) start n option k e = rw (no_option_lem start n option (leb-false option 0 e))
 unknown_asked (suc (suc (suc j))) start n option k e = refl
+
+-- no option is above none
+pub none_only : (option : ℕ) → eqb option 0 ≡ leb option 0
+none_only option =
+    by (eqb option 0)
+    (λ h. let e = eqb-true option 0 h in h ∙ sym (le-leb option 0 (omega arith)))
+    (λ h. let e = eqb-false option 0 h in h ∙ sym (lt-leb option 0 (omega arith)))
+
+-- a kind and an option that are known
+pub known_kind : (kind option : ℕ) → is_known kind option ≡ true → kind ≤ 2
+known_kind kind option e = leb→le kind 2 (and_l (leb kind 2) (leb option (cond (eqb kind 2) 0 3)) (true_is e))
+
+most_option : (kind option : ℕ) → is_known kind option ≡ true → option ≤ cond (eqb kind 2) 0 3
+most_option kind option e = leb→le option (cond (eqb kind 2) 0 3) (and_r (leb kind 2) (leb option (cond (eqb kind 2) 0 3)) (true_is e))
+
+pub known_option : (kind option : ℕ) → is_known kind option ≡ true → option ≤ 3
+known_option kind option e =
+    by (eqb kind 2)
+    (λ h. let k : option ≤ 0 = rw h at (most_option kind option e) in omega arith)
+    (λ h. rw h at (most_option kind option e))
+
+-- the option of an absolute request
+pub absolute_option : (kind option : ℕ) → is_known kind option ≡ true → kind ≡ 2 → option ≡ 0
+absolute_option kind option e k =
+    let h : option ≤ 0 = rw (eq-eqb kind 2 k) at (most_option kind option e) in
+    omega arith
 
 -- a secondary amount that is not 0
 pub secondary_asks : (g : Geometry) (unit sec : ℕ) → 1 ≤ sec → Asks g (cond (eqb unit 0xC0) (in_cylinders sec) (in_tracks sec))

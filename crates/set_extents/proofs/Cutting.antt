@@ -246,7 +246,7 @@ few_first : (n : ℕ) (l : Label) → n ≤ 3 → length (first_extents n l).ext
 few_first n l h = let a = length-take n l.extents in omega arith
 
 -- no extent stands in the format 3 then, whichever of the first three stay
-three_first : (g : Geometry) (n : ℕ) (l : Label) (r : List ℕ) → n ≤ 3 → Format3 g (first_extents 3 l) r → Format3 g (first_extents n l) r
+pub three_first : (g : Geometry) (n : ℕ) (l : Label) (r : List ℕ) → n ≤ 3 → Format3 g (first_extents 3 l) r → Format3 g (first_extents n l) r
 three_first g n l r h f = f ∙ sym (three_none g (first_extents 3 l) (few_first 3 l (omega arith))) ∙ three_none g (first_extents n l) (few_first n l h)
 
 -- the format 3 of no fewer than three extents serves for fewer

@@ -133,6 +133,10 @@ module _ {n : ℕ} {s : List ℕ} {a b : ℕ} (x : NextRun s n 0 a b) where
         }
 
 -- one list after the other
+-- no slot is asked for
+pub lowest_nil : (n : ℕ) (s : List ℕ) → Lowest n s s []
+lowest_nil n s = record { long = refl; lowest = λ us h l. refl; shown = λ us h l. h }
+
 module _ (n : ℕ) (s s₁ s₂ ks js : List ℕ) (x : Lowest n s s₁ ks) (y : Lowest n s₁ s₂ js) where
   order : (us : List ℕ) (k : ℕ) → tally k (js ++ (ks ++ us)) ≡ tally k ((ks ++ js) ++ us)
   order us k =
@@ -197,6 +201,10 @@ lowest_next n s s₁ s₂ c i r w x y =
     subst (Lowest n s s₂) (sym (ap (λ (m : ℕ). take m (set c i r)) (add-one i) ∙ take-suc-set c i r w)) (lowest_then n s s₁ s₂ (take i c) (r ∷ []) x y)
 
 -- ---- given back
+
+-- no slot is given back
+pub gave_nil : (s : List ℕ) → Gave s s []
+gave_nil s = record { long = refl; shown = λ n us h. h }
 
 pub gave_one : (s s' : List ℕ) (k : ℕ) → Given s s' k (k + 1) → Gave s s' (k ∷ [])
 gave_one s s' k d = record { long = d.long; shown = λ n us h. shows_give s s' n k 1 (units (k ∷ us)) (units us) (λ t u. refl) h d }

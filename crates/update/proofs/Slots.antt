@@ -146,6 +146,10 @@ put_part t p k a x =
 
 -- ---- where it begins to be written
 
+-- the first member of any chain
+pub reached_first : (t ks : List ℕ) (lo : ℕ) → Reached t ks lo 0 0
+reached_first t ks lo = record { none = λ _. refl; inside = λ u. absurd (omega arith); start = λ u. absurd (omega arith); low = λ u. absurd (omega arith) }
+
 pub reached_next : (t c rec : List ℕ) (lo i start : ℕ) → 1 ≤ i → i < length c → rec ≡ slot_bytes t (get_or c i 0) → start ≡ get2 rec 4 → start ≤ lo → Reached t c lo i start
 reached_next t c rec lo i start p u er es v =
     record {

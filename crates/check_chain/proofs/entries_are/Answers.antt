@@ -2,7 +2,6 @@ use lib.ListN.{drop, length, length-drop, length-take}
 use Rattle.model.specs.Model.{run}
 use Rattle.rules.specs.Layout.{entry}
 use Rattle.rows.specs.Words.{all_are}
-use Rattle.rows.proofs.Rows.{from_place}
 use Rattle.bitmap.proofs.Walk.{behind_label}
 use mathlib.Core.Path.{◌≡◌, subst, sym, ap, ◌∙◌}
 use native.Mathlib.Omega.{arith}
@@ -20,9 +19,9 @@ returns-then-free-n c =
     let a = c.args in
     let x = a.x.now in
     let i = c.loop-p.invariant in
-    let ok : c.all_are.result ≡ all_are 0 (drop (5 * i.0) x) = (rw (from_place x c.loop-p.p) at c.all_are.ensures) ∙ ap (λ (k : ℕ). all_are 0 (drop k x)) i.1 in
+    let ok : c.none_from.result ≡ all_are 0 (drop (5 * i.0) x) = c.none_from.ensures ∙ ap (λ (k : ℕ). all_are 0 (drop k x)) i.1 in
     rw c.then_some.ensures
-    (going_ends (geometry_of a.g) a.free_tracks.now a.n a.at (length x / 5) x i.0 c.loop-p.t c.run_ahead-free.result.from c.run_ahead-free.result.to c.all_are.result i.2 (omega (arith, c.requires.0)) i.3 c.run_ahead-free.ensures.0 c.if-free-n.true ok)
+    (going_ends (geometry_of a.g) a.free_tracks.now a.n a.at (length x / 5) x i.0 c.loop-p.t c.run_ahead-free.result.from c.run_ahead-free.result.to c.none_from.result i.2 (omega (arith, c.requires.0)) i.3 c.run_ahead-free.ensures.0 c.if-free-n.true ok)
 
 pub is_entry-requires : goal.is_entry-requires
 is_entry-requires c =
