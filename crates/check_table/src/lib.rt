@@ -71,7 +71,9 @@ fn look(
 }
 
 // Tests all labels and takes them out of the maps, and tests that their names differ. One pass does both: a second one would ask
-// of each slot again whether it has a label, which a processor cannot foresee. Slot 0 has none.
+// of each slot again whether it has a label, which a processor cannot foresee. Slot 0 has none. Not inlined: what the rest of the check
+// keeps in registers would take them from the loop.
+#[inline(never)]
 pub fn take_labels(
     table: &[u8],
     g: Geometry,

@@ -2,7 +2,8 @@
 // addresses. Places of bytes have IBM's names.
 #![tactic(auto)]
 
-ghost use Rattle.std.specs.Prelude.{◌≡◌, false, ◌&&◌, ◌+◌, ◌-◌, ◌*◌, ◌≤◌, ◌<◌, min, leb, length};
+ghost use Rattle.std.specs.Prelude.{◌≡◌, false, ◌&&◌, ◌+◌, ◌-◌, ◌*◌, ◌≤◌, ◌<◌, min, leb, get_or, length};
+ghost use Rattle.model.specs.Basics.{get3};
 ghost use Rattle.model.specs.Model.{slots, tracks};
 ghost use Rattle.rules.specs.Reading.{read_geometry, track_at};
 ghost use Rattle.rules.specs.Table.{good_unit, limits};
@@ -153,11 +154,13 @@ pub fn link(rec: &[u8], g: Geometry) -> usize
 // ---- format 1
 
 // Whether the unit and the secondary amount (DS1SCALO) go together. One test for tracks and cylinders (X'80', X'C0'): which of the
-// two a data set has cannot be predicted.
-fn unit_ok(unit: u8, secondary: u32) -> bool
-    ensures { result ≡ good_unit unit secondary }
+// two a data set has cannot be predicted. And one for the unit X'00', with which the secondary amount is 0: all four bytes are zeros.
+fn unit_ok(rec: &[u8]) -> bool
+    requires { length rec.now ≡ 140 }
+    ensures { result ≡ good_unit (get_or rec.now 94 0) (get3 rec.now 95) }
 {
-    unit & 0xBF == 0x80 || unit == 0x00 && secondary == 0
+    let unit = rec[DS1SCALO];
+    unit & 0xBF == 0x80 || rows::word4(rec, DS1SCALO) == 0
 }
 
 // Whether a format 1 holds what it must beside its id, its extents and its link: a name (DS1DSNAM), 1 to 16 extents
@@ -168,10 +171,7 @@ pub fn one_ok(rec: &[u8]) -> bool
     ensures { result ≡ one_ok rec.now }
 {
     let n = rec[DS1NOEPV];
-    1 <= n
-        && n <= 16
-        && unit_ok(rec[DS1SCALO], rows::three(rec, SECONDARY))
-        && ebcdic::name_ok(&rec[0..DS1FMTID])
+    1 <= n && n <= 16 && unit_ok(rec) && ebcdic::name_ok(&rec[0..DS1FMTID])
 }
 
 // ---- format 3

@@ -132,11 +132,11 @@ module _ {n : ℕ} {s : List ℕ} {a b : ℕ} (x : NextRun s n 0 a b) where
           shown = λ us h l. took_yes n a 1 s s' r t (taken_true s s' a (a + 1) r all_free_lem t) (units us) h;
         }
 
--- one list after the other
 -- no slot is asked for
 pub lowest_nil : (n : ℕ) (s : List ℕ) → Lowest n s s []
 lowest_nil n s = record { long = refl; lowest = λ us h l. refl; shown = λ us h l. h }
 
+-- one list after the other
 module _ (n : ℕ) (s s₁ s₂ ks js : List ℕ) (x : Lowest n s s₁ ks) (y : Lowest n s₁ s₂ js) where
   order : (us : List ℕ) (k : ℕ) → tally k (js ++ (ks ++ us)) ≡ tally k ((ks ++ js) ++ us)
   order us k =
